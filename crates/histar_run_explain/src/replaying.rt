@@ -103,8 +103,9 @@ pub(crate) fn explain_entries<S: LabelStore + Drop, V: Wording>(
     ensures ends { OnOk result (EndsAsRun (state kernel.old)
         (drop entries.entry.from entries.entry.trace.now.entries) (state kernel.new)) }
 {
-    for at in entries.from..entries.trace.len() {
-        let entry = entries.trace.entry(alloc, at)?;
+    let count = entries.trace.len().saturating_sub(entries.from);
+    for behind in 0..count {
+        let entry = entries.trace.entry(alloc, entries.from + behind)?;
         explain_outcome(alloc, kernel, words, text, &entry)?;
         replay(alloc, kernel, &entry)?;
     }

@@ -15,6 +15,10 @@ use histar_rules::{HandedLabel, RawCall, Refusal};
 use std::alloc::{AllocError, Global};
 use std::marker::Model;
 
+/// The number of entries for which a trace has room from the start. Memory that holds no entry yet isn't touched,
+/// and the entries of most sessions are never moved to a larger place.
+const FIRST_ROOM: usize = 65_536;
+
 /// The raw calls of a kernel, in their order. It changes in two steps: a call is stored before it is decided,
 /// with room for its entry, and its entry is recorded afterwards with its outcome. Where memory runs out the
 /// entries are as they were.
@@ -51,7 +55,7 @@ impl Trace {
         ensures { IfOk result (λ trace. trace.entries ≡ []) }
     {
         Ok(Trace {
-            entries: Vec::new(alloc),
+            entries: Vec::with_capacity(alloc, FIRST_ROOM)?,
             labels: TraceLabels::new(alloc)?,
             bytes: Vec::new(alloc),
         })

@@ -23,40 +23,44 @@ pub returns-in-MakeSegment : goal.returns-in-MakeSegment
 returns-in-MakeSegment g c =
     let t : Turn = record { old = c.args.objects.now; new = c.make_segment.new.objects; thread = c.args.thread; call = (MakeSegment c.in-MakeSegment.container c.in-MakeSegment.label c.in-MakeSegment.bytes) } in
     rw c.in-MakeSegment.is (as_value t (IsNextNumber c.args.objects.now) answers.Object (λ n is. record { answer = n; determined = is.0; is_value = refl })
-    c.make_segment.result c.made.result c.make_segment.ensures c.made.ensures)
+    c.make_segment.result c.made.result (rw c.into_label-label.ensures at c.make_segment.ensures) c.made.ensures)
 
 pub returns-in-MakeContainer : goal.returns-in-MakeContainer
 returns-in-MakeContainer g c =
     let t : Turn = record { old = c.args.objects.now; new = c.make_container.new.objects; thread = c.args.thread; call = (MakeContainer c.in-MakeContainer.container c.in-MakeContainer.label) } in
     rw c.in-MakeContainer.is (as_value t (IsNextNumber c.args.objects.now) answers.Object (λ n is. record { answer = n; determined = is.0; is_value = refl })
-    c.make_container.result c.made-in-MakeContainer.result c.make_container.ensures c.made-in-MakeContainer.ensures)
+    c.make_container.result c.made-in-MakeContainer.result (rw c.into_label-label-in-MakeContainer.ensures at c.make_container.ensures)
+    c.made-in-MakeContainer.ensures)
 
 pub returns-in-MakeThread : goal.returns-in-MakeThread
 returns-in-MakeThread g c =
     let t : Turn = record { old = c.args.objects.now; new = c.make_thread.new.objects; thread = c.args.thread; call = (MakeThread c.in-MakeThread.container c.in-MakeThread.label c.in-MakeThread.clearance) } in
     rw c.in-MakeThread.is (as_value t (IsNextNumber c.args.objects.now) answers.Object (λ n is. record { answer = n; determined = is.0; is_value = refl })
-    c.make_thread.result c.made-in-MakeThread.result c.make_thread.ensures c.made-in-MakeThread.ensures)
+    c.make_thread.result c.made-in-MakeThread.result
+    (rw (c.into_label-label-in-MakeThread.ensures, c.into_label-clearance.ensures) at c.make_thread.ensures) c.made-in-MakeThread.ensures)
 
 pub returns-in-MakeGate : goal.returns-in-MakeGate
 returns-in-MakeGate g c =
     let t : Turn = record { old = c.args.objects.now; new = c.make_gate.new.objects; thread = c.args.thread; call = (MakeGate c.in-MakeGate.container c.in-MakeGate.label c.in-MakeGate.clearance c.in-MakeGate.entry) } in
     rw c.in-MakeGate.is (as_value t (IsNextNumber c.args.objects.now) answers.Object (λ n is. record { answer = n; determined = is.0; is_value = refl })
-    c.make_gate.result c.made-in-MakeGate.result c.make_gate.ensures c.made-in-MakeGate.ensures)
+    c.make_gate.result c.made-in-MakeGate.result
+    (rw (c.into_label-label-in-MakeGate.ensures, c.into_label-clearance-in-MakeGate.ensures) at c.make_gate.ensures) c.made-in-MakeGate.ensures)
 
 pub returns-in-Enter : goal.returns-in-Enter
 returns-in-Enter g c =
     let t : Turn = record { old = c.args.objects.now; new = c.enter.new.objects; thread = c.args.thread; call = (Enter c.in-Enter.container c.in-Enter.gate c.in-Enter.wanted c.in-Enter.clearance c.in-Enter.verify) } in
     rw c.in-Enter.is (as_value t (IsEntryOf c.args.objects.now c.in-Enter.gate) answers.Entry (λ entry is. record { answer = entry; determined = is; is_value = refl })
-    c.enter.result c.entry.result c.enter.ensures c.entry.ensures)
+    c.enter.result c.entry.result
+    (rw (c.label-in-Enter.ensures, c.label-in-Enter-2.ensures, c.label-in-Enter-3.ensures) at c.enter.ensures) c.entry.ensures)
 
 pub returns-in-Read : goal.returns-in-Read
 returns-in-Read g c =
     let t : Turn = record { old = c.args.objects.now; new = c.read.new.objects; thread = c.args.thread; call = (Read c.in-Read.container c.in-Read.segment) } in
     rw c.in-Read.is (as_value t (AreBytesOf c.args.objects.now c.in-Read.segment) answers.Bytes (λ bytes is. record { answer = bytes; determined = is; is_value = refl })
-    c.read.result c.bytes.result c.read.ensures c.bytes.ensures)
+    c.read.result c.bytes-in-Read.result c.read.ensures c.bytes-in-Read.ensures)
 
 pub returns-in-LabelOf : goal.returns-in-LabelOf
 returns-in-LabelOf g c =
     let t : Turn = record { old = c.args.objects.now; new = c.label_of.new.objects; thread = c.args.thread; call = (LabelOf c.in-LabelOf.container c.in-LabelOf.object) } in
     rw c.in-LabelOf.is (as_value t (IsLabelOf c.args.objects.now c.in-LabelOf.object) answers.Label (λ label is. record { answer = label; determined = is; is_value = refl })
-    c.label_of.result c.label.result c.label_of.ensures c.label.ensures)
+    c.label_of.result c.label-in-LabelOf.result c.label_of.ensures c.label-in-LabelOf.ensures)
