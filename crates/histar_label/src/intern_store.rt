@@ -1,13 +1,12 @@
 //! A store that keeps each label once, and remembers answers of comparisons.
-ghost use Rattle.std.specs.Prelude.{◌≡◌, ◌+◌, ◌<◌, ◌⊎◌, ◌&&◌, if◌then◌else◌, nat_lt, ℕ, Bool, Some, IfOk, IfSome, OnErr};
+ghost use Rattle.std.specs.Prelude.{◌≡◌, ◌<◌, ◌⊎◌, ◌&&◌, if◌then◌else◌, nat_lt, ℕ, Bool, Some, IfOk, IfSome, OnErr};
 ghost use Rattle.std.specs.Prelude.{[], length, slice_get, slice_set, Contains, Ok, None, All};
 ghost use Rattle.std.specs.Option.{option_copied};
-ghost use Rattle.histar_label.specs.Levels.{exceptions_of};
-ghost use Rattle.histar_label.specs.Store.{Keeps, HasOneId, label_at};
+ghost use Rattle.histar_label.specs.Store.{Keeps, HasOneId};
 ghost use Rattle.histar_label.specs.InternStore.{answer_of};
-ghost use Rattle.histar_label.specs.declared.intern_store.Comparison.{Comparison};
+ghost use Rattle.histar_label.specs.declared.comparisons.Comparison.{Comparison};
 
-use crate::levels::Raising;
+use crate::comparisons::{Comparison, Question};
 use crate::{Label, LabelStore, OutOfMemory};
 use indexmap::IndexSet;
 use lru::LruCache;
@@ -17,7 +16,7 @@ use std::num::NonZeroUsize;
 
 /// The Id of a label in an [`InternStore`]: the number of labels that were put before it.
 #[derive(Clone, Copy, Debug, PartialEq, Eq, Hash)]
-pub struct InternId(usize);
+pub struct InternId(pub(crate) usize);
 
 impl Model for InternId {
     ghost use Rattle.std.specs.Prelude.{ℕ};
@@ -30,33 +29,14 @@ impl Model for InternId {
 }
 
 /// The number of answers that have a place at hand: a power of two.
-const AT_HAND: usize = 1024;
+pub(crate) const AT_HAND: usize = 1024;
 
 /// The greatest number of exceptions of two labels together with which a comparison takes less time than
 /// looking up its answer.
-const FEW_EXCEPTIONS: usize = 12;
-
-/// An odd number whose multiples spread over all places: 2^64 by the golden ratio.
-const SPREAD: usize = 0x9e37_79b9_7f4a_7c15;
-
-/// A comparison of two labels, in this order.
-#[derive(Clone, Copy, Debug, PartialEq, Eq, Hash)]
-struct Comparison {
-    reading: Raising,
-    lower: InternId,
-    upper: InternId,
-}
-
-impl Comparison {
-    // Returns the place at hand of its answer. Another comparison may have the same place.
-    fn place(self) -> usize {
-        let spread = self.lower.0.wrapping_mul(SPREAD).wrapping_add(self.upper.0);
-        (spread.wrapping_mul(SPREAD) / (usize::MAX / AT_HAND + 1)) ^ (self.reading as usize)
-    }
-}
+pub(crate) const FEW_EXCEPTIONS: usize = 12;
 
 /// Keeps each label once, so that equal labels have one Id, and remembers the answers of the latest
-/// comparisons of two labels. It forgets no label, so it grows with each new one; its weight says when to
+/// comparisons of labels. It forgets no label, so it grows with each new one; its weight says when to
 /// move to a new store.
 ///
 /// Each comparison has a place at hand for its answer, which it shares with others, and the latest answer is
@@ -110,14 +90,15 @@ impl InternStore {
     }
 
     // Answers a comparison, from its place at hand if the answer is there. A label is below itself, however
-    // star is read.
+    // star is read, and so below its join with any other.
     fn answer(&mut self, comparison: Comparison) -> bool
-        requires lower_stands { comparison.lower < length self.old }
-        requires upper_stands { comparison.upper < length self.old }
+        requires own { comparison.own < length self.old }
+        requires first { comparison.first < length self.old }
+        requires second { comparison.second < length self.old }
         ensures answer { result ≡ answer_of self.old comparison }
         ensures unchanged { self.new ≡ self.old }
     {
-        if comparison.lower == comparison.upper {
+        if comparison.own == comparison.first && comparison.question != Question::Floor {
             return true;
         }
         let place = comparison.place();
@@ -132,18 +113,19 @@ impl InternStore {
     // Answers a comparison: compares anew where the labels have few exceptions, and otherwise looks up the
     // remembered answer, or compares anew and remembers the answer.
     fn compare_or_recall(&mut self, comparison: Comparison) -> bool
-        requires lower_stands { comparison.lower < length self.old }
-        requires upper_stands { comparison.upper < length self.old }
+        requires own { comparison.own < length self.old }
+        requires first { comparison.first < length self.old }
+        requires second { comparison.second < length self.old }
         ensures answer { result ≡ answer_of self.old comparison }
         ensures unchanged { self.new ≡ self.old }
     {
-        if exceptions_of_both(&self.labels, &comparison) <= FEW_EXCEPTIONS {
-            return compare(&self.labels, comparison);
+        if comparison.is_quick(&self.labels) {
+            return comparison.answer(&self.labels);
         }
         if let Some(answer) = recall(&mut self.answers, comparison) {
             return answer;
         }
-        let answer = compare(&self.labels, comparison);
+        let answer = comparison.answer(&self.labels);
         remember(&mut self.answers, comparison, answer);
         answer
     }
@@ -190,18 +172,37 @@ impl LabelStore for InternStore {
     }
 
     fn below(&mut self, lower: InternId, upper: InternId) -> bool {
-        self.answer(Comparison {
-            reading: Raising::Plain,
-            lower,
-            upper,
-        })
+        self.answer(Comparison::of_two(Question::Plain, lower, upper))
     }
 
     fn below_raised(&mut self, lower: InternId, upper: InternId) -> bool {
+        self.answer(Comparison::of_two(Question::Raised, lower, upper))
+    }
+
+    fn below_join(&mut self, lower: InternId, first: InternId, second: InternId) -> bool {
         self.answer(Comparison {
-            reading: Raising::Raised,
-            lower,
-            upper,
+            question: Question::Plain,
+            own: lower,
+            first,
+            second,
+        })
+    }
+
+    fn below_join_raised(&mut self, lower: InternId, first: InternId, second: InternId) -> bool {
+        self.answer(Comparison {
+            question: Question::Raised,
+            own: lower,
+            first,
+            second,
+        })
+    }
+
+    fn floor_below(&mut self, first: InternId, second: InternId, upper: InternId) -> bool {
+        self.answer(Comparison {
+            question: Question::Floor,
+            own: first,
+            first: upper,
+            second,
         })
     }
 }
@@ -216,32 +217,6 @@ fn weight_of(exceptions: usize, is_new: bool) -> usize
     } else {
         0
     }
-}
-
-// Compares the labels.
-fn compare(labels: &IndexSet<Label>, comparison: Comparison) -> bool
-    requires lower_stands { comparison.lower < length labels.now.keys }
-    requires upper_stands { comparison.upper < length labels.now.keys }
-    ensures { result ≡ answer_of labels.now.keys comparison }
-{
-    let lower = labels.get_index(comparison.lower.0).unwrap();
-    let upper = labels.get_index(comparison.upper.0).unwrap();
-    match comparison.reading {
-        Raising::Plain => lower.below(upper),
-        Raising::Raised => lower.below_raised(upper),
-    }
-}
-
-// Counts the exceptions of both labels of a comparison.
-fn exceptions_of_both(labels: &IndexSet<Label>, comparison: &Comparison) -> usize
-    requires lower_stands { comparison.now.lower < length labels.now.keys }
-    requires upper_stands { comparison.now.upper < length labels.now.keys }
-    ensures { result ≡ length (exceptions_of (label_at (slice_get labels.now.keys) comparison.now.lower))
-        + length (exceptions_of (label_at (slice_get labels.now.keys) comparison.now.upper)) }
-{
-    let lower = labels.get_index(comparison.lower.0).unwrap();
-    let upper = labels.get_index(comparison.upper.0).unwrap();
-    lower.exceptions().len() + upper.exceptions().len()
 }
 
 // Makes the places at hand, without answers.

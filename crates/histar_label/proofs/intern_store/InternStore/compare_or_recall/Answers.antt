@@ -14,7 +14,12 @@ invariant_of-self-2 c = record {
   one_id = c.self.invariant.one_id;
   right = λ e there. elim (c.remember.ensures e there) [
     | inl was ↦ c.self.invariant.right e (c.recall.ensures.kept e was)
-    | inr new ↦ rw new (record { lower_stands = search rules; upper_stands = search rules; right = c.compare-answer.ensures })
+    | inr new ↦ rw new (record { own = search rules; first = search rules; second = search rules; right = c.answer-answer.ensures })
   ];
   right_at_hand = c.self.invariant.right_at_hand;
 }
+
+pub returns-in-Some-clause-answer : goal.returns-in-Some-clause-answer
+returns-in-Some-clause-answer c =
+    let right = c.self.invariant.right (c.args.comparison, c.in-Some.answer) c.in-Some.ensures.found in
+    rw (← c.self.view_is) right.right
