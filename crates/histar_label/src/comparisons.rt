@@ -1,5 +1,5 @@
 //! Comparisons of labels that a store remembers.
-ghost use Rattle.std.specs.Prelude.{◌≡◌, ◌<◌, length};
+ghost use Rattle.std.specs.Prelude.{◌≡◌, ◌<◌, IfSome, length};
 ghost use Rattle.histar_label.specs.Levels.{is_within};
 ghost use Rattle.histar_label.specs.InternStore.{answer_of, test_of};
 
@@ -35,6 +35,7 @@ impl Question {
     }
 
     // Answers the question of a label and of another one, which is asked for twice.
+    #[inline(always)]
     fn of_two(self, own: &Label, other: &Label) -> bool
         ensures { result ≡ is_within own.now other.now other.now (test_of self) }
     {
@@ -91,14 +92,24 @@ impl Comparison {
         own.within(first, second, self.question.test())
     }
 
-    /// Checks whether comparing the labels takes less time than looking up a remembered answer: the first two
-    /// have few exceptions.
-    pub(crate) fn is_quick(&self, labels: &IndexSet<Label>) -> bool
+    /// Compares labels if the first two have few exceptions: that takes less time than looking up a remembered
+    /// answer.
+    #[inline(always)]
+    pub(crate) fn quick_answer(&self, labels: &IndexSet<Label>) -> Option<bool>
         requires own { self.now.own < length labels.now.keys }
         requires first { self.now.first < length labels.now.keys }
+        requires second { self.now.second < length labels.now.keys }
+        ensures { IfSome result (λ answer. answer ≡ answer_of labels.now.keys self.now) }
     {
         let own = labels.get_index(self.own.0).unwrap();
         let first = labels.get_index(self.first.0).unwrap();
-        own.exceptions().len() + first.exceptions().len() <= FEW_EXCEPTIONS
+        if own.exceptions().len() + first.exceptions().len() > FEW_EXCEPTIONS {
+            return None;
+        }
+        if self.first == self.second {
+            return Some(self.question.of_two(own, first));
+        }
+        let second = labels.get_index(self.second.0).unwrap();
+        Some(own.within(first, second, self.question.test()))
     }
 }

@@ -51,6 +51,8 @@ pub struct InternStore {
     weight: usize,
     answers: LruCache<Comparison, bool>,
     at_hand: Vec<Option<(Comparison, bool)>>,
+    // The places of labels that were put, each at the place at hand of the label.
+    labels_at_hand: Vec<usize>,
 }
 
 impl Model for InternStore {
@@ -86,6 +88,7 @@ impl InternStore {
             weight: 0,
             answers: LruCache::new(alloc, cache)?,
             at_hand: no_answers(alloc)?,
+            labels_at_hand: no_labels(alloc)?,
         })
     }
 
@@ -110,6 +113,15 @@ impl InternStore {
         answer
     }
 
+    // Returns the Id of a label, if it is the one that was put last at its place at hand.
+    fn found_at_hand(&self, label: &Label) -> Option<InternId>
+        ensures { IfSome result (λ id. slice_get self.now id ≡ Some label.now) }
+    {
+        let id = InternId(*self.labels_at_hand.get(label.place_among(AT_HAND))?);
+        let kept = self.get(id)?;
+        if kept == label { Some(id) } else { None }
+    }
+
     // Answers a comparison: compares anew where the labels have few exceptions, and otherwise looks up the
     // remembered answer, or compares anew and remembers the answer.
     fn compare_or_recall(&mut self, comparison: Comparison) -> bool
@@ -119,8 +131,8 @@ impl InternStore {
         ensures answer { result ≡ answer_of self.old comparison }
         ensures unchanged { self.new ≡ self.old }
     {
-        if comparison.is_quick(&self.labels) {
-            return comparison.answer(&self.labels);
+        if let Some(quick) = comparison.quick_answer(&self.labels) {
+            return quick;
         }
         if let Some(answer) = recall(&mut self.answers, comparison) {
             return answer;
@@ -145,8 +157,10 @@ impl LabelStore for InternStore {
         ensures known { (id : ℕ) → slice_get self.old id ≡ Some label → result ≡ Ok id }
     {
         let exceptions = label.exceptions().len();
+        let hand = label.place_among(AT_HAND);
         let (place, is_new) = self.labels.insert_full(label)?;
         self.weight = self.weight.saturating_add(weight_of(exceptions, is_new));
+        set_at_hand(&mut self.labels_at_hand, hand, place);
         Ok(InternId(place))
     }
 
@@ -159,6 +173,9 @@ impl LabelStore for InternStore {
     }
 
     fn find(&self, label: &Label) -> Option<InternId> {
+        if let Some(id) = self.found_at_hand(label) {
+            return Some(id);
+        }
         let place = self.labels.get_index_of(label)?;
         Some(InternId(place))
     }
@@ -228,6 +245,22 @@ fn no_answers(alloc: Global) -> Result<Vec<Option<(Comparison, bool)>>, OutOfMem
         places.push(None)?;
     }
     Ok(places)
+}
+
+// Makes the places at hand of labels: the first label is at each of them, if there is one.
+fn no_labels(alloc: Global) -> Result<Vec<usize>, OutOfMemory> {
+    let mut places = Vec::with_capacity(alloc, AT_HAND)?;
+    'places: for _ in 0..AT_HAND {
+        places.push(0)?;
+    }
+    Ok(places)
+}
+
+// Notes the place of a label at its place at hand.
+fn set_at_hand(places: &mut Vec<usize>, hand: usize, place: usize) {
+    if let Some(latest) = places.get_mut(hand) {
+        *latest = place;
+    }
 }
 
 // Returns the answer in a place at hand, if it is that of the comparison.

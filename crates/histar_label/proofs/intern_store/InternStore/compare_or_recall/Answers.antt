@@ -5,7 +5,7 @@ use Rattle.histar_label.proofs.intern_store.InternStore.compare_or_recall.Goals 
 pub invariant_of-self : goal.invariant_of-self
 invariant_of-self c = record {
   one_id = c.self.invariant.one_id;
-  right = λ e there. c.self.invariant.right e (c.in-Some.ensures.kept e there);
+  right = λ e there. c.self.invariant.right e (c.in-Some-recall.ensures.kept e there);
   right_at_hand = c.self.invariant.right_at_hand;
 }
 
@@ -19,7 +19,7 @@ invariant_of-self-2 c = record {
   right_at_hand = c.self.invariant.right_at_hand;
 }
 
-pub returns-in-Some-clause-answer : goal.returns-in-Some-clause-answer
-returns-in-Some-clause-answer c =
-    let right = c.self.invariant.right (c.args.comparison, c.in-Some.answer) c.in-Some.ensures.found in
+pub returns-in-Some-recall-clause-answer : goal.returns-in-Some-recall-clause-answer
+returns-in-Some-recall-clause-answer c =
+    let right = c.self.invariant.right (c.args.comparison, c.in-Some-recall.answer) c.in-Some-recall.ensures.found in
     rw (← c.self.view_is) right.right
