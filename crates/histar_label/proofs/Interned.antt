@@ -6,12 +6,12 @@ use Rattle.std.specs.List.{slice_get, list_any, IsDistinct, AllByRecursion}
 use Rattle.std.proofs.lemmas.Option.{slice_get-get_or}
 use Rattle.indexmap.specs.IndexSet.{insert_key}
 use Rattle.histar_label.specs.declared.levels.Level.TheVariants.{L1}
-use Rattle.histar_label.specs.declared.levels.Raising.{Raising}
-use Rattle.histar_label.specs.declared.levels.Test.TheVariants.{BelowJoin}
-use Rattle.histar_label.specs.declared.intern_store.Comparison.{Comparison}
+use Rattle.histar_label.specs.declared.comparisons.Comparison.{Comparison}
 use Rattle.histar_label.specs.Levels.{Levels, constant, is_within}
 use Rattle.histar_label.specs.Store.{label_at, Keeps, HasOneId}
-use Rattle.histar_label.specs.InternStore.{IsRight}
+use Rattle.histar_label.specs.declared.comparisons.Question.{Question}
+use Rattle.histar_label.specs.declared.comparisons.Question.TheVariants.{Plain, Raised, Floor}
+use Rattle.histar_label.specs.InternStore.{IsRight, test_of}
 use Rattle.histar_label.proofs.Tests.{is_within-law}
 
 -- a label stays at its place when one is added after it
@@ -44,13 +44,14 @@ module _ (eq : Levels → Levels → Bool) (ks : List Levels) (L : Levels) where
   -- so a right answer stays right
   pub IsRight-insert_key : (c : Comparison) (answer : Bool) → IsRight ks c answer → IsRight (insert_key eq ks L) c answer
   IsRight-insert_key c answer right = record {
-    lower_stands = omega (arith, right.lower_stands, longer);
-    upper_stands = omega (arith, right.upper_stands, longer);
+    own = omega (arith, right.own, longer);
+    first = omega (arith, right.first, longer);
+    second = omega (arith, right.second, longer);
     right =
         right.right
         ∙ sym (λ i.
-        is_within (same_label_at c.lower right.lower_stands i) (same_label_at c.upper right.upper_stands i)
-        (same_label_at c.upper right.upper_stands i) (BelowJoin c.reading));
+        is_within (same_label_at c.own right.own i) (same_label_at c.first right.first i)
+        (same_label_at c.second right.second i) (test_of c.question));
   }
 
 module _ (eq : Levels → Levels → Bool) (own : (L : Levels) → eq L L ≡ true) where
@@ -87,6 +88,8 @@ module _ (eq : Levels → Levels → Bool) (own : (L : Levels) → eq L L ≡ tr
     | false ↦ found_by_id ks L i is
   ]
 
--- a label is below itself, however its star is read
-pub is_within-refl : (L : Levels) (reading : Raising) → is_within L L L (BelowJoin reading) ≡ true
-is_within-refl L reading = (is_within-law L L L (BelowJoin reading)).1 (λ c. omega arith)
+-- a label is below its join with any label, however the star of that one is read
+pub is_below_own_join : (L S : Levels) (q : Question) → (q ≡ Floor → ⊥) → is_within L L S (test_of q) ≡ true
+is_below_own_join L S Plain other = (is_within-law L L S (test_of Plain)).1 (λ c. omega arith)
+is_below_own_join L S Raised other = (is_within-law L L S (test_of Raised)).1 (λ c. omega arith)
+is_below_own_join L S Floor other = absurd (other refl)

@@ -7,23 +7,26 @@ use Rattle.std.proofs.lemmas.Bool.Decides.{nat_tests}
 use Rattle.std.specs.Map.{lookup}
 use Rattle.lru.specs.LruCache.{LruCache, lru_cache, put_entries}
 use Rattle.lru.proofs.CallerLemmas.{Contains-put_entries, Contains-lookup}
-use Rattle.histar_label.specs.contracts.levels.Raising.{the_type}
-use Rattle.histar_label.specs.declared.intern_store.Comparison.{Comparison}
+use Rattle.histar_label.specs.contracts.comparisons.Question.{the_type}
+use Rattle.histar_label.specs.declared.comparisons.Comparison.{Comparison}
 use Rattle.histar_label.specs.Same.{both_true}
 
 -- the test of two comparisons that `derive` makes
 abbrev pub is_same_comparison : Comparison → Comparison → Bool
-is_same_comparison c d = sameb the_type c.reading d.reading && ((c.lower == d.lower) && (c.upper == d.upper))
+is_same_comparison c d =
+    sameb the_type c.question d.question && ((c.own == d.own) && ((c.first == d.first) && (c.second == d.second)))
 
 -- comparisons that pass the test are equal
 pub same_comparison : (c d : Comparison) → is_same_comparison c d ≡ true → d ≡ c
 same_comparison c d h =
-    let first = both_true (sameb the_type c.reading d.reading) _ h in
-    let second = both_true (c.lower == d.lower) (c.upper == d.upper) first.1 in
-    let reading : c.reading ≡ d.reading = same_true the_type (search rules) c.reading d.reading first.0 in
-    let lower : c.lower ≡ d.lower = grind (arith, nat_tests) in
-    let upper : c.upper ≡ d.upper = grind (arith, nat_tests) in
-    sym (λ i. record { reading = reading i; lower = lower i; upper = upper i })
+    let one = both_true (sameb the_type c.question d.question) _ h in
+    let two = both_true (c.own == d.own) _ one.1 in
+    let three = both_true (c.first == d.first) (c.second == d.second) two.1 in
+    let question : c.question ≡ d.question = same_true the_type (search rules) c.question d.question one.0 in
+    let own : c.own ≡ d.own = grind (arith, nat_tests) in
+    let first : c.first ≡ d.first = grind (arith, nat_tests) in
+    let second : c.second ≡ d.second = grind (arith, nat_tests) in
+    sym (λ i. record { question = question i; own = own i; first = first i; second = second i })
 
 -- an answer that is remembered after a put was remembered before, or is the one that was put
 answer_put : (c : LruCache Comparison Bool) (q : Comparison) (b : Bool) (e : Comparison × Bool)

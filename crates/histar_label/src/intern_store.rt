@@ -1,13 +1,12 @@
 //! A store that keeps each label once, and remembers answers of comparisons.
-ghost use Rattle.std.specs.Prelude.{◌≡◌, ◌+◌, ◌<◌, ◌⊎◌, ◌&&◌, if◌then◌else◌, nat_lt, ℕ, Bool, Some, IfOk, IfSome, OnErr};
+ghost use Rattle.std.specs.Prelude.{◌≡◌, ◌<◌, ◌⊎◌, ◌&&◌, if◌then◌else◌, nat_lt, ℕ, Bool, Some, IfOk, IfSome, OnErr};
 ghost use Rattle.std.specs.Prelude.{[], length, slice_get, slice_set, Contains, Ok, None, All};
 ghost use Rattle.std.specs.Option.{option_copied};
-ghost use Rattle.histar_label.specs.Levels.{exceptions_of};
-ghost use Rattle.histar_label.specs.Store.{Keeps, HasOneId, label_at};
+ghost use Rattle.histar_label.specs.Store.{Keeps, HasOneId};
 ghost use Rattle.histar_label.specs.InternStore.{answer_of};
-ghost use Rattle.histar_label.specs.declared.intern_store.Comparison.{Comparison};
+ghost use Rattle.histar_label.specs.declared.comparisons.Comparison.{Comparison};
 
-use crate::levels::Raising;
+use crate::comparisons::{Comparison, Question};
 use crate::{Label, LabelStore, OutOfMemory};
 use indexmap::IndexSet;
 use lru::LruCache;
@@ -17,7 +16,7 @@ use std::num::NonZeroUsize;
 
 /// The Id of a label in an [`InternStore`]: the number of labels that were put before it.
 #[derive(Clone, Copy, Debug, PartialEq, Eq, Hash)]
-pub struct InternId(usize);
+pub struct InternId(pub(crate) usize);
 
 impl Model for InternId {
     ghost use Rattle.std.specs.Prelude.{ℕ};
@@ -30,33 +29,14 @@ impl Model for InternId {
 }
 
 /// The number of answers that have a place at hand: a power of two.
-const AT_HAND: usize = 1024;
+pub(crate) const AT_HAND: usize = 1024;
 
 /// The greatest number of exceptions of two labels together with which a comparison takes less time than
 /// looking up its answer.
-const FEW_EXCEPTIONS: usize = 12;
-
-/// An odd number whose multiples spread over all places: 2^64 by the golden ratio.
-const SPREAD: usize = 0x9e37_79b9_7f4a_7c15;
-
-/// A comparison of two labels, in this order.
-#[derive(Clone, Copy, Debug, PartialEq, Eq, Hash)]
-struct Comparison {
-    reading: Raising,
-    lower: InternId,
-    upper: InternId,
-}
-
-impl Comparison {
-    // Returns the place at hand of its answer. Another comparison may have the same place.
-    fn place(self) -> usize {
-        let spread = self.lower.0.wrapping_mul(SPREAD).wrapping_add(self.upper.0);
-        (spread.wrapping_mul(SPREAD) / (usize::MAX / AT_HAND + 1)) ^ (self.reading as usize)
-    }
-}
+pub(crate) const FEW_EXCEPTIONS: usize = 12;
 
 /// Keeps each label once, so that equal labels have one Id, and remembers the answers of the latest
-/// comparisons of two labels. It forgets no label, so it grows with each new one; its weight says when to
+/// comparisons of labels. It forgets no label, so it grows with each new one; its weight says when to
 /// move to a new store.
 ///
 /// Each comparison has a place at hand for its answer, which it shares with others, and the latest answer is
@@ -71,6 +51,8 @@ pub struct InternStore {
     weight: usize,
     answers: LruCache<Comparison, bool>,
     at_hand: Vec<Option<(Comparison, bool)>>,
+    // The places of labels that were put, each at the place at hand of the label.
+    labels_at_hand: Vec<usize>,
 }
 
 impl Model for InternStore {
@@ -106,18 +88,20 @@ impl InternStore {
             weight: 0,
             answers: LruCache::new(alloc, cache)?,
             at_hand: no_answers(alloc)?,
+            labels_at_hand: no_labels(alloc)?,
         })
     }
 
     // Answers a comparison, from its place at hand if the answer is there. A label is below itself, however
-    // star is read.
+    // star is read, and so below its join with any other.
     fn answer(&mut self, comparison: Comparison) -> bool
-        requires lower_stands { comparison.lower < length self.old }
-        requires upper_stands { comparison.upper < length self.old }
+        requires own { comparison.own < length self.old }
+        requires first { comparison.first < length self.old }
+        requires second { comparison.second < length self.old }
         ensures answer { result ≡ answer_of self.old comparison }
         ensures unchanged { self.new ≡ self.old }
     {
-        if comparison.lower == comparison.upper {
+        if comparison.own == comparison.first && comparison.question != Question::Floor {
             return true;
         }
         let place = comparison.place();
@@ -129,21 +113,31 @@ impl InternStore {
         answer
     }
 
+    // Returns the Id of a label, if it is the one that was put last at its place at hand.
+    fn found_at_hand(&self, label: &Label) -> Option<InternId>
+        ensures { IfSome result (λ id. slice_get self.now id ≡ Some label.now) }
+    {
+        let id = InternId(*self.labels_at_hand.get(label.place_among(AT_HAND))?);
+        let kept = self.get(id)?;
+        if kept == label { Some(id) } else { None }
+    }
+
     // Answers a comparison: compares anew where the labels have few exceptions, and otherwise looks up the
     // remembered answer, or compares anew and remembers the answer.
     fn compare_or_recall(&mut self, comparison: Comparison) -> bool
-        requires lower_stands { comparison.lower < length self.old }
-        requires upper_stands { comparison.upper < length self.old }
+        requires own { comparison.own < length self.old }
+        requires first { comparison.first < length self.old }
+        requires second { comparison.second < length self.old }
         ensures answer { result ≡ answer_of self.old comparison }
         ensures unchanged { self.new ≡ self.old }
     {
-        if exceptions_of_both(&self.labels, &comparison) <= FEW_EXCEPTIONS {
-            return compare(&self.labels, comparison);
+        if let Some(quick) = comparison.quick_answer(&self.labels) {
+            return quick;
         }
         if let Some(answer) = recall(&mut self.answers, comparison) {
             return answer;
         }
-        let answer = compare(&self.labels, comparison);
+        let answer = comparison.answer(&self.labels);
         remember(&mut self.answers, comparison, answer);
         answer
     }
@@ -163,8 +157,10 @@ impl LabelStore for InternStore {
         ensures known { (id : ℕ) → slice_get self.old id ≡ Some label → result ≡ Ok id }
     {
         let exceptions = label.exceptions().len();
+        let hand = label.place_among(AT_HAND);
         let (place, is_new) = self.labels.insert_full(label)?;
         self.weight = self.weight.saturating_add(weight_of(exceptions, is_new));
+        set_at_hand(&mut self.labels_at_hand, hand, place);
         Ok(InternId(place))
     }
 
@@ -177,6 +173,9 @@ impl LabelStore for InternStore {
     }
 
     fn find(&self, label: &Label) -> Option<InternId> {
+        if let Some(id) = self.found_at_hand(label) {
+            return Some(id);
+        }
         let place = self.labels.get_index_of(label)?;
         Some(InternId(place))
     }
@@ -190,18 +189,37 @@ impl LabelStore for InternStore {
     }
 
     fn below(&mut self, lower: InternId, upper: InternId) -> bool {
-        self.answer(Comparison {
-            reading: Raising::Plain,
-            lower,
-            upper,
-        })
+        self.answer(Comparison::of_two(Question::Plain, lower, upper))
     }
 
     fn below_raised(&mut self, lower: InternId, upper: InternId) -> bool {
+        self.answer(Comparison::of_two(Question::Raised, lower, upper))
+    }
+
+    fn below_join(&mut self, lower: InternId, first: InternId, second: InternId) -> bool {
         self.answer(Comparison {
-            reading: Raising::Raised,
-            lower,
-            upper,
+            question: Question::Plain,
+            own: lower,
+            first,
+            second,
+        })
+    }
+
+    fn below_join_raised(&mut self, lower: InternId, first: InternId, second: InternId) -> bool {
+        self.answer(Comparison {
+            question: Question::Raised,
+            own: lower,
+            first,
+            second,
+        })
+    }
+
+    fn floor_below(&mut self, first: InternId, second: InternId, upper: InternId) -> bool {
+        self.answer(Comparison {
+            question: Question::Floor,
+            own: first,
+            first: upper,
+            second,
         })
     }
 }
@@ -218,32 +236,6 @@ fn weight_of(exceptions: usize, is_new: bool) -> usize
     }
 }
 
-// Compares the labels.
-fn compare(labels: &IndexSet<Label>, comparison: Comparison) -> bool
-    requires lower_stands { comparison.lower < length labels.now.keys }
-    requires upper_stands { comparison.upper < length labels.now.keys }
-    ensures { result ≡ answer_of labels.now.keys comparison }
-{
-    let lower = labels.get_index(comparison.lower.0).unwrap();
-    let upper = labels.get_index(comparison.upper.0).unwrap();
-    match comparison.reading {
-        Raising::Plain => lower.below(upper),
-        Raising::Raised => lower.below_raised(upper),
-    }
-}
-
-// Counts the exceptions of both labels of a comparison.
-fn exceptions_of_both(labels: &IndexSet<Label>, comparison: &Comparison) -> usize
-    requires lower_stands { comparison.now.lower < length labels.now.keys }
-    requires upper_stands { comparison.now.upper < length labels.now.keys }
-    ensures { result ≡ length (exceptions_of (label_at (slice_get labels.now.keys) comparison.now.lower))
-        + length (exceptions_of (label_at (slice_get labels.now.keys) comparison.now.upper)) }
-{
-    let lower = labels.get_index(comparison.lower.0).unwrap();
-    let upper = labels.get_index(comparison.upper.0).unwrap();
-    lower.exceptions().len() + upper.exceptions().len()
-}
-
 // Makes the places at hand, without answers.
 fn no_answers(alloc: Global) -> Result<Vec<Option<(Comparison, bool)>>, OutOfMemory>
     ensures { IfOk result (λ places. All (λ o. o ≡ None) places.items) }
@@ -253,6 +245,22 @@ fn no_answers(alloc: Global) -> Result<Vec<Option<(Comparison, bool)>>, OutOfMem
         places.push(None)?;
     }
     Ok(places)
+}
+
+// Makes the places at hand of labels: the first label is at each of them, if there is one.
+fn no_labels(alloc: Global) -> Result<Vec<usize>, OutOfMemory> {
+    let mut places = Vec::with_capacity(alloc, AT_HAND)?;
+    'places: for _ in 0..AT_HAND {
+        places.push(0)?;
+    }
+    Ok(places)
+}
+
+// Notes the place of a label at its place at hand.
+fn set_at_hand(places: &mut Vec<usize>, hand: usize, place: usize) {
+    if let Some(latest) = places.get_mut(hand) {
+        *latest = place;
+    }
 }
 
 // Returns the answer in a place at hand, if it is that of the comparison.

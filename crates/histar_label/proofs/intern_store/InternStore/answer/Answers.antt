@@ -1,18 +1,22 @@
 -- Proves the goals of `InternStore::answer` of src/intern_store.rt that the search leaves open.
 use Rattle.std.proofs.Common.{◌≡◌, Some, sym, ◌∙◌, arith}
-use Rattle.std.specs.Prelude.{IfSome}
-use Rattle.std.proofs.lemmas.Bool.Decides.{nat_tests}
-use Rattle.std.proofs.lemmas.List.Elements.{All-contains, All-set}
+use mathlib.Core.Bool.{false≢true}
 use Rattle.std.specs.List.{slice_get}
+use Rattle.std.proofs.lemmas.Bool.Decides.{nat_tests}
 use Rattle.histar_label.specs.Store.{label_at}
+use Rattle.histar_label.specs.declared.comparisons.Question.TheVariants.{Floor}
+use Rattle.histar_label.proofs.Interned.{is_below_own_join}
+use Rattle.std.specs.Prelude.{IfSome}
+use Rattle.std.proofs.lemmas.List.Elements.{All-contains, All-set}
 use Rattle.histar_label.specs.InternStore.{IsRight}
-use Rattle.histar_label.proofs.Interned.{is_within-refl}
 use Rattle.histar_label.proofs.intern_store.InternStore.answer.Goals as goal
 
-pub returns-then-eq-clause-answer : goal.returns-then-eq-clause-answer
-returns-then-eq-clause-answer c =
-    let same : c.args.comparison.lower ≡ c.args.comparison.upper = grind (arith, nat_tests, c.eq.ensures, c.if-eq.ensures) in
-    sym (rw same (is_within-refl (label_at (slice_get c.args.self.now) c.args.comparison.upper) c.args.comparison.reading))
+pub returns-then-ne-clause-answer : goal.returns-then-ne-clause-answer
+returns-then-ne-clause-answer c =
+    let same : c.args.comparison.own ≡ c.args.comparison.first = grind (arith, nat_tests, c.eq.ensures, c.if-eq.ensures) in
+    let other : c.args.comparison.question ≡ Floor → ⊥ = λ is. false≢true (sym (rw is at c.if-ne.ensures)) in
+    sym (rw same (is_below_own_join (label_at (slice_get c.args.self.now) c.args.comparison.first)
+    (label_at (slice_get c.args.self.now) c.args.comparison.second) c.args.comparison.question other))
 
 pub returns-in-Some-clause-answer : goal.returns-in-Some-clause-answer
 returns-in-Some-clause-answer c =
@@ -33,8 +37,9 @@ invariant_of-self c =
           All-set (λ o. IfSome o (λ e. IsRight labels e.0 e.1)) c.self-2.inside.at_hand.items c.place-place.result
           (Some (c.args.comparison, c.compare_or_recall-answer.result))
           (rw same (record {
-            lower_stands = c.requires.lower_stands;
-            upper_stands = c.requires.upper_stands;
+            own = c.requires.own;
+            first = c.requires.first;
+            second = c.requires.second;
             right = c.compare_or_recall-answer.ensures.answer;
           }))
           c.self-2.invariant.right_at_hand

@@ -2,7 +2,7 @@
 use Rattle.std.proofs.Common.{◌≡◌, rules, Bool, Option, None, sym, subst}
 use Rattle.std.specs.Prelude.{IfSome}
 use Rattle.std.proofs.lemmas.List.Elements.{All-weaker}
-use Rattle.histar_label.specs.declared.intern_store.Comparison.{Comparison}
+use Rattle.histar_label.specs.declared.comparisons.Comparison.{Comparison}
 use Rattle.histar_label.specs.InternStore.{IsRight}
 use Rattle.histar_label.proofs.intern_store.InternStore.with_cache.Goals as goal
 
