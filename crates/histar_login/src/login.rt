@@ -26,7 +26,9 @@ fn user_labels(caller: &Caller, given: Given) -> Result<(Label, Label), AllocErr
         × (own.1 ≡ user_clearance caller.now given.entry.owners.now)) }
 {
     let Given {
-        label, clearance, ..
+        label,
+        clearance,
+        ..
     } = given;
     let label = with_own(label, Level::Star, caller)?;
     let clearance = with_own(clearance, Level::L3, caller)?;

@@ -2,7 +2,6 @@
 //! them by their Ids.
 ghost use Rattle.std.specs.Prelude.{◌≡◌, IfOk, IsSome, IsTrue, OnOk, OnErr, Some};
 ghost use Rattle.histar_base.specs.Refusals.{unless, ◌orelse◌};
-ghost use Rattle.histar_label.specs.Floors.{floor_of};
 ghost use Rattle.histar_label.specs.Levels.{is_below};
 ghost use Rattle.histar_label.specs.Store.{label_at};
 ghost use Rattle.histar_object.specs.Objects.{objects_of, entry_there, is_gate, is_thread, put, thread_of};
@@ -47,21 +46,6 @@ fn gate_in<L: Copy>(table: &Table<L>, gate: ObjId) -> Result<(L, L, Entry), Deni
     Ok((object.label, *clearance, *entry))
 }
 
-// Checks whether the label that a thread wants is above the floor of its own label and the gate's.
-fn is_above_floor<S: LabelStore>(store: &S, own: S::Id, gate: S::Id, wanted: S::Id) -> bool
-    requires own { IsSome (S.labels store.now own) }
-    requires gate { IsSome (S.labels store.now gate) }
-    requires wanted { IsSome (S.labels store.now wanted) }
-    ensures { result ≡ is_below (floor_of (label_at (S.labels store.now) own) (label_at (S.labels store.now) gate))
-        (label_at (S.labels store.now) wanted) }
-{
-    let wanted = store.get(wanted).unwrap();
-    store
-        .get(own)
-        .unwrap()
-        .floor_below(store.get(gate).unwrap(), wanted)
-}
-
 // Checks whether the label that a thread wants is above the floor of its own label and the gate's, and the
 // clearance between it and the join of both clearances.
 fn is_between<S: LabelStore>(
@@ -82,7 +66,7 @@ fn is_between<S: LabelStore>(
         (label_at (S.labels store.old) own.1) (label_at (S.labels store.old) gate.1) }
     ensures unchanged { S.labels store.new ≡ S.labels store.old }
 {
-    is_above_floor(store, own.0, gate.0, wanted.0)
+    store.floor_below(own.0, gate.0, wanted.0)
         && store.below(wanted.0, wanted.1)
         && store.below_join(wanted.1, own.1, gate.1)
 }

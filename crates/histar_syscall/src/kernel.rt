@@ -213,8 +213,17 @@ impl<S: LabelStore + Drop> Kernel<S> {
         ensures { Answered self.old self.new thread (calls.MakeGate container label clearance entry)
             result (IsNextNumber self.old.kept) }
     {
-        let call = self.trace.store_make_gate(container, &label, &clearance, entry)?;
-        let answer = make_gate(&mut self.objects, thread, container, label, clearance, entry);
+        let call = self
+            .trace
+            .store_make_gate(container, &label, &clearance, entry)?;
+        let answer = make_gate(
+            &mut self.objects,
+            thread,
+            container,
+            label,
+            clearance,
+            entry,
+        );
         self.trace.record(self.line, thread, call, answer)
     }
 

@@ -7,7 +7,7 @@ use histar_label::{Label, OutOfMemory};
 use std::alloc::Global;
 use std::marker::Model;
 
-/// How many labels are found again without a search.
+/// How many places at hand there are for labels.
 const AT_HAND: usize = 1_024;
 
 /// The Id of a label in a trace: its place in the list of labels.
@@ -73,7 +73,7 @@ impl TraceLabels {
         ensures keeps { Keeps (slice_get self.old) (slice_get self.new) }
         ensures unchanged { OnErr result (self.new ≡ self.old) }
     {
-        let place = place_of(label);
+        let place = label.place_among(AT_HAND);
         match self.found(place, label) {
             Some(id) => Ok(id),
             None => self.push(place, label.copy()?),
@@ -104,23 +104,4 @@ impl TraceLabels {
         }
         Ok(LabelId(id))
     }
-}
-
-// Returns the place at hand of a label, below `AT_HAND`. Labels that a session uses at one time mostly have
-// different places; of two labels with one place each may be kept several times.
-fn place_of(label: &Label) -> usize {
-    let default = u64::from(label.default_level().rank());
-    let exceptions = label.exceptions();
-    let (Some(first), Some(last)) = (exceptions.first(), exceptions.last()) else {
-        return mixed(0, default);
-    };
-    let levels = default * 25 + u64::from(first.1.rank()) * 5 + u64::from(last.1.rank());
-    let categories = first.0.number().wrapping_mul(31).wrapping_add(last.0.number());
-    mixed(categories.wrapping_add(exceptions.len() as u64), levels)
-}
-
-// Mixes two numbers to a place at hand.
-fn mixed(first: u64, second: u64) -> usize {
-    let sum = first.wrapping_mul(127).wrapping_add(second);
-    (sum.wrapping_mul(0x9e37_79b9_7f4a_7c15) >> 54) as usize
 }
