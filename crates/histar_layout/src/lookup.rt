@@ -1,10 +1,9 @@
 //! Looking up a name in the bytes of a directory.
-ghost use Rattle.std.specs.Prelude.{◌≡◌, ◌+◌, ◌≤◌, IfSome, drop, length, slice_range};
+ghost use Rattle.std.specs.Prelude.{◌≡◌, ◌+◌, ◌<◌, ◌≤◌, ◌&&◌, IsTrue, length, nat_le, slice_range};
 ghost use Rattle.std.specs.FinMap as map;
 ghost use Rattle.histar_flat.specs.PathOrder.{same};
 ghost use Rattle.histar_layout.specs.Directory.{Entries, IsDirectory};
-ghost use Rattle.histar_layout.specs.Found.{entry_between, found_in, slot_at};
-ghost use Rattle.histar_layout.specs.Reading.{Gives};
+ghost use Rattle.histar_layout.specs.Found.{found_in};
 
 use crate::entry::Target;
 use crate::read_entry::{TARGET_LENGTH, target_from};
@@ -14,16 +13,18 @@ use histar_flat::Name;
 const BESIDE_NAME: usize = 1 + TARGET_LENGTH;
 
 /// Looks up the target of the entry of this name. It goes from entry to entry, up to the one that has the
-/// name and no further, and reads no target of another entry. Where the bytes end or break off before one
-/// that has the name, there is none. It takes no memory.
+/// name and no further. Of another one it reads the length, and bytes of the name only where that is as long.
+/// Where the bytes end or break off before one that has the name, there is none. It takes no memory.
 pub fn look_up(bytes: &[u8], name: &Name) -> Option<Target>
     ensures found { result ≡ found_in bytes.now name.now }
     ensures entry { (dir : Entries) → IsDirectory bytes.now dir → result ≡ map.get dir name.now }
 {
     let wanted = name.as_bytes();
     let mut start = 0;
-    'entries: while let Some((len, end)) = measure_entry(bytes, start) {
-        if is_same_at(wanted, bytes, start + 1, len) {
+    'entries: while start < bytes.len() {
+        let len = bytes[start] as usize;
+        let end = start + len + BESIDE_NAME;
+        if is_entry_of(wanted, bytes, start, len, end) {
             return target_from(&bytes[end - TARGET_LENGTH..end]);
         }
         start = end;
@@ -31,35 +32,37 @@ pub fn look_up(bytes: &[u8], name: &Name) -> Option<Target>
     None
 }
 
-/// Returns the length of the name of the entry that begins at a position, and the position at which the entry
-/// ends.
+/// Checks whether the entry between two positions, whose name has this length, has this name, and none of its
+/// bytes is missing.
 #[inline]
-fn measure_entry(bytes: &[u8], start: usize) -> Option<(usize, usize)>
-    requires { start ≤ length bytes.now }
-    ensures entry { Gives (λ found. entry_between bytes.now start found.1) result (slot_at (drop start bytes.now)) }
-    ensures measured { IfSome result (λ found. (found.1 ≡ start + found.0 + 18) × (found.1 ≤ length bytes.now)) }
-{
-    let len = *bytes.get(start)? as usize;
-    let end = start + len + BESIDE_NAME;
-    if end > bytes.len() {
-        return None;
-    }
-    Some((len, end))
-}
-
-/// Checks whether a name lies at a position, where one of this length does. Names of one directory differ
-/// most often in their lengths or in their last bytes, so these are compared first.
-#[inline]
-fn is_same_at(name: &[u8], bytes: &[u8], start: usize, len: usize) -> bool
-    requires { start + len ≤ length bytes.now }
-    ensures { result ≡ same name.now (slice_range bytes.now start (start + len)) }
+fn is_entry_of(name: &[u8], bytes: &[u8], start: usize, len: usize, end: usize) -> bool
+    requires { end ≡ start + len + 18 }
+    ensures value { result ≡ (nat_le end (length bytes.now)
+        && same name.now (slice_range bytes.now (start + 1) (start + 1 + len))) }
+    ensures whole { IsTrue result → end ≤ length bytes.now }
 {
     if name.len() != len {
         return false;
     }
-    let other = &bytes[start..start + len];
-    match (name, other) {
-        ([.., last], [.., other_last]) if *last != *other_last => false,
-        _ => name == other,
+    if end > bytes.len() {
+        return false;
     }
+    is_same_at(name, bytes, start + 1)
+}
+
+/// Checks whether a name lies at a position. Names of one directory differ most often in their last bytes, so
+/// these are compared first.
+#[inline]
+fn is_same_at(name: &[u8], bytes: &[u8], start: usize) -> bool
+    requires { start + length name.now ≤ length bytes.now }
+    ensures { result ≡ same name.now (slice_range bytes.now start (start + length name.now)) }
+{
+    let mut left = name.len();
+    'bytes: while left > 0 {
+        left -= 1;
+        if name[left] != bytes[start + left] {
+            return false;
+        }
+    }
+    true
 }
