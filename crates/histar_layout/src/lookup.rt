@@ -1,5 +1,5 @@
 //! Looking up a name in the bytes of a directory.
-ghost use Rattle.std.specs.Prelude.{◌≡◌, ◌+◌, ◌<◌, ◌≤◌, ◌&&◌, IsTrue, length, nat_le, slice_range};
+ghost use Rattle.std.specs.Prelude.{◌≡◌, ◌+◌, ◌≤◌, length, slice_range};
 ghost use Rattle.std.specs.FinMap as map;
 ghost use Rattle.histar_flat.specs.PathOrder.{same};
 ghost use Rattle.histar_layout.specs.Directory.{Entries, IsDirectory};
@@ -24,30 +24,17 @@ pub fn look_up(bytes: &[u8], name: &Name) -> Option<Target>
     'entries: while start < bytes.len() {
         let len = bytes[start] as usize;
         let end = start + len + BESIDE_NAME;
-        if is_entry_of(wanted, bytes, start, len, end) {
-            return target_from(&bytes[end - TARGET_LENGTH..end]);
+        if len == wanted.len() {
+            if end > bytes.len() {
+                return None;
+            }
+            if is_same_at(wanted, bytes, start + 1) {
+                return target_from(&bytes[end - TARGET_LENGTH..end]);
+            }
         }
         start = end;
     }
     None
-}
-
-/// Checks whether the entry between two positions, whose name has this length, has this name, and none of its
-/// bytes is missing.
-#[inline]
-fn is_entry_of(name: &[u8], bytes: &[u8], start: usize, len: usize, end: usize) -> bool
-    requires { end ≡ start + len + 18 }
-    ensures value { result ≡ (nat_le end (length bytes.now)
-        && same name.now (slice_range bytes.now (start + 1) (start + 1 + len))) }
-    ensures whole { IsTrue result → end ≤ length bytes.now }
-{
-    if name.len() != len {
-        return false;
-    }
-    if end > bytes.len() {
-        return false;
-    }
-    is_same_at(name, bytes, start + 1)
 }
 
 /// Checks whether a name lies at a position. Names of one directory differ most often in their last bytes, so

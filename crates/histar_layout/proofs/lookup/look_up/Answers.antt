@@ -1,17 +1,17 @@
 -- Proves the goals of `look_up` of src/lookup.rt that the search leaves open.
-use Rattle.std.proofs.Common.{◌≡◌, ◌+◌, List, ℕ, Bool, leb, ◌&&◌, length, get_or, drop, Some, sym, ap, ◌∙◌}
-use Rattle.std.specs.Prelude.{slice_get, slice_range}
+use Rattle.std.proofs.Common.{◌≡◌, ℕ, ◌+◌, List, Bool, length, drop, get_or, sym, ap, ◌∙◌}
+use Rattle.std.specs.Prelude.{slice_range}
 use Rattle.std.proofs.lemmas.Option.{slice_get-get_or}
 use Rattle.histar_flat.specs.PathOrder.{same}
-use Rattle.histar_layout.proofs.LookingUp.{all_left, is_named, entry_past, leads_nowhere, found_there, left_over, found_in_directory}
+use Rattle.histar_layout.proofs.LookingUp.{all_left, entry_past, leads_nowhere, found_there, left_over, stepped_over, none_there, found_in_directory}
 use Rattle.histar_layout.proofs.lookup.look_up.Goals as goal
 
 -- comparing with the bytes of a name compares with the name
-named_as : (bytes wanted name : List ℕ) (start len : ℕ) (result b : Bool) → wanted ≡ name
-    → result ≡ (leb (start + len + 18) (length bytes) && same wanted (slice_range bytes (start + 1) (start + 1 + len)))
-    → result ≡ b → is_named bytes name start len ≡ b
-named_as bytes wanted name start len result b is value was =
-    ap (λ (w : List ℕ). leb (start + len + 18) (length bytes) && same w (slice_range bytes (start + 1) (start + 1 + len))) (sym is) ∙ sym value ∙ was
+compared : (bytes wanted name : List ℕ) (start len : ℕ) (result test : Bool) → wanted ≡ name → len ≡ length wanted
+    → result ≡ same wanted (slice_range bytes (start + 1) (start + 1 + length wanted)) → result ≡ test
+    → same name (slice_range bytes (start + 1) (start + 1 + len)) ≡ test
+compared bytes wanted name start len result test is long value was =
+    (λ i. same (sym is i) (slice_range bytes (start + 1) (start + 1 + long i))) ∙ sym value ∙ was
 
 pub entries-init : goal.entries-init
 entries-init c = all_left c.args.bytes.now c.args.name.now
@@ -20,22 +20,42 @@ pub entries-preserved : goal.entries-preserved
 entries-preserved c =
     let bytes = c.args.bytes.now in
     let start = c.entries.start in
-    left_over bytes c.args.name.now start (get_or bytes start 0) (slice_get-get_or bytes start 0 c.entries-test.true) c.entries.invariant
-    (named_as bytes c.as_bytes-wanted.result.now c.args.name.now start (get_or bytes start 0) c.is_entry_of.result _
-    c.as_bytes-wanted.ensures.value c.is_entry_of.ensures.value c.if-is_entry_of.false)
+    stepped_over bytes c.args.name.now start (get_or bytes start 0) (slice_get-get_or bytes start 0 c.entries-test.true) c.entries.invariant
+    (λ e. c.if-len-wanted.false (sym e ∙ ap length (sym c.as_bytes-wanted.ensures.value)))
 
-pub returns-then-is_entry_of-clause-found : goal.returns-then-is_entry_of-clause-found
-returns-then-is_entry_of-clause-found c =
+pub entries-preserved-else-is_same_at : goal.entries-preserved-else-is_same_at
+entries-preserved-else-is_same_at c =
+    let bytes = c.args.bytes.now in
+    let start = c.entries.start in
+    left_over bytes c.args.name.now start (get_or bytes start 0) (slice_get-get_or bytes start 0 c.entries-test.true) c.entries.invariant
+    c.if-end-bytes.false
+    (compared bytes c.as_bytes-wanted.result.now c.args.name.now start (get_or bytes start 0) c.is_same_at.result _
+    c.as_bytes-wanted.ensures.value c.if-len-wanted.true c.is_same_at.ensures c.if-is_same_at.false)
+
+pub returns-then-end-bytes-clause-found : goal.returns-then-end-bytes-clause-found
+returns-then-end-bytes-clause-found c =
+    let bytes = c.args.bytes.now in
+    let start = c.entries.start in
+    sym (none_there bytes c.args.name.now start (get_or bytes start 0) (slice_get-get_or bytes start 0 c.entries-test.true) c.entries.invariant
+    c.if-end-bytes.true)
+
+pub returns-then-end-bytes-clause-entry : goal.returns-then-end-bytes-clause-entry
+returns-then-end-bytes-clause-entry c dir is =
+    returns-then-end-bytes-clause-found c ∙ found_in_directory c.args.bytes.now dir c.args.name.now is
+
+pub returns-then-is_same_at-clause-found : goal.returns-then-is_same_at-clause-found
+returns-then-is_same_at-clause-found c =
     let bytes = c.args.bytes.now in
     let start = c.entries.start in
     c.target_from.ensures
     ∙ sym (found_there bytes c.args.name.now start (get_or bytes start 0) (slice_get-get_or bytes start 0 c.entries-test.true) c.entries.invariant
-    (named_as bytes c.as_bytes-wanted.result.now c.args.name.now start (get_or bytes start 0) c.is_entry_of.result _
-    c.as_bytes-wanted.ensures.value c.is_entry_of.ensures.value c.if-is_entry_of.true))
+    c.if-end-bytes.false
+    (compared bytes c.as_bytes-wanted.result.now c.args.name.now start (get_or bytes start 0) c.is_same_at.result _
+    c.as_bytes-wanted.ensures.value c.if-len-wanted.true c.is_same_at.ensures c.if-is_same_at.true))
 
-pub returns-then-is_entry_of-clause-entry : goal.returns-then-is_entry_of-clause-entry
-returns-then-is_entry_of-clause-entry c dir is =
-    returns-then-is_entry_of-clause-found c ∙ found_in_directory c.args.bytes.now dir c.args.name.now is
+pub returns-then-is_same_at-clause-entry : goal.returns-then-is_same_at-clause-entry
+returns-then-is_same_at-clause-entry c dir is =
+    returns-then-is_same_at-clause-found c ∙ found_in_directory c.args.bytes.now dir c.args.name.now is
 
 pub returns-clause-found : goal.returns-clause-found
 returns-clause-found c =
