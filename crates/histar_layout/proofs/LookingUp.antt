@@ -1,6 +1,6 @@
 -- Looking up a name: what one entry at the front leaves to be searched, and what is found in a directory.
 use Rattle.std.proofs.Common.{◌≡◌, ℕ, zero, suc, ◌+◌, ◌-◌, ◌<◌, ◌≤◌, Bool, true, false, refl, cond, leb, List, [], ◌∷◌, ◌++◌, length, take, drop}
-use Rattle.std.proofs.Common.{Some, None, sym, ap, subst, ◌∙◌, append_assoc, append-nil, inl, inr, get_or, arith}
+use Rattle.std.proofs.Common.{IsTrue, Some, None, sym, ap, subst, ◌∙◌, append_assoc, append-nil, inl, inr, get_or, arith}
 use Rattle.std.specs.Prelude.{slice_get, slice_range}
 use Rattle.std.specs.List.{flat_map, AllByRecursion}
 use Rattle.std.specs.Cmp.Lexicographic.{bytes_decides, texts_ties}
@@ -8,7 +8,7 @@ use Rattle.std.specs.FinMap as map
 use Rattle.std.proofs.lemmas.List.{length-drop, length-take, get_or-take, get_or-drop, ext_get_or, drop-drop, drop_more, drop_all}
 use Rattle.std.proofs.lemmas.Bool.{cases_lt, false_from_ne_true, le-leb, lt-leb}
 use Rattle.std.proofs.lemmas.Option.{cond_some, same_Some, slice_get_within, get_or_from_slice_get}
-use Rattle.histar_flat.specs.Words.{Name}
+use Rattle.histar_flat.specs.Words.{Name, is_name}
 use Rattle.histar_flat.specs.PathOrder.{same}
 use Rattle.histar_flat.proofs.Options.{bind_some}
 use Rattle.histar_layout.specs.declared.entry.Target.{Target}
@@ -188,6 +188,12 @@ same_bytes name bytes start fits each =
     (bytes_decides name (slice_range bytes start (start + length name))).1
     (ext_get_or 0 name (slice_range bytes start (start + length name)) (sym (part_len bytes start (length name) fits))
     (λ k below. each k below ∙ sym (part_at bytes start (length name) k below)))
+
+-- a name has bytes
+pub has_bytes : (name : List ℕ) → IsTrue (is_name name) → 0 < length name
+unfolding is_name
+has_bytes [] named = absurd cc
+has_bytes (b ∷ bs) named = omega arith
 
 module _ (bytes : List ℕ) (name : Name) (start len : ℕ) (read : slice_get bytes start ≡ Some len)
     (left : IsLeft bytes (drop start bytes) name) where

@@ -1,5 +1,5 @@
 //! Looking up a name in the bytes of a directory.
-ghost use Rattle.std.specs.Prelude.{◌≡◌, ◌+◌, ◌≤◌, length, slice_range};
+ghost use Rattle.std.specs.Prelude.{◌≡◌, ◌+◌, ◌-◌, ◌<◌, ◌≤◌, length, slice_index, slice_range};
 ghost use Rattle.std.specs.FinMap as map;
 ghost use Rattle.histar_flat.specs.PathOrder.{same};
 ghost use Rattle.histar_layout.specs.Directory.{Entries, IsDirectory};
@@ -20,6 +20,7 @@ pub fn look_up(bytes: &[u8], name: &Name) -> Option<Target>
     ensures entry { (dir : Entries) → IsDirectory bytes.now dir → result ≡ map.get dir name.now }
 {
     let wanted = name.as_bytes();
+    let last = wanted[wanted.len() - 1];
     let mut start = 0;
     'entries: while start < bytes.len() {
         let len = bytes[start] as usize;
@@ -28,7 +29,7 @@ pub fn look_up(bytes: &[u8], name: &Name) -> Option<Target>
             if end > bytes.len() {
                 return None;
             }
-            if is_same_at(wanted, bytes, start + 1) {
+            if is_before(wanted, last, bytes, end - TARGET_LENGTH) {
                 return target_from(&bytes[end - TARGET_LENGTH..end]);
             }
         }
@@ -37,14 +38,21 @@ pub fn look_up(bytes: &[u8], name: &Name) -> Option<Target>
     None
 }
 
-/// Checks whether a name lies at a position. Names of one directory differ most often in their last bytes, so
-/// these are compared first.
+/// Checks whether a name, which ends with this byte, lies before a position. Names of one directory differ most
+/// often in their last bytes, so these are compared first.
 #[inline]
-fn is_same_at(name: &[u8], bytes: &[u8], start: usize) -> bool
-    requires { start + length name.now ≤ length bytes.now }
-    ensures { result ≡ same name.now (slice_range bytes.now start (start + length name.now)) }
+fn is_before(name: &[u8], last: u8, bytes: &[u8], end: usize) -> bool
+    requires some { 0 < length name.now }
+    requires room { length name.now ≤ end }
+    requires within { end ≤ length bytes.now }
+    requires last { last ≡ slice_index name.now (length name.now - 1) }
+    ensures { result ≡ same name.now (slice_range bytes.now (end - length name.now) end) }
 {
-    let mut left = name.len();
+    if bytes[end - 1] != last {
+        return false;
+    }
+    let start = end - name.len();
+    let mut left = name.len() - 1;
     'bytes: while left > 0 {
         left -= 1;
         if name[left] != bytes[start + left] {

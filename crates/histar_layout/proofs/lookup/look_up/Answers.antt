@@ -1,17 +1,29 @@
 -- Proves the goals of `look_up` of src/lookup.rt that the search leaves open.
-use Rattle.std.proofs.Common.{◌≡◌, ℕ, ◌+◌, List, Bool, length, drop, get_or, sym, ap, ◌∙◌}
+use Rattle.std.proofs.Common.{◌≡◌, ℕ, ◌+◌, ◌-◌, List, Bool, length, drop, get_or, sym, ap, ◌∙◌, arith}
 use Rattle.std.specs.Prelude.{slice_range}
 use Rattle.std.proofs.lemmas.Option.{slice_get-get_or}
 use Rattle.histar_flat.specs.PathOrder.{same}
-use Rattle.histar_layout.proofs.LookingUp.{all_left, entry_past, leads_nowhere, found_there, left_over, stepped_over, none_there, found_in_directory}
+use Rattle.histar_layout.proofs.LookingUp.{all_left, entry_past, leads_nowhere, found_there, left_over, stepped_over, none_there, found_in_directory, has_bytes}
 use Rattle.histar_layout.proofs.lookup.look_up.Goals as goal
 
 -- comparing with the bytes of a name compares with the name
 compared : (bytes wanted name : List ℕ) (start len : ℕ) (result test : Bool) → wanted ≡ name → len ≡ length wanted
-    → result ≡ same wanted (slice_range bytes (start + 1) (start + 1 + length wanted)) → result ≡ test
+    → result ≡ same wanted (slice_range bytes (start + len + 18 - 17 - length wanted) (start + len + 18 - 17)) → result ≡ test
     → same name (slice_range bytes (start + 1) (start + 1 + len)) ≡ test
 compared bytes wanted name start len result test is long value was =
-    (λ i. same (sym is i) (slice_range bytes (start + 1) (start + 1 + long i))) ∙ sym value ∙ was
+    let from : start + 1 ≡ start + len + 18 - 17 - length wanted = omega (arith, long) in
+    let to : start + 1 + len ≡ start + len + 18 - 17 = omega arith in
+    (λ i. same (sym is i) (slice_range bytes (from i) (to i))) ∙ sym value ∙ was
+
+pub overflow_sub-last : goal.overflow_sub-last
+overflow_sub-last c = omega (arith, has_bytes c.args.name.now c.as_bytes-wanted.ensures.right, ap length c.as_bytes-wanted.ensures.value)
+
+pub bounds-wanted-wanted : goal.bounds-wanted-wanted
+bounds-wanted-wanted c = omega (arith, has_bytes c.args.name.now c.as_bytes-wanted.ensures.right, ap length c.as_bytes-wanted.ensures.value)
+
+pub is_before-requires-clause-some : goal.is_before-requires-clause-some
+is_before-requires-clause-some c =
+    omega (arith, has_bytes c.args.name.now c.as_bytes-wanted.ensures.right, ap length c.as_bytes-wanted.ensures.value)
 
 pub entries-init : goal.entries-init
 entries-init c = all_left c.args.bytes.now c.args.name.now
@@ -23,14 +35,14 @@ entries-preserved c =
     stepped_over bytes c.args.name.now start (get_or bytes start 0) (slice_get-get_or bytes start 0 c.entries-test.true) c.entries.invariant
     (λ e. c.if-len-wanted.false (sym e ∙ ap length (sym c.as_bytes-wanted.ensures.value)))
 
-pub entries-preserved-else-is_same_at : goal.entries-preserved-else-is_same_at
-entries-preserved-else-is_same_at c =
+pub entries-preserved-else-is_before : goal.entries-preserved-else-is_before
+entries-preserved-else-is_before c =
     let bytes = c.args.bytes.now in
     let start = c.entries.start in
     left_over bytes c.args.name.now start (get_or bytes start 0) (slice_get-get_or bytes start 0 c.entries-test.true) c.entries.invariant
     c.if-end-bytes.false
-    (compared bytes c.as_bytes-wanted.result.now c.args.name.now start (get_or bytes start 0) c.is_same_at.result _
-    c.as_bytes-wanted.ensures.value c.if-len-wanted.true c.is_same_at.ensures c.if-is_same_at.false)
+    (compared bytes c.as_bytes-wanted.result.now c.args.name.now start (get_or bytes start 0) c.is_before.result _
+    c.as_bytes-wanted.ensures.value c.if-len-wanted.true c.is_before.ensures c.if-is_before.false)
 
 pub returns-then-end-bytes-clause-found : goal.returns-then-end-bytes-clause-found
 returns-then-end-bytes-clause-found c =
@@ -43,19 +55,19 @@ pub returns-then-end-bytes-clause-entry : goal.returns-then-end-bytes-clause-ent
 returns-then-end-bytes-clause-entry c dir is =
     returns-then-end-bytes-clause-found c ∙ found_in_directory c.args.bytes.now dir c.args.name.now is
 
-pub returns-then-is_same_at-clause-found : goal.returns-then-is_same_at-clause-found
-returns-then-is_same_at-clause-found c =
+pub returns-then-is_before-clause-found : goal.returns-then-is_before-clause-found
+returns-then-is_before-clause-found c =
     let bytes = c.args.bytes.now in
     let start = c.entries.start in
     c.target_from.ensures
     ∙ sym (found_there bytes c.args.name.now start (get_or bytes start 0) (slice_get-get_or bytes start 0 c.entries-test.true) c.entries.invariant
     c.if-end-bytes.false
-    (compared bytes c.as_bytes-wanted.result.now c.args.name.now start (get_or bytes start 0) c.is_same_at.result _
-    c.as_bytes-wanted.ensures.value c.if-len-wanted.true c.is_same_at.ensures c.if-is_same_at.true))
+    (compared bytes c.as_bytes-wanted.result.now c.args.name.now start (get_or bytes start 0) c.is_before.result _
+    c.as_bytes-wanted.ensures.value c.if-len-wanted.true c.is_before.ensures c.if-is_before.true))
 
-pub returns-then-is_same_at-clause-entry : goal.returns-then-is_same_at-clause-entry
-returns-then-is_same_at-clause-entry c dir is =
-    returns-then-is_same_at-clause-found c ∙ found_in_directory c.args.bytes.now dir c.args.name.now is
+pub returns-then-is_before-clause-entry : goal.returns-then-is_before-clause-entry
+returns-then-is_before-clause-entry c dir is =
+    returns-then-is_before-clause-found c ∙ found_in_directory c.args.bytes.now dir c.args.name.now is
 
 pub returns-clause-found : goal.returns-clause-found
 returns-clause-found c =

@@ -1,6 +1,6 @@
--- The invariants and measures of `is_same_at` of src/lookup.rt.
+-- The invariants and measures of `is_before` of src/lookup.rt.
 use Rattle.std.proofs.Common.{◌≡◌, ℕ, ◌+◌, ◌<◌, ◌≤◌, length, get_or}
-use Rattle.histar_layout.proofs.lookup.is_same_at.Given as goal
+use Rattle.histar_layout.proofs.lookup.is_before.Given as goal
 
 abbrev pub invariant-bytes : goal.invariant-bytes
 invariant-bytes l =
