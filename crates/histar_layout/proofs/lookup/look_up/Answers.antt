@@ -3,7 +3,8 @@ use Rattle.std.proofs.Common.{◌≡◌, ℕ, ◌+◌, ◌-◌, List, Bool, leng
 use Rattle.std.specs.Prelude.{slice_range}
 use Rattle.std.proofs.lemmas.Option.{slice_get-get_or}
 use Rattle.histar_flat.specs.PathOrder.{same}
-use Rattle.histar_layout.proofs.LookingUp.{all_left, entry_past, leads_nowhere, found_there, left_over, stepped_over, none_there, found_in_directory, has_bytes}
+use Rattle.histar_layout.proofs.LookingUp.{all_left, entry_past, leads_nowhere, found_there, left_over}
+use Rattle.histar_layout.proofs.LookingUp.{stepped_over, none_there, found_in_directory, has_bytes}
 use Rattle.histar_layout.proofs.lookup.look_up.Goals as goal
 
 -- comparing with the bytes of a name compares with the name
