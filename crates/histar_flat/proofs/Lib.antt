@@ -1,5 +1,6 @@
 -- The lemmas of this crate.
 pub mod PaddingLemmas
+pub mod NameBytes
 pub mod WordLemmas
 pub mod SplitLemmas
 pub mod Options

@@ -22,6 +22,18 @@ const MOST_CHILDREN: u64 = 64;
 /// The greatest number that a process can exit with.
 const GREATEST_STATUS: u64 = 255;
 
+/// A 1 for each of the 256 bytes that a name may have, in rows of 32 bytes. One look at it tests a byte.
+const NAME_BYTES: &[u8] = &[
+    0, 0, 0, 0, 0, 0, 0, 0, 0, 0, 0, 0, 0, 0, 0, 0, 0, 0, 0, 0, 0, 0, 0, 0, 0, 0, 0, 0, 0, 0, 0, 0,
+    0, 0, 0, 0, 0, 0, 0, 0, 0, 0, 0, 0, 0, 1, 1, 0, 1, 1, 1, 1, 1, 1, 1, 1, 1, 1, 0, 0, 0, 0, 0, 0,
+    0, 0, 0, 0, 0, 0, 0, 0, 0, 0, 0, 0, 0, 0, 0, 0, 0, 0, 0, 0, 0, 0, 0, 0, 0, 0, 0, 0, 0, 0, 0, 1,
+    0, 1, 1, 1, 1, 1, 1, 1, 1, 1, 1, 1, 1, 1, 1, 1, 1, 1, 1, 1, 1, 1, 1, 1, 1, 1, 1, 0, 0, 0, 0, 0,
+    0, 0, 0, 0, 0, 0, 0, 0, 0, 0, 0, 0, 0, 0, 0, 0, 0, 0, 0, 0, 0, 0, 0, 0, 0, 0, 0, 0, 0, 0, 0, 0,
+    0, 0, 0, 0, 0, 0, 0, 0, 0, 0, 0, 0, 0, 0, 0, 0, 0, 0, 0, 0, 0, 0, 0, 0, 0, 0, 0, 0, 0, 0, 0, 0,
+    0, 0, 0, 0, 0, 0, 0, 0, 0, 0, 0, 0, 0, 0, 0, 0, 0, 0, 0, 0, 0, 0, 0, 0, 0, 0, 0, 0, 0, 0, 0, 0,
+    0, 0, 0, 0, 0, 0, 0, 0, 0, 0, 0, 0, 0, 0, 0, 0, 0, 0, 0, 0, 0, 0, 0, 0, 0, 0, 0, 0, 0, 0, 0, 0,
+];
+
 /// Returns the name that the bytes spell, or `None`.
 pub fn read_name(text: &[u8]) -> Option<Name>
     ensures { result ≡ name_of text.now }
@@ -276,7 +288,7 @@ fn is_child_number(number: u64) -> bool
 fn is_name_byte(b: u8) -> bool
     ensures { result ≡ name_byte b }
 {
-    matches!(b, b'a'..=b'z' | b'0'..=b'9' | b'.' | b'_' | b'-')
+    NAME_BYTES[b as usize] == 1
 }
 
 fn is_password_byte(b: u8) -> bool

@@ -1,14 +1,14 @@
 -- Looking up a name: what one entry at the front leaves to be searched, and what is found in a directory.
 use Rattle.std.proofs.Common.{◌≡◌, ℕ, zero, suc, ◌+◌, ◌-◌, ◌<◌, ◌≤◌, Bool, true, false, refl, cond, leb, List, [], ◌∷◌, ◌++◌, length, take, drop}
-use Rattle.std.proofs.Common.{Some, None, sym, ap, ◌∙◌, append_assoc, append-nil, inl, inr, arith}
-use Rattle.std.specs.Prelude.{slice_get}
+use Rattle.std.proofs.Common.{IsTrue, Some, None, sym, ap, subst, ◌∙◌, append_assoc, append-nil, inl, inr, get_or, arith}
+use Rattle.std.specs.Prelude.{slice_get, slice_range}
 use Rattle.std.specs.List.{flat_map, AllByRecursion}
-use Rattle.std.specs.Cmp.Lexicographic.{texts_ties}
+use Rattle.std.specs.Cmp.Lexicographic.{bytes_decides, texts_ties}
 use Rattle.std.specs.FinMap as map
-use Rattle.std.proofs.lemmas.List.{length-drop, drop-drop, drop_more, drop_all}
-use Rattle.std.proofs.lemmas.Bool.{cases_lt, le-leb, lt-leb}
+use Rattle.std.proofs.lemmas.List.{length-drop, length-take, get_or-take, get_or-drop, ext_get_or, drop-drop, drop_more, drop_all}
+use Rattle.std.proofs.lemmas.Bool.{cases_lt, false_from_ne_true, le-leb, lt-leb}
 use Rattle.std.proofs.lemmas.Option.{cond_some, same_Some, slice_get_within, get_or_from_slice_get}
-use Rattle.histar_flat.specs.Words.{Name}
+use Rattle.histar_flat.specs.Words.{Name, is_name}
 use Rattle.histar_flat.specs.PathOrder.{same}
 use Rattle.histar_flat.proofs.Options.{bind_some}
 use Rattle.histar_layout.specs.declared.entry.Target.{Target}
@@ -154,6 +154,85 @@ module _ (rest : List ℕ) (name : Name) (x : (List ℕ × List ℕ) × List ℕ
     left_behind test =
         let first = over_first left.most left.enough false test in
         record { most = first.0; enough = omega (arith, left.enough, first.1, slot_shorter rest x is); same_found = left.same_found ∙ first.2 }
+
+-- ---- the name of an entry, in place
+
+-- a part of bytes has as many
+part_len : (bytes : List ℕ) (start len : ℕ) → start + len ≤ length bytes → length (slice_range bytes start (start + len)) ≡ len
+part_len bytes start len fits = omega (arith, length-take (start + len - start) (drop start bytes), length-drop start bytes)
+
+-- and at each place the byte that lies there
+part_at : (bytes : List ℕ) (start len k : ℕ) → k < len → get_or (slice_range bytes start (start + len)) k 0 ≡ get_or bytes (start + k) 0
+part_at bytes start len k below = get_or-take (start + len - start) (drop start bytes) k 0 (omega (arith, below)) ∙ get_or-drop start bytes k 0
+
+-- a part of another length is not the name
+other_length : (name bytes : List ℕ) (start len : ℕ) → (length name ≡ len → ⊥) → start + len ≤ length bytes
+    → same name (slice_range bytes start (start + len)) ≡ false
+other_length name bytes start len differ fits =
+    false_from_ne_true (same name (slice_range bytes start (start + len))) (λ e.
+    differ (ap length ((bytes_decides name (slice_range bytes start (start + len))).0 e) ∙ part_len bytes start len fits))
+
+-- nor is one that has another byte at some place
+pub other_bytes : (name bytes : List ℕ) (start k : ℕ) → k < length name → (get_or name k 0 ≡ get_or bytes (start + k) 0 → ⊥)
+    → same name (slice_range bytes start (start + length name)) ≡ false
+other_bytes name bytes start k below differ =
+    false_from_ne_true (same name (slice_range bytes start (start + length name))) (λ e.
+    differ (ap (λ (xs : List ℕ). get_or xs k 0) ((bytes_decides name (slice_range bytes start (start + length name))).0 e)
+    ∙ part_at bytes start (length name) k below))
+
+-- and one that has the same byte at each place is the name
+pub same_bytes : (name bytes : List ℕ) (start : ℕ) → start + length name ≤ length bytes
+    → ((k : ℕ) → k < length name → get_or name k 0 ≡ get_or bytes (start + k) 0)
+    → same name (slice_range bytes start (start + length name)) ≡ true
+same_bytes name bytes start fits each =
+    (bytes_decides name (slice_range bytes start (start + length name))).1
+    (ext_get_or 0 name (slice_range bytes start (start + length name)) (sym (part_len bytes start (length name) fits))
+    (λ k below. each k below ∙ sym (part_at bytes start (length name) k below)))
+
+-- a name has bytes
+pub has_bytes : (name : List ℕ) → IsTrue (is_name name) → 0 < length name
+unfolding is_name
+has_bytes [] named = absurd cc
+has_bytes (b ∷ bs) named = omega arith
+
+module _ (bytes : List ℕ) (name : Name) (start len : ℕ) (read : slice_get bytes start ≡ Some len)
+    (left : IsLeft bytes (drop start bytes) name) where
+  -- the name of the entry lies between its length and its target
+  name_between : same name (slice_range bytes (start + 1) (start + len + 18 - 17)) ≡ same name (slice_range bytes (start + 1) (start + 1 + len))
+  name_between =
+      let to : start + len + 18 - 17 ≡ start + 1 + len = omega arith in
+      λ i. same name (slice_range bytes (start + 1) (to i))
+
+  -- where the entry breaks off, the name is not found
+  pub none_there : length bytes < start + len + 18 → found_in bytes name ≡ None
+  none_there short = leads_nowhere bytes (drop start bytes) name left (entry_broken bytes start len read short)
+
+  -- where an entry that is all there has the name, its target is found
+  pub found_there : start + len + 18 ≤ length bytes → same name (slice_range bytes (start + 1) (start + 1 + len)) ≡ true
+      → found_in bytes name ≡ target_from (slice_range bytes (start + len + 18 - 17) (start + len + 18))
+  found_there fits test =
+      found_here (drop start bytes) name (entry_between bytes start (start + len + 18)) (entry_there bytes start len read fits) bytes left
+      (name_between ∙ test)
+
+  -- where it has another name, what lies behind it is left
+  pub left_over : start + len + 18 ≤ length bytes → same name (slice_range bytes (start + 1) (start + 1 + len)) ≡ false
+      → IsLeft bytes (drop (start + len + 18) bytes) name
+  left_over fits test =
+      left_behind (drop start bytes) name (entry_between bytes start (start + len + 18)) (entry_there bytes start len read fits) bytes left
+      (name_between ∙ test)
+
+  -- where its name has another length, this is left too, which is nothing if the entry breaks off
+  pub stepped_over : (length name ≡ len → ⊥) → IsLeft bytes (drop (start + len + 18) bytes) name
+  stepped_over differ = elim (cases_lt (length bytes) (start + len + 18)) [
+    | inl short ↦
+        let none : drop (start + len + 18) bytes ≡ [] = drop_all (start + len + 18) bytes (omega arith) in
+        subst (λ (rest : List ℕ). IsLeft bytes rest name) (sym none) (record {
+          most = 0;
+          enough = omega arith;
+          same_found = none_there short ∙ sym (nowhere 0 [] name none_at_end);
+        })
+    | inr fits ↦ left_over fits (other_length name bytes (start + 1) len differ (omega arith))
+  ]
 
 -- ---- the bytes of a directory
 

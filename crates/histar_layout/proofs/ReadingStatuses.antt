@@ -1,9 +1,10 @@
 -- Reading the bytes of a process segment, child by child.
-use Rattle.std.proofs.Common.{◌≡◌, ℕ, zero, suc, ◌-◌, ◌<◌, ◌≤◌, Bool, true, false, cond, eqb, leb, List, [], ◌∷◌, length, take, drop, Option, Some}
-use Rattle.std.proofs.Common.{None, Result, Ok, refl, sym, ap, ◌∙◌, length-drop, eq-eqb, get_or, arith}
+use Rattle.std.proofs.Common.{◌≡◌, ℕ, zero, suc, ◌-◌, ◌*◌, ◌%◌, ◌<◌, ◌≤◌, ◌&&◌, inl, inr, Bool, true, false, cond, eqb, leb, List, [], ◌∷◌}
+use Rattle.std.proofs.Common.{length, take, drop, Option, Some, None, Result, Ok, refl, sym, ap, ◌∙◌, length-drop, eq-eqb, get_or, arith}
 use Rattle.std.proofs.lemmas.List.{drop-drop}
 use Rattle.std.specs.Prelude.{option_map, is_some}
 use Rattle.std.specs.Int.{w64, from_be_bytes}
+use Rattle.std.proofs.lemmas.Bool.{and_parts, cases_lt, eqb-true, false≢true, leb-true, le-leb}
 use Rattle.std.proofs.lemmas.Bool.Decides.{nat_tests}
 use Rattle.std.proofs.lemmas.Option.{same_Some}
 use Rattle.histar_flat.specs.Words.{most_children}
@@ -15,6 +16,7 @@ use Rattle.histar_layout.specs.declared.status.Child.{Child}
 use Rattle.histar_layout.specs.declared.status.StatusHead.{StatusHead}
 use Rattle.histar_layout.specs.declared.status.NotAStatus.{NotAStatus}
 use Rattle.histar_layout.proofs.EntryLemmas.{IsBytes, bind_at}
+use Rattle.histar_layout.proofs.Members.{same_truth}
 use Rattle.histar_layout.proofs.Statuses.{status_of, status_split}
 
 -- ---- any bytes of its length are a child
@@ -129,23 +131,48 @@ some_more : (child : Child) (more : Option (List Child)) → is_some (more >>= �
 some_more child None = refl
 some_more child (Some cs) = refl
 
--- the bytes list children where the rest does
-pub list_on : (left : ℕ) (rest after : List ℕ) (child : Child) (all : Bool) → all ≡ is_some (children_in left rest)
-    → 0 < left → child_in rest ≡ Some (child, after) → all ≡ is_some (children_in (left - 1) after)
-list_on left rest after child all so_far room e =
-    so_far ∙ ap is_some (next_child left rest after child room e) ∙ some_more child (children_in (left - 1) after)
+-- bytes that begin with a child list children where the rest does
+on_to_rest : (left : ℕ) (rest : List ℕ) → 17 ≤ length rest
+    → is_some (children_in (suc left) rest) ≡ is_some (children_in left (drop 17 rest))
+on_to_rest left rest long =
+    let child = whole_child rest long in
+    let less : suc left - 1 ≡ left = omega arith in
+    ap is_some (next_child (suc left) rest (drop 17 rest) child.0 (omega arith) child.1)
+    ∙ some_more child.0 (children_in (suc left - 1) (drop 17 rest))
+    ∙ ap (λ (n : ℕ). is_some (children_in n (drop 17 rest))) less
 
--- bytes too short for a child list children only where there are none
-pub list_end : (left : ℕ) (rest : List ℕ) (all empty : Bool) → all ≡ is_some (children_in left rest) → length rest < 17
-    → eqb (length rest) 0 ≡ empty → empty ≡ all
-list_end left [] all empty so_far short is =
-    let none : true ≡ empty = is in
-    let lists : all ≡ true = so_far ∙ ap is_some (no_children left [] refl) in
-    sym (lists ∙ none)
-list_end left (b ∷ rest) all empty so_far short is =
-    let some : eqb (length (b ∷ rest)) 0 ≡ false = grind (arith, nat_tests) in
-    let lists : all ≡ false = so_far ∙ ap is_some (no_child left (b ∷ rest) (omega arith) (short_child (b ∷ rest) short)) in
-    sym (lists ∙ sym some ∙ is)
+-- bytes of this many children or fewer list them
+lists_them : (left : ℕ) (rest : List ℕ) → length rest ≤ 17 * left → length rest % 17 ≡ 0 → is_some (children_in left rest) ≡ true
+lists_them zero rest few whole = ap is_some (no_children zero rest (omega arith))
+lists_them (suc left) rest few whole = elim (cases_lt (length rest) 17) [
+  | inl short ↦ ap is_some (no_children (suc left) rest (omega arith))
+  | inr long ↦
+      on_to_rest left rest long
+      ∙ lists_them left (drop 17 rest) (omega (arith, length-drop 17 rest)) (omega (arith, length-drop 17 rest))
+]
+
+-- and bytes that list this many children or fewer have as many bytes
+has_length : (left : ℕ) (rest : List ℕ) → is_some (children_in left rest) ≡ true → (length rest ≤ 17 * left) × (length rest % 17 ≡ 0)
+has_length left [] lists = (omega arith, omega arith)
+has_length zero (b ∷ rest) lists = absurd (false≢true (sym (ap is_some (no_room zero (b ∷ rest) (omega arith) refl)) ∙ lists))
+has_length (suc left) (b ∷ rest) lists = elim (cases_lt (length (b ∷ rest)) 17) [
+  | inl short ↦
+      absurd (false≢true (sym (ap is_some (no_child (suc left) (b ∷ rest) (omega arith) (short_child (b ∷ rest) short))) ∙ lists))
+  | inr long ↦
+      let h = has_length left (drop 17 (b ∷ rest)) (sym (on_to_rest left (b ∷ rest) long) ∙ lists) in
+      (omega (arith, h.0, length-drop 17 (b ∷ rest)), omega (arith, h.1, length-drop 17 (b ∷ rest)))
+]
+
+-- so their length tells whether bytes list children
+pub lists_by_length : (rest : List ℕ) → (leb (length rest) 1088 && eqb (length rest % 17) 0) ≡ is_some (children_in most_children rest)
+lists_by_length rest =
+    same_truth (leb (length rest) 1088 && eqb (length rest % 17) 0) (is_some (children_in most_children rest))
+    (λ e.
+    let parts = and_parts (leb (length rest) 1088) (eqb (length rest % 17) 0) e in
+    lists_them most_children rest (leb-true (length rest) 1088 parts.0) (eqb-true (length rest % 17) 0 parts.1))
+    (λ lists.
+    let h = has_length most_children rest lists in
+    ap (λ b. b && eqb (length rest % 17) 0) (le-leb (length rest) 1088 h.0) ∙ eq-eqb (length rest % 17) 0 h.1)
 
 -- ---- looking for a child
 

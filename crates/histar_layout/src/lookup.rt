@@ -1,10 +1,9 @@
 //! Looking up a name in the bytes of a directory.
-ghost use Rattle.std.specs.Prelude.{◌≡◌, ◌+◌, ◌≤◌, IfSome, drop, length, slice_range};
+ghost use Rattle.std.specs.Prelude.{◌≡◌, ◌+◌, ◌-◌, ◌<◌, ◌≤◌, length, slice_index, slice_range};
 ghost use Rattle.std.specs.FinMap as map;
 ghost use Rattle.histar_flat.specs.PathOrder.{same};
 ghost use Rattle.histar_layout.specs.Directory.{Entries, IsDirectory};
-ghost use Rattle.histar_layout.specs.Found.{entry_between, found_in, slot_at};
-ghost use Rattle.histar_layout.specs.Reading.{Gives};
+ghost use Rattle.histar_layout.specs.Found.{found_in};
 
 use crate::entry::Target;
 use crate::read_entry::{TARGET_LENGTH, target_from};
@@ -14,52 +13,51 @@ use histar_flat::Name;
 const BESIDE_NAME: usize = 1 + TARGET_LENGTH;
 
 /// Looks up the target of the entry of this name. It goes from entry to entry, up to the one that has the
-/// name and no further, and reads no target of another entry. Where the bytes end or break off before one
-/// that has the name, there is none. It takes no memory.
+/// name and no further. Of another one it reads the length, and bytes of the name only where that is as long.
+/// Where the bytes end or break off before one that has the name, there is none. It takes no memory.
 pub fn look_up(bytes: &[u8], name: &Name) -> Option<Target>
     ensures found { result ≡ found_in bytes.now name.now }
     ensures entry { (dir : Entries) → IsDirectory bytes.now dir → result ≡ map.get dir name.now }
 {
     let wanted = name.as_bytes();
+    let last = wanted[wanted.len() - 1];
     let mut start = 0;
-    'entries: while let Some((len, end)) = measure_entry(bytes, start) {
-        if is_same_at(wanted, bytes, start + 1, len) {
-            return target_from(&bytes[end - TARGET_LENGTH..end]);
+    'entries: while start < bytes.len() {
+        let len = bytes[start] as usize;
+        let end = start + len + BESIDE_NAME;
+        if len == wanted.len() {
+            if end > bytes.len() {
+                return None;
+            }
+            if is_before(wanted, last, bytes, end - TARGET_LENGTH) {
+                return target_from(&bytes[end - TARGET_LENGTH..end]);
+            }
         }
         start = end;
     }
     None
 }
 
-/// Returns the length of the name of the entry that begins at a position, and the position at which the entry
-/// ends.
+/// Checks whether a name, which ends with this byte, lies before a position. Names of one directory differ most
+/// often in their last bytes, so these are compared first.
 #[inline]
-fn measure_entry(bytes: &[u8], start: usize) -> Option<(usize, usize)>
-    requires { start ≤ length bytes.now }
-    ensures entry { Gives (λ found. entry_between bytes.now start found.1) result (slot_at (drop start bytes.now)) }
-    ensures measured { IfSome result (λ found. (found.1 ≡ start + found.0 + 18) × (found.1 ≤ length bytes.now)) }
+fn is_before(name: &[u8], last: u8, bytes: &[u8], end: usize) -> bool
+    requires some { 0 < length name.now }
+    requires room { length name.now ≤ end }
+    requires within { end ≤ length bytes.now }
+    requires last { last ≡ slice_index name.now (length name.now - 1) }
+    ensures { result ≡ same name.now (slice_range bytes.now (end - length name.now) end) }
 {
-    let len = *bytes.get(start)? as usize;
-    let end = start + len + BESIDE_NAME;
-    if end > bytes.len() {
-        return None;
-    }
-    Some((len, end))
-}
-
-/// Checks whether a name lies at a position, where one of this length does. Names of one directory differ
-/// most often in their lengths or in their last bytes, so these are compared first.
-#[inline]
-fn is_same_at(name: &[u8], bytes: &[u8], start: usize, len: usize) -> bool
-    requires { start + len ≤ length bytes.now }
-    ensures { result ≡ same name.now (slice_range bytes.now start (start + len)) }
-{
-    if name.len() != len {
+    if bytes[end - 1] != last {
         return false;
     }
-    let other = &bytes[start..start + len];
-    match (name, other) {
-        ([.., last], [.., other_last]) if *last != *other_last => false,
-        _ => name == other,
+    let start = end - name.len();
+    let mut left = name.len() - 1;
+    'bytes: while left > 0 {
+        left -= 1;
+        if name[left] != bytes[start + left] {
+            return false;
+        }
     }
+    true
 }

@@ -184,20 +184,12 @@ fn split_status(bytes: &[u8]) -> Option<(StatusHead, &[u8])>
     Some((head, children))
 }
 
-// Checks whether bytes list children, no more than a process can have. Any bytes of its length are a child.
+// Checks whether bytes list children, no more than a process can have. Any bytes of its length are a child, so the
+// number of the bytes tells.
 fn are_children(bytes: &[u8]) -> bool
     ensures { result ≡ is_some (children_in most_children bytes.now) }
 {
-    let mut left = MOST_CHILDREN;
-    let mut rest = bytes;
-    'children: while let Some((_, after)) = rest.split_first_chunk::<CHILD_LEN>() {
-        if left == 0 {
-            return false;
-        }
-        left -= 1;
-        rest = after;
-    }
-    rest.is_empty()
+    (bytes.len() <= MOST_CHILDREN * CHILD_LEN) & (bytes.len() % CHILD_LEN == 0)
 }
 
 #[tactic(auto, unfolding(crate::specs::Status::head_in))]

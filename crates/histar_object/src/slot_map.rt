@@ -53,7 +53,7 @@ impl SlotMap {
         ensures { result ≡ lookup (nat_eq id) self.now.entries }
     {
         let Some(slot) = place(&self.listed, id) else {
-            return self.others.get(&id).copied();
+            return slot_among(&self.others, id);
         };
         Some(slot)
     }
@@ -103,6 +103,16 @@ impl SlotMap {
         self.listed[id.number() as usize] = None;
         Some(slot)
     }
+}
+
+// Returns the slot of a number that has no place in the list. Few have none, and apart from these a look-up takes
+// few registers.
+#[cold]
+#[inline(never)]
+fn slot_among(others: &HashMap<ObjId, usize>, id: ObjId) -> Option<usize>
+    ensures { result ≡ lookup (nat_eq id) others.now.entries }
+{
+    others.get(&id).copied()
 }
 
 // Returns the slot at the place of a number.

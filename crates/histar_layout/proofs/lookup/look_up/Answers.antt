@@ -1,50 +1,80 @@
 -- Proves the goals of `look_up` of src/lookup.rt that the search leaves open.
-use Rattle.std.proofs.Common.{◌≡◌, ℕ, ◌+◌, ◌-◌, List, Bool, drop, sym, ◌∙◌, arith}
+use Rattle.std.proofs.Common.{◌≡◌, ℕ, ◌+◌, ◌-◌, List, Bool, length, drop, get_or, sym, ap, ◌∙◌, arith}
 use Rattle.std.specs.Prelude.{slice_range}
+use Rattle.std.proofs.lemmas.Option.{slice_get-get_or}
 use Rattle.histar_flat.specs.PathOrder.{same}
-use Rattle.histar_layout.specs.Found.{entry_between}
-use Rattle.histar_layout.proofs.LookingUp.{all_left, leads_nowhere, found_here, left_behind, found_in_directory}
+use Rattle.histar_layout.proofs.LookingUp.{all_left, entry_past, leads_nowhere, found_there, left_over}
+use Rattle.histar_layout.proofs.LookingUp.{stepped_over, none_there, found_in_directory, has_bytes}
 use Rattle.histar_layout.proofs.lookup.look_up.Goals as goal
 
--- comparing with the bytes that lie at an entry compares with its name
-same_test : (name wanted bytes : List ℕ) (start len end : ℕ) (result : Bool) → wanted ≡ name → end ≡ start + len + 18
-    → result ≡ same wanted (slice_range bytes (start + 1) (start + 1 + len))
-    → same name (entry_between bytes start end).0.0 ≡ result
-same_test name wanted bytes start len end result is ends test =
-    let to : end - 17 ≡ start + 1 + len = omega arith in
-    (λ i. same (sym is i) (slice_range bytes (start + 1) (to i))) ∙ sym test
+-- comparing with the bytes of a name compares with the name
+compared : (bytes wanted name : List ℕ) (start len : ℕ) (result test : Bool) → wanted ≡ name → len ≡ length wanted
+    → result ≡ same wanted (slice_range bytes (start + len + 18 - 17 - length wanted) (start + len + 18 - 17)) → result ≡ test
+    → same name (slice_range bytes (start + 1) (start + 1 + len)) ≡ test
+compared bytes wanted name start len result test is long value was =
+    let from : start + 1 ≡ start + len + 18 - 17 - length wanted = omega (arith, long) in
+    let to : start + 1 + len ≡ start + len + 18 - 17 = omega arith in
+    (λ i. same (sym is i) (slice_range bytes (from i) (to i))) ∙ sym value ∙ was
+
+pub overflow_sub-last : goal.overflow_sub-last
+overflow_sub-last c = omega (arith, has_bytes c.args.name.now c.as_bytes-wanted.ensures.right, ap length c.as_bytes-wanted.ensures.value)
+
+pub bounds-wanted-wanted : goal.bounds-wanted-wanted
+bounds-wanted-wanted c = omega (arith, has_bytes c.args.name.now c.as_bytes-wanted.ensures.right, ap length c.as_bytes-wanted.ensures.value)
+
+pub is_before-requires-clause-some : goal.is_before-requires-clause-some
+is_before-requires-clause-some c =
+    omega (arith, has_bytes c.args.name.now c.as_bytes-wanted.ensures.right, ap length c.as_bytes-wanted.ensures.value)
 
 pub entries-init : goal.entries-init
-entries-init c = (omega arith, all_left c.args.bytes.now c.args.name.now)
+entries-init c = all_left c.args.bytes.now c.args.name.now
 
 pub entries-preserved : goal.entries-preserved
 entries-preserved c =
     let bytes = c.args.bytes.now in
-    let entry = entry_between bytes c.entries.start c.in-Some.end in (
-      c.in-Some.ensures.measured.1,
-      left_behind (drop c.entries.start bytes) c.args.name.now entry c.in-Some.ensures.entry bytes c.entries.invariant.1
-          (same_test c.args.name.now c.as_bytes-wanted.result.now bytes c.entries.start c.in-Some.len c.in-Some.end
-          c.is_same_at.result c.as_bytes-wanted.ensures.value c.in-Some.ensures.measured.0 c.is_same_at.ensures
-          ∙ c.if-is_same_at.false),
-    )
+    let start = c.entries.start in
+    stepped_over bytes c.args.name.now start (get_or bytes start 0) (slice_get-get_or bytes start 0 c.entries-test.true) c.entries.invariant
+    (λ e. c.if-len-wanted.false (sym e ∙ ap length (sym c.as_bytes-wanted.ensures.value)))
 
-pub returns-then-is_same_at-clause-found : goal.returns-then-is_same_at-clause-found
-returns-then-is_same_at-clause-found c =
+pub entries-preserved-else-is_before : goal.entries-preserved-else-is_before
+entries-preserved-else-is_before c =
     let bytes = c.args.bytes.now in
-    let entry = entry_between bytes c.entries.start c.in-Some.end in
-    c.target_from.ensures
-    ∙ sym (found_here (drop c.entries.start bytes) c.args.name.now entry c.in-Some.ensures.entry bytes c.entries.invariant.1
-    (same_test c.args.name.now c.as_bytes-wanted.result.now bytes c.entries.start c.in-Some.len c.in-Some.end
-    c.is_same_at.result c.as_bytes-wanted.ensures.value c.in-Some.ensures.measured.0 c.is_same_at.ensures
-    ∙ c.if-is_same_at.true))
+    let start = c.entries.start in
+    left_over bytes c.args.name.now start (get_or bytes start 0) (slice_get-get_or bytes start 0 c.entries-test.true) c.entries.invariant
+    c.if-end-bytes.false
+    (compared bytes c.as_bytes-wanted.result.now c.args.name.now start (get_or bytes start 0) c.is_before.result _
+    c.as_bytes-wanted.ensures.value c.if-len-wanted.true c.is_before.ensures c.if-is_before.false)
 
-pub returns-then-is_same_at-clause-entry : goal.returns-then-is_same_at-clause-entry
-returns-then-is_same_at-clause-entry c dir is =
-    returns-then-is_same_at-clause-found c ∙ found_in_directory c.args.bytes.now dir c.args.name.now is
+pub returns-then-end-bytes-clause-found : goal.returns-then-end-bytes-clause-found
+returns-then-end-bytes-clause-found c =
+    let bytes = c.args.bytes.now in
+    let start = c.entries.start in
+    sym (none_there bytes c.args.name.now start (get_or bytes start 0) (slice_get-get_or bytes start 0 c.entries-test.true) c.entries.invariant
+    c.if-end-bytes.true)
+
+pub returns-then-end-bytes-clause-entry : goal.returns-then-end-bytes-clause-entry
+returns-then-end-bytes-clause-entry c dir is =
+    returns-then-end-bytes-clause-found c ∙ found_in_directory c.args.bytes.now dir c.args.name.now is
+
+pub returns-then-is_before-clause-found : goal.returns-then-is_before-clause-found
+returns-then-is_before-clause-found c =
+    let bytes = c.args.bytes.now in
+    let start = c.entries.start in
+    c.target_from.ensures
+    ∙ sym (found_there bytes c.args.name.now start (get_or bytes start 0) (slice_get-get_or bytes start 0 c.entries-test.true) c.entries.invariant
+    c.if-end-bytes.false
+    (compared bytes c.as_bytes-wanted.result.now c.args.name.now start (get_or bytes start 0) c.is_before.result _
+    c.as_bytes-wanted.ensures.value c.if-len-wanted.true c.is_before.ensures c.if-is_before.true))
+
+pub returns-then-is_before-clause-entry : goal.returns-then-is_before-clause-entry
+returns-then-is_before-clause-entry c dir is =
+    returns-then-is_before-clause-found c ∙ found_in_directory c.args.bytes.now dir c.args.name.now is
 
 pub returns-clause-found : goal.returns-clause-found
 returns-clause-found c =
-    sym (leads_nowhere c.args.bytes.now (drop c.entries.start c.args.bytes.now) c.args.name.now c.entries.invariant.1 c.in_default.ensures.entry)
+    let bytes = c.args.bytes.now in
+    sym (leads_nowhere bytes (drop c.entries.start bytes) c.args.name.now c.entries.invariant
+    (entry_past bytes c.entries.start c.entries-test.false))
 
 pub returns-clause-entry : goal.returns-clause-entry
 returns-clause-entry c dir is = returns-clause-found c ∙ found_in_directory c.args.bytes.now dir c.args.name.now is

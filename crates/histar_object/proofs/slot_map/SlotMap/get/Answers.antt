@@ -9,7 +9,7 @@ returns-in_default c =
     let xs = c.self.inside.listed.items in
     let fs = c.self.inside.others.entries in
     let at_place : in_place xs c.args.id ≡ c.place.result = ap (λ l. in_place l c.args.id) (sym c.deref.ensures.value) ∙ sym c.place.ensures in
-    rw (← c.self.view_is) (c.copied.ensures ∙ c.get.ensures.value ∙ sym (found_in_map xs fs c.args.id (at_place ∙ c.in_default.is)))
+    rw (← c.self.view_is) (c.slot_among.ensures ∙ sym (found_in_map xs fs c.args.id (at_place ∙ c.in_default.is)))
 
 pub returns : goal.returns
 returns c =
