@@ -34,24 +34,30 @@ fn arg_of<'a>(alloc: Global, argument: Argument<'a>) -> Result<Arg<'a>, AllocErr
     ensures rule { IfOk result (λ arg. rule_of arg ≡ argument_rule argument.entry) }
     ensures local { IfOk result (λ arg. arg.global ≡ false) }
 {
-    Ok(match argument {
-        Argument::Flag(name, help) => Arg::new(alloc, name)
-            .long(name)
-            .action(ArgAction::SetTrue)
-            .help(help),
-        Argument::Word(name, help) => Arg::new(alloc, name).required(true).help(help),
+    match argument {
+        Argument::Flag(name, help) => Ok(
+            Arg::new(alloc, name)
+                .long(name)
+                .action(ArgAction::SetTrue)
+                .help(help),
+        ),
+        Argument::Word(name, help) => Ok(Arg::new(alloc, name).required(true).help(help)),
         Argument::Unless(name, flag, help) => Arg::new(alloc, name)
             .help(help)
-            .required_unless_present(flag)?,
-        Argument::Words(name, help) => Arg::new(alloc, name)
-            .required(true)
-            .num_args(1..)
-            .help(help),
-        Argument::Valued(name, flag, help) => Arg::new(alloc, name)
-            .long(flag)
-            .action(ArgAction::Set)
-            .help(help),
-    })
+            .required_unless_present(flag),
+        Argument::Words(name, help) => Ok(
+            Arg::new(alloc, name)
+                .required(true)
+                .num_args(1..)
+                .help(help),
+        ),
+        Argument::Valued(name, flag, help) => Ok(
+            Arg::new(alloc, name)
+                .long(flag)
+                .action(ArgAction::Set)
+                .help(help),
+        ),
+    }
 }
 
 /// Returns a subcommand, as `clap` reads and explains it.
