@@ -1,7 +1,7 @@
 -- The rules of the command line for `clap`, by the forms of the subcommands.
 use Rattle.std.specs.Prelude.{true, false, List, [], ◌∷◌, Some, codes, fold, map}
 use Rattle.clap.specs.Lexer.{usize_max}
-use Rattle.clap.specs.Words.{App, Rule, Text, new_app, new_rule, with_rule, with_subcommand}
+use Rattle.clap.specs.Words.{App, Rule, Shape, Text, new_app, new_rule, with_rule, with_subcommand}
 use Rattle.clap.specs.declared.builder.action.ArgAction.TheVariants.{Set, SetTrue}
 use Rattle.histar_command_line.specs.declared.forms.Argument.{Argument}
 use Rattle.histar_command_line.specs.declared.forms.Argument.TheVariants.{Flag, Word, Unless, Words, Valued}
@@ -38,6 +38,10 @@ argument_rule (Valued name flag help) = option_rule name.now flag.now
 -- the rules of a subcommand
 abbrev pub form_app : Form → App
 form_app form = fold with_rule (new_app form.name.now) (map argument_rule form.arguments.now)
+
+-- the shape of a subcommand
+abbrev pub form_shape : Form → Shape
+form_shape form = (form_app form).top
 
 -- the program, which has a version, and shows its help if no word is given
 abbrev pub named_app : App

@@ -1,8 +1,8 @@
 //! The command line as `clap` reads and explains it.
-ghost use Rattle.std.specs.Prelude.{◌≡◌, false, IfOk};
+ghost use Rattle.std.specs.Prelude.{◌≡◌, false, IfOk, fold, map};
 ghost use Rattle.clap.specs.declared.builder.command.Command.TheViews.{out-Command};
 ghost use Rattle.clap.specs.Words.{app_of, rule_of, with_subcommand};
-ghost use Rattle.histar_command_line.specs.Forms.{argument_rule, form_app, histar_app};
+ghost use Rattle.histar_command_line.specs.Forms.{argument_rule, form_app, form_shape, histar_app, named_app};
 
 use crate::forms::{self, Argument, Form};
 use clap::{Arg, ArgAction, Command};
@@ -34,24 +34,30 @@ fn arg_of<'a>(alloc: Global, argument: Argument<'a>) -> Result<Arg<'a>, AllocErr
     ensures rule { IfOk result (λ arg. rule_of arg ≡ argument_rule argument.entry) }
     ensures local { IfOk result (λ arg. arg.global ≡ false) }
 {
-    Ok(match argument {
-        Argument::Flag(name, help) => Arg::new(alloc, name)
-            .long(name)
-            .action(ArgAction::SetTrue)
-            .help(help),
-        Argument::Word(name, help) => Arg::new(alloc, name).required(true).help(help),
+    match argument {
+        Argument::Flag(name, help) => Ok(
+            Arg::new(alloc, name)
+                .long(name)
+                .action(ArgAction::SetTrue)
+                .help(help),
+        ),
+        Argument::Word(name, help) => Ok(Arg::new(alloc, name).required(true).help(help)),
         Argument::Unless(name, flag, help) => Arg::new(alloc, name)
             .help(help)
-            .required_unless_present(flag)?,
-        Argument::Words(name, help) => Arg::new(alloc, name)
-            .required(true)
-            .num_args(1..)
-            .help(help),
-        Argument::Valued(name, flag, help) => Arg::new(alloc, name)
-            .long(flag)
-            .action(ArgAction::Set)
-            .help(help),
-    })
+            .required_unless_present(flag),
+        Argument::Words(name, help) => Ok(
+            Arg::new(alloc, name)
+                .required(true)
+                .num_args(1..)
+                .help(help),
+        ),
+        Argument::Valued(name, flag, help) => Ok(
+            Arg::new(alloc, name)
+                .long(flag)
+                .action(ArgAction::Set)
+                .help(help),
+        ),
+    }
 }
 
 /// Returns a subcommand, as `clap` reads and explains it.
@@ -77,23 +83,48 @@ fn add<'a>(alloc: Global, histar: Command<'a>, form: &Form<'a>) -> Result<Comman
     histar.subcommand(subcommand)
 }
 
+/// Adds subcommands to the program, one after another.
+fn add_each<'a>(
+    alloc: Global,
+    mut histar: Command<'a>,
+    forms: &[Form<'a>],
+) -> Result<Command<'a>, AllocError>
+    ensures { IfOk result (λ c. app_of c
+        ≡ fold with_subcommand (app_of histar.entry) (map form_shape forms.now)) }
+{
+    'forms: for form in forms {
+        histar = add(alloc, histar, form)?;
+    }
+    Ok(histar)
+}
+
+/// Returns the program without its subcommands.
+fn named<'a>(alloc: Global) -> Result<Command<'a>, AllocError>
+    ensures { IfOk result (λ c. app_of c ≡ named_app) }
+{
+    Command::new(alloc, "histar")
+        .version(VERSION)
+        .about(ABOUT)
+        .after_help(AFTER_HELP)
+        .arg_required_else_help(true)
+        .bin_name("histar")
+}
+
 /// Returns the program, as `clap` reads and explains it.
 pub(crate) fn command<'a>(alloc: Global) -> Result<Command<'a>, AllocError>
     ensures { IfOk result (λ c. app_of c ≡ histar_app) }
 {
-    let histar = Command::new(alloc, "histar")
-        .version(VERSION)
-        .about(ABOUT)
-        .after_help(AFTER_HELP)
-        .arg_required_else_help(true);
-    let histar = histar.bin_name("histar")?;
-    let histar = add(alloc, histar, &forms::run())?;
-    let histar = add(alloc, histar, &forms::raw())?;
-    let histar = add(alloc, histar, &forms::check())?;
-    let histar = add(alloc, histar, &forms::access())?;
-    let histar = add(alloc, histar, &forms::diff())?;
-    let histar = add(alloc, histar, &forms::trust())?;
-    let histar = add(alloc, histar, &forms::lint())?;
-    let histar = add(alloc, histar, &forms::report())?;
-    add(alloc, histar, &forms::test())
+    let histar = named(alloc)?;
+    let forms = [
+        forms::run(),
+        forms::raw(),
+        forms::check(),
+        forms::access(),
+        forms::diff(),
+        forms::trust(),
+        forms::lint(),
+        forms::report(),
+        forms::test(),
+    ];
+    add_each(alloc, histar, &forms)
 }

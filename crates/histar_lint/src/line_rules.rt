@@ -1,5 +1,5 @@
 //! The rules for the bytes of a line and for its words.
-ghost use Rattle.std.specs.Prelude.{◌≡◌, IfOk, option_map};
+ghost use Rattle.std.specs.Prelude.{◌≡◌, ◌==◌, ◌&&◌, IfOk, option_map};
 ghost use Rattle.std.specs.Option.{option_copied};
 ghost use Rattle.histar_lint.specs.Lines.{begins_with, byte_rules, ends_with, first_sentence, has_comment};
 ghost use Rattle.histar_lint.specs.Lines.{long_text, unprintable_from, unprintable_text, word_rules};
@@ -31,13 +31,20 @@ fn ends_with(text: &[u8], byte: u8) -> bool
     }
 }
 
+/// Checks whether a byte is a space and the text behind it begins with a number sign.
+fn begins_comment(byte: u8, behind: &[u8]) -> bool
+    ensures { result ≡ (byte == 32 && begins_with 35 behind.now) }
+{
+    byte == b' ' && begins_with(behind, b'#')
+}
+
 /// Checks whether a text has a space directly followed by a number sign.
 fn has_comment(text: &[u8]) -> bool
     ensures { result ≡ has_comment text.now }
 {
     let mut rest = text;
     while let [first, behind @ ..] = rest {
-        if *first == b' ' && begins_with(behind, b'#') {
+        if begins_comment(*first, behind) {
             return true;
         }
         rest = behind;
