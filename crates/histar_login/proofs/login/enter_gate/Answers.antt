@@ -23,7 +23,7 @@ returns-in_err-entry g c =
     let new = c.enter.new.self in
     let own = c.args.own.now in
     let call = entering c.args.given.now.owners.now c.args.number own.0 own.1 in
-    let labels : Levels × Levels = c.in_ok-wanted.field-0 in
+    let labels : Levels × Levels = (c.in_ok-wanted.wanted, c.in_ok-wanted.clearance) in
     let raw = Enter c.new.result c.new-gate.result labels.0 labels.1 own.0 in
     fails_so t (ask call) old new _ _ c.from_residual-in_err-entry.ensures.1
     (enters t old new _ c.args.given.now.owners.now c.args.number own c.new.result c.new-gate.result labels c.new.ensures
@@ -36,7 +36,7 @@ returns g c =
     let old = c.args.kernel.now in
     let new = c.enter.new.self in
     let own = c.args.own.now in
-    let labels : Levels × Levels = c.in_ok-wanted.field-0 in
+    let labels : Levels × Levels = (c.in_ok-wanted.wanted, c.in_ok-wanted.clearance) in
     let raw = Enter c.new.result c.new-gate.result labels.0 labels.1 own.0 in
     enters t old new _ c.args.given.now.owners.now c.args.number own c.new.result c.new-gate.result labels c.new.ensures
     (c.new-gate.ensures ∙ ap (λ (n : ℕ). 2 + 2 * n) c.from.ensures) c.in_ok-wanted.ensures

@@ -39,3 +39,19 @@ returns-in_err-owners g c =
     runs_as t (login_program accounts caller c.args.name c.args.password) program old old (settled c.from_residual.result) at_number
     (call_fails_so t program old old Stopped c.from_residual.result c.from_residual.ensures.1
     (call_fails t (ask OwnLabel) old old _ Stopped (before_ask t OwnLabel old)))
+
+pub returns-in_err-given : goal.returns-in_err-given
+unfolding login_as_program
+returns-in_err-given g c =
+    let t = c.args.caller.now.thread in
+    let old = c.args.kernel.now in
+    let accounts = c.args.users.now in
+    let caller = c.args.caller.now in
+    let number = c.in-Some.number in
+    let program = login_as_program caller number (owners_of accounts number c.args.name) c.args.password in
+    let at_number : login_program accounts caller c.args.name c.args.password ≡ program =
+    login_numbered accounts caller c.args.name c.args.password
+    ∙ ap (login_of accounts caller c.args.name c.args.password) (sym c.number_of.ensures.number ∙ c.in-Some.is) in
+    runs_as t (login_program accounts caller c.args.name c.args.password) program old old (settled c.from_residual-in_err-given.result) at_number
+    (call_fails_so t program old old Stopped c.from_residual-in_err-given.result c.from_residual-in_err-given.ensures.1
+    (call_fails t (ask OwnLabel) old old _ Stopped (before_ask t OwnLabel old)))

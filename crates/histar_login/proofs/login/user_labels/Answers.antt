@@ -9,10 +9,10 @@ pub returns : goal.returns
 returns c =
     let r = c.args.caller.now.read in
     let w = c.args.caller.now.write in (
-      c.in_ok-label-2.ensures
-          ∙ ap (λ (L : Levels). with_level (with_level L r Star) w Star) c.in_ok-label.ensures
-          ∙ sym (user_label-own_last c.args.caller.now c.args.owners.now),
-      c.in_ok-clearance-2.ensures
-          ∙ ap (λ (L : Levels). with_level (with_level L r L3) w L3) c.in_ok-clearance.ensures
-          ∙ sym (user_clearance-own_last c.args.caller.now c.args.owners.now),
+      c.in_ok-label.ensures
+          ∙ ap (λ (L : Levels). with_level (with_level L r Star) w Star) c.args.given.label_is
+          ∙ sym (user_label-own_last c.args.caller.now c.args.given.owners.now),
+      c.in_ok-clearance.ensures
+          ∙ ap (λ (L : Levels). with_level (with_level L r L3) w L3) c.args.given.clearance_is
+          ∙ sym (user_clearance-own_last c.args.caller.now c.args.given.owners.now),
     )
