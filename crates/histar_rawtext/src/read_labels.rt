@@ -43,8 +43,10 @@ fn read_exception(text: &[u8]) -> Result<(Category, Level), Unread>
 {
     let (category, level) = split_at_first(text, b':');
     let category = read_category(category)?;
-    let level = read_level(level.ok_or(Unread::NoCall)?)?;
-    Ok((category, level))
+    let Some(level) = level else {
+        return Err(Unread::NoCall);
+    };
+    Ok((category, read_level(level)?))
 }
 
 /// Splits a text at its commas.

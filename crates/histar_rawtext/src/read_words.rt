@@ -88,14 +88,18 @@ fn read_entry_named(name: &[u8], number: &[u8]) -> Result<Entry, Unread>
 pub(crate) fn read_entry(word: &[u8]) -> Result<Entry, Unread>
     ensures { Gives result (entry_in word.now) }
 {
-    let (name, number) = split_at_first(word, b':');
-    read_entry_named(name, number.ok_or(Unread::NoCall)?)
+    let (name, Some(number)) = split_at_first(word, b':') else {
+        return Err(Unread::NoCall);
+    };
+    read_entry_named(name, number)
 }
 
 /// Returns the first of the words, which have a space between two, and the words after it, if there are any.
 pub(crate) fn next_word(words: Option<&[u8]>) -> Result<(&[u8], Option<&[u8]>), Unread>
     ensures { GivesWord result (next_word (option_copied words.entry)) }
 {
-    let text = words.ok_or(Unread::NoCall)?;
-    Ok(split_at_first(text, b' '))
+    match words {
+        Some(text) => Ok(split_at_first(text, b' ')),
+        None => Err(Unread::NoCall),
+    }
 }
