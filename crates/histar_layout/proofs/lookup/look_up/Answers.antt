@@ -1,5 +1,5 @@
 -- Proves the goals of `look_up` of src/lookup.rt that the search leaves open.
-use Rattle.std.proofs.Common.{◌≡◌, ℕ, ◌+◌, ◌-◌, List, Bool, length, get_or, sym, ap, ◌∙◌, arith}
+use Rattle.std.proofs.Common.{◌≡◌, ℕ, ◌+◌, ◌-◌, ◌<◌, List, Bool, length, get_or, sym, ap, ◌∙◌, arith}
 use Rattle.std.specs.Prelude.{slice_range}
 use Rattle.std.proofs.lemmas.Option.{slice_get-get_or}
 use Rattle.histar_flat.specs.PathOrder.{same}
@@ -33,14 +33,18 @@ pub entries-preserved : goal.entries-preserved
 entries-preserved c =
     let bytes = c.args.bytes.now in
     let start = c.entries.start in
-    stepped_over bytes c.args.name.now start (get_or bytes start 0) (slice_get-get_or bytes start 0 (omega (arith, c.if-bytes-size.false, c.entries-test.true))) c.entries.invariant
+    let there : start < length bytes = omega (arith, c.if-bytes-size.false, c.entries-test.true) in
+    let read = slice_get-get_or bytes start 0 there in
+    stepped_over bytes c.args.name.now start (get_or bytes start 0) read c.entries.invariant
     (λ e. c.if-len-wanted.false (sym e ∙ ap length (sym c.as_bytes-wanted.ensures.value)))
 
 pub entries-preserved-else-is_before : goal.entries-preserved-else-is_before
 entries-preserved-else-is_before c =
     let bytes = c.args.bytes.now in
     let start = c.entries.start in
-    left_over bytes c.args.name.now start (get_or bytes start 0) (slice_get-get_or bytes start 0 (omega (arith, c.if-bytes-size.false, c.entries-test.true))) c.entries.invariant
+    let there : start < length bytes = omega (arith, c.if-bytes-size.false, c.entries-test.true) in
+    let read = slice_get-get_or bytes start 0 there in
+    left_over bytes c.args.name.now start (get_or bytes start 0) read c.entries.invariant
     (omega (arith, c.if-bytes-size.false, c.entries-test.true, c.if-len-wanted.true))
     (compared bytes c.as_bytes-wanted.result.now c.args.name.now start (get_or bytes start 0) c.is_before.result _
     c.as_bytes-wanted.ensures.value c.if-len-wanted.true c.is_before.ensures c.if-is_before.false)
@@ -59,8 +63,10 @@ pub returns-then-is_before-clause-found : goal.returns-then-is_before-clause-fou
 returns-then-is_before-clause-found c =
     let bytes = c.args.bytes.now in
     let start = c.entries.start in
+    let there : start < length bytes = omega (arith, c.if-bytes-size.false, c.entries-test.true) in
+    let read = slice_get-get_or bytes start 0 there in
     c.target_from.ensures
-    ∙ sym (found_there bytes c.args.name.now start (get_or bytes start 0) (slice_get-get_or bytes start 0 (omega (arith, c.if-bytes-size.false, c.entries-test.true))) c.entries.invariant
+    ∙ sym (found_there bytes c.args.name.now start (get_or bytes start 0) read c.entries.invariant
     (omega (arith, c.if-bytes-size.false, c.entries-test.true, c.if-len-wanted.true))
     (compared bytes c.as_bytes-wanted.result.now c.args.name.now start (get_or bytes start 0) c.is_before.result _
     c.as_bytes-wanted.ensures.value c.if-len-wanted.true c.is_before.ensures c.if-is_before.true))
