@@ -4,7 +4,8 @@ ghost use Rattle.std.specs.Prelude.{◌≡◌, ◌++◌, drop, Some, IfOk, optio
 ghost use Rattle.std.specs.Option.{option_copied};
 ghost use Rattle.histar_script.specs.CallForms.{a_path, a_mode, any_bytes, a_name, a_password, writing_calls, reading_calls};
 ghost use Rattle.histar_script.specs.CallForms.{entry_calls, process_calls};
-ghost use Rattle.histar_script.specs.Reading.{user_of, two_values_of, lone_call_of, call_among, call_of, call_item, group_item, user_item, words_item, item_of};
+ghost use Rattle.histar_script.specs.Reading.{user_of, two_values_of, lone_call_of, call_among, call_of, call_item, words_item, item_of};
+ghost use Rattle.histar_script.specs.Reading.{group_item, user_item};
 
 use crate::groups::read_group;
 use crate::items::Item;
