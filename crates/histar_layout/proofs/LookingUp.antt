@@ -148,10 +148,6 @@ module _ (bytes : List ℕ) (start len : ℕ) (read : slice_get bytes start ≡ 
         (front_short 17 (drop len rest) (omega (arith, length-drop len rest, length-drop (start + 1) bytes)))
   ]
 
--- after the bytes there is no entry
-pub entry_past : (bytes : List ℕ) (start : ℕ) → length bytes ≤ start → slot_at (drop start bytes) ≡ None
-entry_past bytes start past = ap slot_at (drop_all start bytes past) ∙ none_at_end
-
 module _ (rest : List ℕ) (name : Name) (x : (List ℕ × List ℕ) × List ℕ) (is : slot_at rest ≡ Some x) where
   -- searching passes over one entry
   over_one : (most : ℕ) (b : Bool) → same name x.0.0 ≡ b → found_among (suc most) rest name ≡ cond b (target_from x.0.1) (found_among most x.1 name)
