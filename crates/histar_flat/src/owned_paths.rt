@@ -1,5 +1,5 @@
 //! Paths that own their memory, as calls hold them.
-ghost use Rattle.std.specs.Prelude.{◌≡◌, ◌<◌, ◌≤◌, [], ◌∷◌, length, IfOk, IsTrue, OnOk};
+ghost use Rattle.std.specs.Prelude.{◌≡◌, ◌≤◌, [], length, reverse, IfOk, IsTrue};
 ghost use Rattle.histar_flat.specs.Words.{most_names, is_path, path_of, path_from};
 
 use crate::names::Name;
@@ -35,14 +35,14 @@ impl OwnedPath {
         Ok(OwnedPath { names })
     }
 
-    // Goes on to an entry of the directory at this path.
-    fn enter(&mut self, name: Name) -> Result<(), AllocError>
-        requires { length self.old < most_names }
-        ensures { OnOk result (self.new ≡ name ∷ self.old) }
+    // Returns the path along these names from `/` on, the first name first.
+    fn along(names: Vec<Name>) -> OwnedPath
+        requires { IsTrue (is_path (reverse names.items)) }
+        ensures { result ≡ reverse names.items }
     {
-        let _ = name.as_bytes();
-        self.names.insert(0, name)?;
-        Ok(())
+        let mut names = names;
+        names.reverse();
+        OwnedPath { names }
     }
 
     /// Returns a copy of the path, in memory of its own.
@@ -89,17 +89,17 @@ pub fn read_owned_path(alloc: Global, text: &[u8]) -> Result<Option<OwnedPath>, 
 fn read_owned_names(alloc: Global, text: &[u8]) -> Result<Option<OwnedPath>, AllocError>
     ensures { IfOk result (λ path. path ≡ path_from most_names [] text.now) }
 {
-    let mut path = OwnedPath::root(alloc, count_names(text))?;
+    let mut names = Vec::with_capacity(alloc, count_names(text))?;
     let mut rest = text;
     for _ in 0..MOST_NAMES {
         let (word, after) = split_at_first(rest, b'/');
         let Some(name) = read_name(word) else {
             return Ok(None);
         };
-        path.enter(name)?;
+        names.push(name)?;
         match after {
-            None => return Ok(Some(path)),
-            Some(names) => rest = names,
+            None => return Ok(Some(OwnedPath::along(names))),
+            Some(others) => rest = others,
         }
     }
     Ok(None)

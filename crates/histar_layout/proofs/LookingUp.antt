@@ -6,7 +6,7 @@ use Rattle.std.specs.List.{flat_map, AllByRecursion}
 use Rattle.std.specs.Cmp.Lexicographic.{bytes_decides, texts_ties}
 use Rattle.std.specs.FinMap as map
 use Rattle.std.proofs.lemmas.List.{length-drop, length-take, get_or-take, get_or-drop, ext_get_or, drop-drop, drop_more, drop_all}
-use Rattle.std.proofs.lemmas.Bool.{cases_lt, false_from_ne_true, le-leb, lt-leb}
+use Rattle.std.proofs.lemmas.Bool.{cases_lt, false_from_ne_true, leb-true, le-leb, lt-leb}
 use Rattle.std.proofs.lemmas.Option.{cond_some, same_Some, slice_get_within, get_or_from_slice_get}
 use Rattle.histar_flat.specs.Words.{Name, is_name}
 use Rattle.histar_flat.specs.PathOrder.{same}
@@ -63,6 +63,31 @@ slot_shorter (len ∷ bytes) x e =
     let b = bind_some (front_at 17 a.0.1) (λ revealed. Some ((a.0.0, revealed.0), revealed.1)) x a.2 in
     let same_rest : b.0.1 ≡ x.1 = ap (λ (y : (List ℕ × List ℕ) × List ℕ). y.1) (same_Some ((a.0.0, b.0.0), b.0.1) x b.2) in
     omega (arith, ap length same_rest, front_shorter len bytes a.0 a.1, front_shorter 17 a.0.1 b.0 b.1)
+
+-- a front of n bytes and the rest are all bytes
+front_room : (n : ℕ) (bytes : List ℕ) (x : List ℕ × List ℕ) → front_at n bytes ≡ Some x
+    → (length x.0 ≡ n) × (length x.0 + length x.1 ≡ length bytes)
+unfolding front_at
+front_room n bytes x e =
+    let g = cond_some (leb n (length bytes)) (take n bytes, drop n bytes) x e in
+    let long = leb-true n (length bytes) g.0 in
+    let front = ap (λ (y : List ℕ × List ℕ). length y.0) g.1 in
+    let rest = ap (λ (y : List ℕ × List ℕ). length y.1) g.1 in (
+      omega (arith, long, front, length-take n bytes),
+      omega (arith, long, front, rest, length-take n bytes, length-drop n bytes),
+    )
+
+-- an entry has its name, and 18 bytes more
+slot_room : (rest : List ℕ) (x : (List ℕ × List ℕ) × List ℕ) → slot_at rest ≡ Some x → length x.0.0 + 18 ≤ length rest
+unfolding slot_at
+slot_room [] x e = absurd cc
+slot_room (len ∷ bytes) x e =
+    let a = bind_some (front_at len bytes) (λ text. front_at 17 text.1 >>= λ revealed. Some ((text.0, revealed.0), revealed.1)) x e in
+    let b = bind_some (front_at 17 a.0.1) (λ revealed. Some ((a.0.0, revealed.0), revealed.1)) x a.2 in
+    let same_text : a.0.0 ≡ x.0.0 = ap (λ (y : (List ℕ × List ℕ) × List ℕ). y.0.0) (same_Some ((a.0.0, b.0.0), b.0.1) x b.2) in
+    let name = front_room len bytes a.0 a.1 in
+    let target = front_room 17 a.0.1 b.0 b.1 in
+    omega (arith, ap length same_text, name.1, target.0, target.1)
 
 -- the first n bytes are there, where there are that many
 front_there : (n : ℕ) (bytes : List ℕ) → n ≤ length bytes → front_at n bytes ≡ Some (take n bytes, drop n bytes)
@@ -122,10 +147,6 @@ module _ (bytes : List ℕ) (start len : ℕ) (read : slice_get bytes start ≡ 
         ∙ ap (λ o. o >>= λ revealed. Some ((take len rest, revealed.0), revealed.1))
         (front_short 17 (drop len rest) (omega (arith, length-drop len rest, length-drop (start + 1) bytes)))
   ]
-
--- after the bytes there is no entry
-pub entry_past : (bytes : List ℕ) (start : ℕ) → length bytes ≤ start → slot_at (drop start bytes) ≡ None
-entry_past bytes start past = ap slot_at (drop_all start bytes past) ∙ none_at_end
 
 module _ (rest : List ℕ) (name : Name) (x : (List ℕ × List ℕ) × List ℕ) (is : slot_at rest ≡ Some x) where
   -- searching passes over one entry
@@ -189,6 +210,24 @@ same_bytes name bytes start fits each =
     (ext_get_or 0 name (slice_range bytes start (start + length name)) (sym (part_len bytes start (length name) fits))
     (λ k below. each k below ∙ sym (part_at bytes start (length name) k below)))
 
+-- in fewer bytes than an entry of a name has, the name is not found
+too_short : (most : ℕ) (rest : List ℕ) (name : Name) → length rest < length name + 18 → found_among most rest name ≡ None
+unfolding found_among
+too_short zero rest name short = refl
+too_short (suc most) rest name short = elim (slot_at rest) as (λ o. slot_at rest ≡ o → found_among (suc most) rest name ≡ None) [
+  | None ↦ λ is. nowhere (suc most) rest name is
+  | Some x ↦ λ is.
+      let other : same name x.0.0 ≡ false =
+      false_from_ne_true (same name x.0.0) (λ e. absurd (omega (arith, slot_room rest x is, ap length ((bytes_decides name x.0.0).0 e)))) in
+      over_one rest name x is most false other ∙ too_short most x.1 name (omega (arith, slot_shorter rest x is))
+] refl
+
+-- so it is where fewer bytes are left
+pub out_of_reach : (bytes : List ℕ) (start : ℕ) (name : Name) → IsLeft bytes (drop start bytes) name
+    → length bytes < start + (length name + 18) → found_in bytes name ≡ None
+out_of_reach bytes start name left short =
+    left.same_found ∙ too_short left.most (drop start bytes) name (omega (arith, length-drop start bytes))
+
 -- a name has bytes
 pub has_bytes : (name : List ℕ) → IsTrue (is_name name) → 0 < length name
 unfolding is_name
@@ -204,7 +243,7 @@ module _ (bytes : List ℕ) (name : Name) (start len : ℕ) (read : slice_get by
       λ i. same name (slice_range bytes (start + 1) (to i))
 
   -- where the entry breaks off, the name is not found
-  pub none_there : length bytes < start + len + 18 → found_in bytes name ≡ None
+  none_there : length bytes < start + len + 18 → found_in bytes name ≡ None
   none_there short = leads_nowhere bytes (drop start bytes) name left (entry_broken bytes start len read short)
 
   -- where an entry that is all there has the name, its target is found

@@ -13,22 +13,26 @@ use histar_flat::Name;
 const BESIDE_NAME: usize = 1 + TARGET_LENGTH;
 
 /// Looks up the target of the entry of this name. It goes from entry to entry, up to the one that has the
-/// name and no further. Of another one it reads the length, and bytes of the name only where that is as long.
-/// Where the bytes end or break off before one that has the name, there is none. It takes no memory.
+/// name, and no further than one of this name can begin. Of another one it reads the length, and bytes of the name
+/// only where that is as long. Where the bytes end or break off before one that has the name, there is none. It
+/// takes no memory.
 pub fn look_up(bytes: &[u8], name: &Name) -> Option<Target>
     ensures found { result ≡ found_in bytes.now name.now }
     ensures entry { (dir : Entries) → IsDirectory bytes.now dir → result ≡ map.get dir name.now }
 {
     let wanted = name.as_bytes();
     let last = wanted[wanted.len() - 1];
+    let size = wanted.len() + BESIDE_NAME;
+    if bytes.len() < size {
+        return None;
+    }
+    // No entry of this name begins behind this position.
+    let reach = bytes.len() - size;
     let mut start = 0;
-    'entries: while start < bytes.len() {
+    'entries: while start <= reach {
         let len = bytes[start] as usize;
         let end = start + len + BESIDE_NAME;
         if len == wanted.len() {
-            if end > bytes.len() {
-                return None;
-            }
             if is_before(wanted, last, bytes, end - TARGET_LENGTH) {
                 return target_from(&bytes[end - TARGET_LENGTH..end]);
             }

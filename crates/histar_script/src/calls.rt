@@ -1,10 +1,11 @@
 //! Reading a line of a script. `Ok(None)` is a bad line. Paths, the bytes of a `write` or an `append` and the
 //! members of a group are copied, and memory may run out.
-ghost use Rattle.std.specs.Prelude.{◌≡◌, ◌++◌, drop, Some, IfOk};
+ghost use Rattle.std.specs.Prelude.{◌≡◌, ◌++◌, drop, Some, IfOk, option_map};
 ghost use Rattle.std.specs.Option.{option_copied};
 ghost use Rattle.histar_script.specs.CallForms.{a_path, a_mode, any_bytes, a_name, a_password, writing_calls, reading_calls};
 ghost use Rattle.histar_script.specs.CallForms.{entry_calls, process_calls};
 ghost use Rattle.histar_script.specs.Reading.{user_of, two_values_of, lone_call_of, call_among, call_of, call_item, words_item, item_of};
+ghost use Rattle.histar_script.specs.Reading.{group_item, user_item};
 
 use crate::groups::read_group;
 use crate::items::Item;
@@ -122,14 +123,49 @@ fn writing_call(alloc: Global, word: &[u8], rest: &[u8]) -> Result<Option<UnixCa
         call ≡ call_among (writing_calls ++ reading_calls ++ entry_calls ++ process_calls) word.now (Some rest.now)) }
 {
     if word == b"create".as_slice() {
-        let values = read_path_and_mode(alloc, rest)?;
-        Ok(values.map(|(path, mode)| UnixCall::Create(path, mode)))
+        create_call(alloc, rest)
     } else if word == b"mkdir".as_slice() {
-        let values = read_path_and_mode(alloc, rest)?;
-        Ok(values.map(|(path, mode)| UnixCall::Mkdir(path, mode)))
+        mkdir_call(alloc, rest)
     } else {
         bytes_call(alloc, word, rest)
     }
+}
+
+// Reads the arguments of `create`. Each call of two arguments has its own function, since one for all would clear
+// the room for the arguments of each of them.
+#[inline(never)]
+fn create_call(alloc: Global, rest: &[u8]) -> Result<Option<UnixCall>, AllocError>
+    ensures { IfOk result (λ call. call ≡ option_map (λ values. UnixCall.Create values.0 values.1) (two_values_of a_path a_mode rest.now)) }
+{
+    let values = read_path_and_mode(alloc, rest)?;
+    Ok(values.map(|(path, mode)| UnixCall::Create(path, mode)))
+}
+
+// Reads the arguments of `mkdir`.
+#[inline(never)]
+fn mkdir_call(alloc: Global, rest: &[u8]) -> Result<Option<UnixCall>, AllocError>
+    ensures { IfOk result (λ call. call ≡ option_map (λ values. UnixCall.Mkdir values.0 values.1) (two_values_of a_path a_mode rest.now)) }
+{
+    let values = read_path_and_mode(alloc, rest)?;
+    Ok(values.map(|(path, mode)| UnixCall::Mkdir(path, mode)))
+}
+
+// Reads the arguments of `write`.
+#[inline(never)]
+fn write_call(alloc: Global, rest: &[u8]) -> Result<Option<UnixCall>, AllocError>
+    ensures { IfOk result (λ call. call ≡ option_map (λ values. UnixCall.Write values.0 values.1) (two_values_of a_path any_bytes rest.now)) }
+{
+    let values = read_path_and_bytes(alloc, rest)?;
+    Ok(values.map(|(path, bytes)| UnixCall::Write(path, bytes)))
+}
+
+// Reads the arguments of `append`.
+#[inline(never)]
+fn append_call(alloc: Global, rest: &[u8]) -> Result<Option<UnixCall>, AllocError>
+    ensures { IfOk result (λ call. call ≡ option_map (λ values. UnixCall.Append values.0 values.1) (two_values_of a_path any_bytes rest.now)) }
+{
+    let values = read_path_and_bytes(alloc, rest)?;
+    Ok(values.map(|(path, bytes)| UnixCall::Append(path, bytes)))
 }
 
 /// Reads the arguments of a call whose word is `word`, if it is a call that writes bytes, or one of the later
@@ -139,11 +175,9 @@ fn bytes_call(alloc: Global, word: &[u8], rest: &[u8]) -> Result<Option<UnixCall
         call ≡ call_among (drop 2 writing_calls ++ reading_calls ++ entry_calls ++ process_calls) word.now (Some rest.now)) }
 {
     if word == b"write".as_slice() {
-        let values = read_path_and_bytes(alloc, rest)?;
-        Ok(values.map(|(path, bytes)| UnixCall::Write(path, bytes)))
+        write_call(alloc, rest)
     } else if word == b"append".as_slice() {
-        let values = read_path_and_bytes(alloc, rest)?;
-        Ok(values.map(|(path, bytes)| UnixCall::Append(path, bytes)))
+        append_call(alloc, rest)
     } else {
         reading_call(alloc, word, rest)
     }
@@ -167,6 +201,7 @@ fn reading_call(alloc: Global, word: &[u8], rest: &[u8]) -> Result<Option<UnixCa
 }
 
 /// Reads the arguments of a call whose word is `word`, if it is a call on an entry, or of a process.
+#[inline(never)]
 fn entry_call(alloc: Global, word: &[u8], rest: &[u8]) -> Result<Option<UnixCall>, AllocError>
     ensures { IfOk result (λ call.
         call ≡ call_among (entry_calls ++ process_calls) word.now (Some rest.now)) }
@@ -225,12 +260,28 @@ fn read_words(alloc: Global, line: &[u8]) -> Result<Option<Item>, AllocError>
         return Ok(None);
     };
     if word == b"user".as_slice() {
-        return Ok(read_user(rest).map(Item::User));
+        return Ok(user_item(rest));
     }
     if word == b"group".as_slice() {
-        return Ok(read_group(alloc, rest)?.map(Item::Group));
+        return group_item(alloc, rest);
     }
     read_process_call(alloc, word, rest)
+}
+
+// Reads what follows the word of a line that declares a user. Few lines do, so it is apart from the others.
+#[inline(never)]
+fn user_item(rest: &[u8]) -> Option<Item>
+    ensures { result ≡ user_item rest.now }
+{
+    read_user(rest).map(Item::User)
+}
+
+// Reads what follows the word of a line that declares a group.
+#[inline(never)]
+fn group_item(alloc: Global, rest: &[u8]) -> Result<Option<Item>, AllocError>
+    ensures { IfOk result (λ item. item ≡ group_item rest.now) }
+{
+    Ok(read_group(alloc, rest)?.map(Item::Group))
 }
 
 /// Reads `CALL` behind a word that may be a process.

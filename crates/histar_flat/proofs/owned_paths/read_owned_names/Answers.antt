@@ -1,42 +1,72 @@
 -- Proves the goals of `read_owned_names` of src/owned_paths.rt that the search leaves open.
-use Rattle.std.proofs.Common.{◌≡◌, ◌+◌, ◌-◌, ◌<◌, [], Some, None, sym, ap, subst, ◌∙◌, arith}
+use Rattle.std.proofs.Common.{◌≡◌, ℕ, suc, ◌+◌, ◌-◌, ◌<◌, true, leb, ◌&&◌, IsTrue, List, [], ◌∷◌, ◌++◌, length}
+use Rattle.std.proofs.Common.{Some, None, sym, ap, subst, ◌∙◌, arith}
+use Rattle.std.specs.Prelude.{reverse}
+use Rattle.std.specs.List.{list_all}
 use Rattle.std.specs.Option.{option_copied}
-use Rattle.histar_flat.specs.Words.{slash, split_at_first, name_of, path_from}
+use Rattle.std.proofs.lemmas.Bool.{and_parts, le-leb}
+use Rattle.std.proofs.lemmas.List.{reverse-append}
+use Rattle.std.proofs.lemmas.Option.{cond_some}
+use Rattle.histar_flat.specs.Words.{Name, Path, is_name, is_path, slash, split_at_first, name_of, path_from}
 use Rattle.histar_flat.proofs.PathLemmas.{no_name, last_name, next_name}
 use Rattle.histar_flat.proofs.owned_paths.read_owned_names.Goals as goal
+
+-- a path of fewer than eight names leads on to an entry
+leads_on : (name : Name) (path : Path) → length path < 8 → is_name name ≡ true → IsTrue (is_path path) → IsTrue (is_path (name ∷ path))
+leads_on name path few named right =
+    let parts = and_parts (leb (length path) 8) (list_all is_name path) right in
+    ap (λ b. b && (is_name name && list_all is_name path)) (le-leb (suc (length path)) 8 (omega arith))
+    ∙ ap (λ b. b && list_all is_name path) named ∙ parts.1
+
+-- the name that words spell is a name
+spelled : (word : List ℕ) (name : Name) → name_of word ≡ Some name → is_name name ≡ true
+spelled word name is =
+    let found = cond_some (is_name word) word name is in
+    ap is_name (sym found.1) ∙ found.0
+
+-- a name behind others comes before them in a path
+turned : (names more : List Name) (name : Name) → more ≡ names ++ name ∷ [] → reverse more ≡ name ∷ reverse names
+turned names more name is = ap reverse is ∙ reverse-append names (name ∷ [])
 
 pub returns-in_default : goal.returns-in_default
 returns-in_default c =
     let none : name_of (split_at_first slash c.loop.rest.now).0 ≡ None =
     ap name_of (sym c.split_at_first.ensures.before) ∙ sym c.read_name.ensures ∙ c.in_default.is in
-    sym (no_name (8 - c.loop.counter) c.loop.path c.loop.rest.now none) ∙ c.loop.invariant.0
+    sym (no_name (8 - c.loop.counter) (reverse c.loop.names.items) c.loop.rest.now none) ∙ c.loop.invariant.0
 
 pub returns-in-None : goal.returns-in-None
 returns-in-None c =
     let name = c.in-Some.name in
+    let path = reverse c.loop.names.items in
     let is : name_of (split_at_first slash c.loop.rest.now).0 ≡ Some name =
     ap name_of (sym c.split_at_first.ensures.before) ∙ sym c.read_name.ensures ∙ c.in-Some.is in
     let end : (split_at_first slash c.loop.rest.now).1 ≡ None = sym c.split_at_first.ensures.after ∙ ap option_copied c.in-None.is in
     let left : 0 < 8 - c.loop.counter = omega (arith, c.loop-test.true) in
-    ap (λ path. Some path) c.in_ok-enter.ensures
-    ∙ sym (last_name (8 - c.loop.counter) c.loop.path c.loop.rest.now name left is end) ∙ c.loop.invariant.0
+    ap Some (c.along.ensures ∙ turned c.loop.names.items c.push.new.self.items name c.in_ok-push.ensures.items)
+    ∙ sym (last_name (8 - c.loop.counter) path c.loop.rest.now name left is end) ∙ c.loop.invariant.0
 
 pub loop-preserved : goal.loop-preserved
 loop-preserved c =
     let name = c.in-Some.name in
-    let names = c.in-Some-after.names.now in
+    let path = reverse c.loop.names.items in
+    let others = c.in-Some-after.others.now in
     let is : name_of (split_at_first slash c.loop.rest.now).0 ≡ Some name =
     ap name_of (sym c.split_at_first.ensures.before) ∙ sym c.read_name.ensures ∙ c.in-Some.is in
-    let on : (split_at_first slash c.loop.rest.now).1 ≡ Some names = sym c.split_at_first.ensures.after ∙ ap option_copied c.in-Some-after.is in
+    let on : (split_at_first slash c.loop.rest.now).1 ≡ Some others =
+    sym c.split_at_first.ensures.after ∙ ap option_copied c.in-Some-after.is in
     let left : 0 < 8 - c.loop.counter = omega (arith, c.loop-test.true) in
     let less : 8 - (c.loop.counter + 1) ≡ 8 - c.loop.counter - 1 = omega arith in
-    rw (c.in_ok-enter.ensures, less) (
-      sym (next_name (8 - c.loop.counter) c.loop.path c.loop.rest.now names name left is on) ∙ c.loop.invariant.0,
-      omega (arith, c.loop.invariant.1),
+    let longer = turned c.loop.names.items c.push.new.self.items name c.in_ok-push.ensures.items in (
+      (λ i. path_from (less i) (longer i) others) ∙ sym (next_name (8 - c.loop.counter) path c.loop.rest.now others name left is on)
+          ∙ c.loop.invariant.0,
+      ap length longer ∙ omega (arith, c.loop.invariant.1),
+      subst (λ (p : Path). IsTrue (is_path p)) (sym longer)
+          (leads_on name path (omega (arith, c.loop.invariant.1, c.loop-test.true))
+          (spelled (split_at_first slash c.loop.rest.now).0 name is) c.loop.invariant.2),
     )
 
 pub returns : goal.returns
 unfolding path_from
 returns c =
     let none : 8 - c.loop.counter ≡ 0 = omega (arith, c.loop-test.false) in
-    subst (λ left. path_from left c.loop.path c.loop.rest.now ≡ path_from 8 [] c.args.text.now) none c.loop.invariant.0
+    subst (λ left. path_from left (reverse c.loop.names.items) c.loop.rest.now ≡ path_from 8 [] c.args.text.now) none c.loop.invariant.0

@@ -1,10 +1,10 @@
 -- Proves the goals of `look_up` of src/lookup.rt that the search leaves open.
-use Rattle.std.proofs.Common.{◌≡◌, ℕ, ◌+◌, ◌-◌, List, Bool, length, drop, get_or, sym, ap, ◌∙◌, arith}
+use Rattle.std.proofs.Common.{◌≡◌, ℕ, ◌+◌, ◌-◌, ◌<◌, List, Bool, length, get_or, sym, ap, ◌∙◌, arith}
 use Rattle.std.specs.Prelude.{slice_range}
 use Rattle.std.proofs.lemmas.Option.{slice_get-get_or}
 use Rattle.histar_flat.specs.PathOrder.{same}
-use Rattle.histar_layout.proofs.LookingUp.{all_left, entry_past, leads_nowhere, found_there, left_over}
-use Rattle.histar_layout.proofs.LookingUp.{stepped_over, none_there, found_in_directory, has_bytes}
+use Rattle.histar_layout.proofs.LookingUp.{all_left, found_there, left_over}
+use Rattle.histar_layout.proofs.LookingUp.{stepped_over, out_of_reach, found_in_directory, has_bytes}
 use Rattle.histar_layout.proofs.lookup.look_up.Goals as goal
 
 -- comparing with the bytes of a name compares with the name
@@ -33,36 +33,41 @@ pub entries-preserved : goal.entries-preserved
 entries-preserved c =
     let bytes = c.args.bytes.now in
     let start = c.entries.start in
-    stepped_over bytes c.args.name.now start (get_or bytes start 0) (slice_get-get_or bytes start 0 c.entries-test.true) c.entries.invariant
+    let there : start < length bytes = omega (arith, c.if-bytes-size.false, c.entries-test.true) in
+    let read = slice_get-get_or bytes start 0 there in
+    stepped_over bytes c.args.name.now start (get_or bytes start 0) read c.entries.invariant
     (λ e. c.if-len-wanted.false (sym e ∙ ap length (sym c.as_bytes-wanted.ensures.value)))
 
 pub entries-preserved-else-is_before : goal.entries-preserved-else-is_before
 entries-preserved-else-is_before c =
     let bytes = c.args.bytes.now in
     let start = c.entries.start in
-    left_over bytes c.args.name.now start (get_or bytes start 0) (slice_get-get_or bytes start 0 c.entries-test.true) c.entries.invariant
-    c.if-end-bytes.false
+    let there : start < length bytes = omega (arith, c.if-bytes-size.false, c.entries-test.true) in
+    let read = slice_get-get_or bytes start 0 there in
+    left_over bytes c.args.name.now start (get_or bytes start 0) read c.entries.invariant
+    (omega (arith, c.if-bytes-size.false, c.entries-test.true, c.if-len-wanted.true))
     (compared bytes c.as_bytes-wanted.result.now c.args.name.now start (get_or bytes start 0) c.is_before.result _
     c.as_bytes-wanted.ensures.value c.if-len-wanted.true c.is_before.ensures c.if-is_before.false)
 
-pub returns-then-end-bytes-clause-found : goal.returns-then-end-bytes-clause-found
-returns-then-end-bytes-clause-found c =
+pub returns-then-bytes-size-clause-found : goal.returns-then-bytes-size-clause-found
+returns-then-bytes-size-clause-found c =
     let bytes = c.args.bytes.now in
-    let start = c.entries.start in
-    sym (none_there bytes c.args.name.now start (get_or bytes start 0) (slice_get-get_or bytes start 0 c.entries-test.true) c.entries.invariant
-    c.if-end-bytes.true)
+    let name = c.args.name.now in
+    sym (out_of_reach bytes 0 name (all_left bytes name) (omega (arith, c.if-bytes-size.true, ap length c.as_bytes-wanted.ensures.value)))
 
-pub returns-then-end-bytes-clause-entry : goal.returns-then-end-bytes-clause-entry
-returns-then-end-bytes-clause-entry c dir is =
-    returns-then-end-bytes-clause-found c ∙ found_in_directory c.args.bytes.now dir c.args.name.now is
+pub returns-then-bytes-size-clause-entry : goal.returns-then-bytes-size-clause-entry
+returns-then-bytes-size-clause-entry c dir is =
+    returns-then-bytes-size-clause-found c ∙ found_in_directory c.args.bytes.now dir c.args.name.now is
 
 pub returns-then-is_before-clause-found : goal.returns-then-is_before-clause-found
 returns-then-is_before-clause-found c =
     let bytes = c.args.bytes.now in
     let start = c.entries.start in
+    let there : start < length bytes = omega (arith, c.if-bytes-size.false, c.entries-test.true) in
+    let read = slice_get-get_or bytes start 0 there in
     c.target_from.ensures
-    ∙ sym (found_there bytes c.args.name.now start (get_or bytes start 0) (slice_get-get_or bytes start 0 c.entries-test.true) c.entries.invariant
-    c.if-end-bytes.false
+    ∙ sym (found_there bytes c.args.name.now start (get_or bytes start 0) read c.entries.invariant
+    (omega (arith, c.if-bytes-size.false, c.entries-test.true, c.if-len-wanted.true))
     (compared bytes c.as_bytes-wanted.result.now c.args.name.now start (get_or bytes start 0) c.is_before.result _
     c.as_bytes-wanted.ensures.value c.if-len-wanted.true c.is_before.ensures c.if-is_before.true))
 
@@ -72,9 +77,8 @@ returns-then-is_before-clause-entry c dir is =
 
 pub returns-clause-found : goal.returns-clause-found
 returns-clause-found c =
-    let bytes = c.args.bytes.now in
-    sym (leads_nowhere bytes (drop c.entries.start bytes) c.args.name.now c.entries.invariant
-    (entry_past bytes c.entries.start c.entries-test.false))
+    sym (out_of_reach c.args.bytes.now c.entries.start c.args.name.now c.entries.invariant
+    (omega (arith, c.if-bytes-size.false, c.entries-test.false, ap length c.as_bytes-wanted.ensures.value)))
 
 pub returns-clause-entry : goal.returns-clause-entry
 returns-clause-entry c dir is = returns-clause-found c ∙ found_in_directory c.args.bytes.now dir c.args.name.now is
