@@ -2,3 +2,4 @@
 pub mod RepliesOfPrograms
 pub mod MakingDirectories
 pub mod MakingFiles
+pub mod FileCalls

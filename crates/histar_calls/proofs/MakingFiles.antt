@@ -6,7 +6,7 @@ use Rattle.histar_flat.specs.declared.calls.Mode.{Mode}
 use Rattle.histar_flat.specs.declared.replies.Reply.TheVariants.{Done}
 use Rattle.histar_flat.specs.Accounts.{Accounts}
 use Rattle.histar_label.specs.Levels.{Levels}
-use Rattle.histar_rules.specs.declared.raw.RawCall.TheVariants.{OwnLabel, MakeSegment}
+use Rattle.histar_rules.specs.declared.raw.RawCall.TheVariants.{MakeSegment}
 use Rattle.histar_syscall.specs.KernelModel.{KernelModel}
 use Rattle.histar_layout.specs.Categories.{label_made}
 use Rattle.histar_layout.specs.Directory.{Entries}
@@ -18,7 +18,7 @@ use Rattle.histar_programs.specs.declared.roots.Roots.{Roots}
 use Rattle.histar_programs.specs.Programs.{Program, Part, RunsPart}
 use Rattle.histar_programs.specs.Programs.Program.{Answers}
 use Rattle.histar_programs.specs.Parts.{ask, find_room, write_entries}
-use Rattle.histar_calls.specs.Create.{add_file, create_program}
+use Rattle.histar_calls.specs.Create.{add_file, create_program, make_file}
 use Rattle.histar_programs.proofs.Exits.{Leaves}
 use Rattle.histar_programs.proofs.Running.{before_ask, part_fails, then_part}
 
@@ -55,16 +55,17 @@ pub adds_so : (t : ℕ) (old new : KernelModel) (label due : Levels) (room : Roo
     → RunsPart (add_file label room) old new t result → RunsPart (add_file due room) old new t result
 adds_so t old new label due room same result runs = subst (λ (l : Levels). RunsPart {A = Unit {0}} (add_file l room) old new t result) same runs
 
-module _ (accounts : Accounts) (roots : Roots) (path : Path) (mode : Mode) where
-  -- what is still to do once the thread's label is known
-  abbrev pub after_label : Room → Levels × Levels → Program
-  after_label room own = add_file (label_made accounts own.0 mode) room (λ (done : Unit {0}). Answers Done)
+module _ (accounts : Accounts) (mode : Mode) where
+  -- what comes after the thread's own label
+  abbrev pub after_own : Room → Levels × Levels → Part (Unit {0})
+  after_own room own = add_file (label_made accounts own.0 mode) room
 
   -- what is still to do once there is room
   abbrev pub after_room : Room → Program
-  after_room room = ask OwnLabel (after_label room)
+  after_room room = make_file accounts mode room (λ (done : Unit {0}). Answers Done)
 
   -- at first the whole program is left
-  pub begun : (t : ℕ) (old : KernelModel) → Leaves t (create_program accounts roots path mode) old (find_room roots path after_room) old
+  pub begun : (roots : Roots) (path : Path) (t : ℕ) (old : KernelModel)
+      → Leaves t (create_program accounts roots path mode) old (find_room roots path after_room) old
   unfolding create_program
-  begun t old = record { leads = λ new result on. on }
+  begun roots path t old = record { leads = λ new result on. on }

@@ -22,6 +22,13 @@ add_file label room rest = do
   write_entries room.place (map.insert room.entries room.name (File file))
   rest tt
 
+-- The thread asks for its own label, and adds a file with the label that this mode gives to new objects.
+abbrev pub make_file : Accounts → Mode → Room → Part (Unit {0})
+make_file accounts mode room rest = do
+  own ← ask OwnLabel
+  add_file (label_made accounts own.0 mode) room
+  rest tt
+
 -- Room for the entry is found. The thread asks for its own label, and adds a file with the label that this mode gives to new objects.
 unfoldable pub create_program : Accounts → Roots → Path → Mode → Program
 create_program accounts roots path mode = do

@@ -23,6 +23,13 @@ add_directory label room rest = do
   write_entries room.place (map.insert room.entries room.name (Directory container listing))
   rest tt
 
+-- The thread asks for its own label, and adds a directory with the label that this mode gives to new objects.
+abbrev pub make_directory : Accounts → Mode → Room → Part (Unit {0})
+make_directory accounts mode room rest = do
+  own ← ask OwnLabel
+  add_directory (label_made accounts own.0 mode) room
+  rest tt
+
 -- Room for the entry is found. The thread asks for its own label, and adds a directory with the label that this mode gives to new objects.
 unfoldable pub mkdir_program : Accounts → Roots → Path → Mode → Program
 mkdir_program accounts roots path mode = do

@@ -6,8 +6,7 @@ ghost use Rattle.histar_programs.specs.Refusals.{settled};
 use histar_flat::{Listing, Name, Reply};
 use histar_label::LabelStore;
 use histar_layout::MOST_ENTRIES;
-use histar_object::ObjId;
-use histar_programs::{CallError, Roots, walk};
+use histar_programs::{CallError, Unix, walk};
 use histar_syscall::Kernel;
 use std::alloc::Global;
 
@@ -17,15 +16,16 @@ use std::alloc::Global;
 pub fn list<S: LabelStore + Drop>(
     alloc: Global,
     kernel: &mut Kernel<S>,
-    roots: &Roots,
-    thread: ObjId,
+    unix: &Unix,
     path: &[Name],
 ) -> Result<Reply, CallError>
-    ensures { Runs (list_program roots.now path.now) kernel.old kernel.new thread (settled result) }
+    ensures { Runs (list_program unix.now.roots.now path.now) kernel.old kernel.new
+        unix.now.caller.now.thread (settled result) }
 {
+    let thread = unix.caller.thread;
     let mut entries = Vec::new(alloc);
     entries.reserve(MOST_ENTRIES)?;
-    let directory = walk(alloc, kernel, roots, thread, path)?;
+    let directory = walk(alloc, kernel, unix.roots, thread, path)?;
     directory.entries.list(&mut entries);
     Ok(Reply::Entries(Listing::new(entries)))
 }

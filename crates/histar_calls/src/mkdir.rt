@@ -2,16 +2,16 @@
 ghost use Rattle.std.specs.Prelude.{◌<◌};
 ghost use Rattle.std.specs.FinMap as map;
 ghost use Rattle.histar_flat.specs.FlatCalls.{most_entries};
-ghost use Rattle.histar_calls.specs.Mkdir.{add_directory, mkdir_program};
+ghost use Rattle.histar_calls.specs.Mkdir.{add_directory, mkdir_program, make_directory};
 ghost use Rattle.histar_programs.specs.Programs.{Runs, RunsPart};
 ghost use Rattle.histar_programs.specs.Refusals.{settled};
 
 use histar_base::Bytes;
 use histar_flat::{Mode, Name, Reply};
 use histar_label::{Label, LabelStore};
-use histar_layout::{Target, UserTable, label_made};
+use histar_layout::{Target, label_made};
 use histar_object::ObjId;
-use histar_programs::{CallError, Room, Roots, find_room, write_entries};
+use histar_programs::{CallError, Room, Unix, find_room, write_entries};
 use histar_syscall::Kernel;
 use std::alloc::Global;
 
@@ -20,19 +20,35 @@ use std::alloc::Global;
 pub fn mkdir<S: LabelStore + Drop>(
     alloc: Global,
     kernel: &mut Kernel<S>,
-    roots: &Roots,
-    users: &UserTable,
-    thread: ObjId,
+    unix: &Unix,
     path: &[Name],
     mode: Mode,
 ) -> Result<Reply, CallError>
-    ensures { Runs (mkdir_program users.now roots.now path.now mode) kernel.old kernel.new thread (settled result) }
+    ensures { Runs (mkdir_program unix.now.users.now unix.now.roots.now path.now mode) kernel.old kernel.new
+        unix.now.caller.now.thread (settled result) }
 {
-    let room = find_room(alloc, kernel, roots, thread, path)?;
-    let (own, _) = kernel.own_label(thread)?;
-    let label = label_made(alloc, &own, users, mode)?;
-    add_directory(alloc, kernel, thread, room, label)?;
+    let thread = unix.caller.thread;
+    let room = find_room(alloc, kernel, unix.roots, thread, path)?;
+    make_directory(alloc, kernel, unix, room, mode)?;
     Ok(Reply::Done)
+}
+
+/// Makes a directory with the label that this mode gives to new objects of the caller.
+fn make_directory<S: LabelStore + Drop>(
+    alloc: Global,
+    kernel: &mut Kernel<S>,
+    unix: &Unix,
+    room: Room,
+    mode: Mode,
+) -> Result<(), CallError>
+    requires { map.len room.entries < most_entries }
+    ensures { RunsPart (make_directory unix.now.users.now mode room) kernel.old kernel.new
+        unix.now.caller.now.thread result }
+{
+    let thread = unix.caller.thread;
+    let (own, _) = kernel.own_label(thread)?;
+    let label = label_made(alloc, &own, unix.users, mode)?;
+    add_directory(alloc, kernel, thread, room, label)
 }
 
 /// Makes a container with this label and, in it, an empty directory segment with this label; adds the entry.

@@ -5,8 +5,7 @@ ghost use Rattle.histar_programs.specs.Refusals.{settled};
 
 use histar_flat::{Name, Reply};
 use histar_label::LabelStore;
-use histar_object::ObjId;
-use histar_programs::{CallError, Roots, find_file};
+use histar_programs::{CallError, Unix, find_file};
 use histar_syscall::Kernel;
 use std::alloc::Global;
 
@@ -16,13 +15,14 @@ use std::alloc::Global;
 pub fn read<S: LabelStore + Drop>(
     alloc: Global,
     kernel: &mut Kernel<S>,
-    roots: &Roots,
-    thread: ObjId,
+    unix: &Unix,
     path: &[Name],
 ) -> Result<Reply, CallError>
-    ensures { Runs (read_program roots.now path.now) kernel.old kernel.new thread (settled result) }
+    ensures { Runs (read_program unix.now.roots.now path.now) kernel.old kernel.new
+        unix.now.caller.now.thread (settled result) }
 {
-    let file = find_file(kernel, roots, thread, path)?;
+    let thread = unix.caller.thread;
+    let file = find_file(kernel, unix.roots, thread, path)?;
     let bytes = kernel.read_copy(alloc, thread, file.container, file.segment)?;
     Ok(Reply::Data(bytes))
 }

@@ -5,9 +5,9 @@ ghost use Rattle.histar_calls.specs.StatCall.{find_object, stat_program};
 
 use histar_flat::{Name, Reply};
 use histar_label::LabelStore;
-use histar_layout::{UserTable, shown_class};
+use histar_layout::shown_class;
 use histar_object::ObjId;
-use histar_programs::{CallError, Roots, entry_at, find_place, look_in};
+use histar_programs::{CallError, Roots, Unix, entry_at, find_place, look_in};
 use histar_syscall::Kernel;
 
 /// The root container, which the empty kernel has.
@@ -27,16 +27,16 @@ pub struct FoundObject {
 /// where nothing is there.
 pub fn stat<S: LabelStore + Drop>(
     kernel: &mut Kernel<S>,
-    roots: &Roots,
-    users: &UserTable,
-    thread: ObjId,
+    unix: &Unix,
     path: &[Name],
 ) -> Result<Reply, CallError>
-    ensures { Runs (stat_program users.now roots.now path.now) kernel.old kernel.new thread (settled result) }
+    ensures { Runs (stat_program unix.now.users.now unix.now.roots.now path.now) kernel.old kernel.new
+        unix.now.caller.now.thread (settled result) }
 {
-    let found = find_object(kernel, roots, thread, path)?;
+    let thread = unix.caller.thread;
+    let found = find_object(kernel, unix.roots, thread, path)?;
     let label = kernel.label_of(thread, found.container, found.object)?;
-    let Some(class) = shown_class(&label, users) else {
+    let Some(class) = shown_class(&label, unix.users) else {
         return Err(CallError::Stopped);
     };
     Ok(Reply::Stats(class.stat(found.is_directory)))

@@ -6,8 +6,7 @@ ghost use Rattle.histar_programs.specs.Refusals.{settled};
 use histar_base::Bytes;
 use histar_flat::{Name, Reply};
 use histar_label::LabelStore;
-use histar_object::ObjId;
-use histar_programs::{CallError, Roots, find_file, written};
+use histar_programs::{CallError, Unix, find_file, written};
 use histar_syscall::Kernel;
 use std::alloc::Global;
 
@@ -17,14 +16,15 @@ use std::alloc::Global;
 pub fn write<S: LabelStore + Drop>(
     alloc: Global,
     kernel: &mut Kernel<S>,
-    roots: &Roots,
-    thread: ObjId,
+    unix: &Unix,
     path: &[Name],
     bytes: Bytes,
 ) -> Result<Reply, CallError>
-    ensures { Runs (write_program roots.now path.now bytes) kernel.old kernel.new thread (settled result) }
+    ensures { Runs (write_program unix.now.roots.now path.now bytes) kernel.old kernel.new
+        unix.now.caller.now.thread (settled result) }
 {
-    let file = find_file(kernel, roots, thread, path)?;
+    let thread = unix.caller.thread;
+    let file = find_file(kernel, unix.roots, thread, path)?;
     written(kernel.write(alloc, thread, file.container, file.segment, 0, bytes))?;
     Ok(Reply::Done)
 }

@@ -4,7 +4,7 @@ ghost use Rattle.histar_comparison.specs.Observation.{CanRun, EndsWithTree, Keep
 ghost use Rattle.histar_comparison.specs.Observation.{Observes, ShowsTree, observation};
 ghost use Rattle.histar_shell.specs.Ending.{HasTree};
 
-use crate::replies::{Replies, once_done, wrap_path};
+use crate::replies::{LineReply, Replies, once_done, wrap_path};
 use histar_base::Bytes;
 use histar_flat::{CallLine, Path, ProcName};
 use histar_label::{LabelStore, PlainStore};
@@ -96,7 +96,12 @@ fn observe_call<S: LabelStore + Drop>(
         return Err(AllocError);
     };
     replies.follow(job, wraps, done, &reply);
-    replies.show(alloc, job, line, &process, &reply)
+    let shown = LineReply {
+        line,
+        process: &process,
+        reply: &reply,
+    };
+    replies.show(alloc, job, &shown)
 }
 
 /// Returns the lines of the tree of a machine.

@@ -13,6 +13,16 @@ use histar_shell::reply_text;
 use std::alloc::{AllocError, Global};
 use std::marker::Model;
 
+/// The reply to a line.
+#[derive(Clone, Copy)]
+pub struct LineReply<'a> {
+    /// The number of the line.
+    pub line: u32,
+    /// The process that made its call.
+    pub process: &'a ProcName,
+    pub reply: &'a Reply,
+}
+
 /// What is kept of the replies to a script while it runs.
 #[derive(Drop)]
 pub struct Replies {
@@ -84,18 +94,21 @@ impl Replies {
         }
     }
 
-    /// Keeps the reply to a line of a process, unless the process is in the job or started it.
+    /// Keeps the reply to a line, unless its process is in the job or started it.
     pub fn show(
         &mut self,
         alloc: Global,
         job: &ProcName,
-        line: u32,
-        process: &ProcName,
-        reply: &Reply,
+        shown: &LineReply,
     ) -> Result<(), AllocError>
-        ensures { OnOk result (self.new ≡ record self.old
-            { shown = shown_by job.now self.old.shown line process.now reply.now }) }
+        ensures { let a = shown.now in OnOk result (self.new ≡ record self.old
+            { shown = shown_by job.now self.old.shown a.line a.process.now a.reply.now }) }
     {
+        let LineReply {
+            line,
+            process,
+            reply,
+        } = *shown;
         if is_outsider(job, process) {
             let text = Bytes::from_vec(reply_text(alloc, reply)?);
             self.shown.push(ShownReply { line, text })?;

@@ -6,8 +6,7 @@ ghost use Rattle.histar_moves.specs.Rename.{rename_program};
 use crate::entry::find_entry;
 use histar_flat::{Name, Reply};
 use histar_label::LabelStore;
-use histar_object::ObjId;
-use histar_programs::{CallError, Roots, write_entries};
+use histar_programs::{CallError, Unix, write_entries};
 use histar_syscall::Kernel;
 use std::alloc::Global;
 
@@ -18,14 +17,15 @@ use std::alloc::Global;
 pub fn rename<S: LabelStore + Drop>(
     alloc: Global,
     kernel: &mut Kernel<S>,
-    roots: &Roots,
-    thread: ObjId,
+    unix: &Unix,
     path: &[Name],
     name: &Name,
 ) -> Result<Reply, CallError>
-    ensures { Runs (rename_program roots.now path.now name.now) kernel.old kernel.new thread (settled result) }
+    ensures { Runs (rename_program unix.now.roots.now path.now name.now) kernel.old kernel.new
+        unix.now.caller.now.thread (settled result) }
 {
-    let entry = find_entry(alloc, kernel, roots, thread, path)?;
+    let thread = unix.caller.thread;
+    let entry = find_entry(alloc, kernel, unix.roots, thread, path)?;
     entry.must_be_free(name)?;
     let place = entry.place;
     let entries = entry.renamed(alloc, name)?;

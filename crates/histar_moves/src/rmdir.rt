@@ -6,8 +6,7 @@ ghost use Rattle.histar_moves.specs.Rmdir.{rmdir_program};
 use crate::entry::{find_entry, must_be_empty, take_away};
 use histar_flat::{Name, Reply};
 use histar_label::LabelStore;
-use histar_object::ObjId;
-use histar_programs::{CallError, Directory, Roots};
+use histar_programs::{CallError, Directory, Unix};
 use histar_syscall::Kernel;
 use std::alloc::Global;
 
@@ -18,13 +17,14 @@ use std::alloc::Global;
 pub fn rmdir<S: LabelStore + Drop>(
     alloc: Global,
     kernel: &mut Kernel<S>,
-    roots: &Roots,
-    thread: ObjId,
+    unix: &Unix,
     path: &[Name],
 ) -> Result<Reply, CallError>
-    ensures { Runs (rmdir_program roots.now path.now) kernel.old kernel.new thread (settled result) }
+    ensures { Runs (rmdir_program unix.now.roots.now path.now) kernel.old kernel.new
+        unix.now.caller.now.thread (settled result) }
 {
-    let entry = find_entry(alloc, kernel, roots, thread, path)?;
+    let thread = unix.caller.thread;
+    let entry = find_entry(alloc, kernel, unix.roots, thread, path)?;
     let place = entry.must_be_directory()?;
     let directory = Directory::read(alloc, kernel, thread, place)?;
     must_be_empty(&directory.entries)?;

@@ -6,8 +6,7 @@ ghost use Rattle.histar_moves.specs.Rmtree.{rmtree_program};
 use crate::entry::{find_entry, take_away};
 use histar_flat::{Name, Reply};
 use histar_label::LabelStore;
-use histar_object::ObjId;
-use histar_programs::{CallError, Roots};
+use histar_programs::{CallError, Unix};
 use histar_syscall::Kernel;
 use std::alloc::Global;
 
@@ -17,13 +16,14 @@ use std::alloc::Global;
 pub fn rmtree<S: LabelStore + Drop>(
     alloc: Global,
     kernel: &mut Kernel<S>,
-    roots: &Roots,
-    thread: ObjId,
+    unix: &Unix,
     path: &[Name],
 ) -> Result<Reply, CallError>
-    ensures { Runs (rmtree_program roots.now path.now) kernel.old kernel.new thread (settled result) }
+    ensures { Runs (rmtree_program unix.now.roots.now path.now) kernel.old kernel.new
+        unix.now.caller.now.thread (settled result) }
 {
-    let entry = find_entry(alloc, kernel, roots, thread, path)?;
+    let thread = unix.caller.thread;
+    let entry = find_entry(alloc, kernel, unix.roots, thread, path)?;
     take_away(alloc, kernel, thread, entry)?;
     Ok(Reply::Done)
 }

@@ -12,7 +12,9 @@ use Rattle.histar_programs.specs.declared.call_error.CallError.{CallError}
 use Rattle.histar_programs.specs.declared.roots.Home.{Home}
 use Rattle.histar_programs.proofs.Running.{hands, then_part, part_fails}
 use Rattle.histar_process.specs.Birth.{birth}
-use Rattle.histar_process.specs.Births.{make_categories, make_containers, make_thread, make_segment}
+use Rattle.histar_process.specs.Births.{make_categories, make_containers, make_objects, make_segment, make_thread}
+use Rattle.histar_process.specs.declared.birth.Body.{Body}
+use Rattle.histar_programs.proofs.Exits.{LeavesPart, ends_in}
 use Rattle.histar_programs.specs.Kin.{Kin}
 use Rattle.histar_process.specs.Parts.{write_status}
 
@@ -126,80 +128,28 @@ module _ (t : ℕ) (old new : KernelModel) (parent : ℕ) (jobs : List ℕ) (rea
 
 -- ---- the whole birth
 
-module _ (t : ℕ) (parent : Home) (status : ProcessStatus) (kin : Kin) (old new : KernelModel) where
-  -- what comes after each step
-  abbrev pub to_write : ℕ → ℕ → Part (Unit {0})
-  to_write container segment = write_status parent (with_child_listed container segment status)
+module _ (kin : Kin) (own : ℕ × ℕ) where
+  -- what comes after the two containers
+  abbrev pub after_containers : ℕ × ℕ → Part Body
+  after_containers made rest =
+      make_thread made.1 kin.owned kin.jobs own.0 own.1 (λ thread. rest (record { container = made.0; internal = made.1; thread = thread }))
 
-  abbrev pub to_segment : ℕ × ℕ → ℕ × ℕ → ℕ → Part (Unit {0})
-  to_segment own made child rest = make_segment made.0 kin.jobs own.1 made.1 child (λ segment. to_write made.0 segment rest)
+  module _ (parent : Home) (status : ProcessStatus) where
+    -- what comes after the process segment
+    abbrev pub after_segment : Body → ℕ → Part (Unit {0})
+    after_segment body segment = write_status parent (with_child_listed body.container segment status)
 
-  abbrev pub to_thread : ℕ × ℕ → ℕ × ℕ → Part (Unit {0})
-  to_thread own made rest = make_thread made.1 kin.owned kin.jobs own.0 own.1 (λ child. to_segment own made child rest)
+    -- what comes after the containers and the thread
+    abbrev pub after_body : Body → Part (Unit {0})
+    after_body body rest = make_segment body.container kin.jobs own.1 body.internal body.thread (λ segment. after_segment body segment rest)
 
-  abbrev pub to_containers : ℕ × ℕ → Part (Unit {0})
-  to_containers own rest = make_containers parent.container kin.jobs own.0 own.1 (λ made. to_thread own made rest)
-
-  pub without_categories : (call_error : CallError) → RunsPart make_categories old new t (Err call_error)
-      → RunsPart (birth parent status kin) old new t (Err call_error)
+module _ (t : ℕ) (parent : Home) (status : ProcessStatus) (kin : Kin) (old : KernelModel) where
+  -- at first the whole birth is left
+  pub begun : LeavesPart (Unit {0}) t (birth parent status kin) old (λ rest. make_categories (λ own. make_objects parent status kin own rest)) old
   unfolding birth make_categories make_containers
-  without_categories call_error first = part_fails t make_categories old new to_containers call_error first
+  begun = record { leads = λ new result on. on }
 
-  module _ (mid : KernelModel) (read write : ℕ) where
-    pub with_categories : RunsPart make_categories old mid t (Ok (read, write)) → (result : Result (Unit {0}) CallError)
-        → RunsPart (to_containers (read, write)) mid new t result → RunsPart (birth parent status kin) old new t result
-    unfolding birth make_categories make_containers
-    with_categories first result second = then_part t make_categories old new to_containers mid (read, write) first result second
-
-    pub without_containers : (call_error : CallError)
-        → RunsPart (make_containers parent.container kin.jobs read write) mid new t (Err call_error)
-        → RunsPart (to_containers (read, write)) mid new t (Err call_error)
-    without_containers call_error first =
-        part_fails t (make_containers parent.container kin.jobs read write) mid new (to_thread (read, write)) call_error
-        first
-
-    pub without_thread : (container internal : ℕ) (call_error : CallError)
-        → RunsPart (make_thread internal kin.owned kin.jobs read write) mid new t (Err call_error)
-        → RunsPart (to_thread (read, write) (container, internal)) mid new t (Err call_error)
-    without_thread container internal call_error first =
-        part_fails t (make_thread internal kin.owned kin.jobs read write) mid new
-        (to_segment (read, write) (container, internal)) call_error first
-
-    pub without_segment : (container internal child : ℕ) (call_error : CallError)
-        → RunsPart (make_segment container kin.jobs write internal child) mid new t (Err call_error)
-        → RunsPart (to_segment (read, write) (container, internal) child) mid new t (Err call_error)
-    without_segment container internal child call_error first =
-        part_fails t (make_segment container kin.jobs write internal child) mid new (to_write container) call_error
-        first
-
-  module _ (mid end : KernelModel) (read write container internal : ℕ) where
-    pub with_containers : RunsPart (make_containers parent.container kin.jobs read write) mid end t
-        (Ok (container, internal)) → (result : Result (Unit {0}) CallError)
-        → RunsPart (to_thread (read, write) (container, internal)) end new t result
-        → RunsPart (to_containers (read, write)) mid new t result
-    with_containers first result second =
-        then_part t (make_containers parent.container kin.jobs read write) mid new (to_thread (read, write)) end
-        (container, internal) first result second
-
-    pub with_thread : (child : ℕ) → RunsPart (make_thread internal kin.owned kin.jobs read write) mid end t (Ok child)
-        → (result : Result (Unit {0}) CallError)
-        → RunsPart (to_segment (read, write) (container, internal) child) end new t result
-        → RunsPart (to_thread (read, write) (container, internal)) mid new t result
-    with_thread child first result second =
-        then_part t (make_thread internal kin.owned kin.jobs read write) mid new
-        (to_segment (read, write) (container, internal)) end child first result second
-
-    pub with_segment : (child segment : ℕ)
-        → RunsPart (make_segment container kin.jobs write internal child) mid end t (Ok segment)
-        → (result : Result (Unit {0}) CallError) → RunsPart (to_write container segment) end new t result
-        → RunsPart (to_segment (read, write) (container, internal) child) mid new t result
-    with_segment child segment first result second =
-        then_part t (make_segment container kin.jobs write internal child) mid new (to_write container) end segment
-        first result second
-
-  -- the last step, by its raw call
-  pub all_written : (mid : KernelModel) (container segment : ℕ) (result : Result (Unit {0}) CallError)
-      → RunsPart
-      (ask (Write parent.container parent.segment 0 (status_bytes (with_child_listed container segment status))))
-      mid new t result → RunsPart (to_write container segment) mid new t result
-  all_written mid container segment result runs = runs
+  -- the two categories aren't made
+  pub without_categories : (new : KernelModel) (call_error : CallError) → RunsPart make_categories old new t (Err call_error)
+      → RunsPart (birth parent status kin) old new t (Err call_error)
+  without_categories new call_error first = ends_in make_categories (make_objects parent status kin) begun new call_error first

@@ -5,4 +5,5 @@ pub mod Births
 pub mod Rooms
 pub mod Calling
 pub mod Spawning
+pub mod Exiting
 pub mod Killing

@@ -1,5 +1,5 @@
 -- The program of `spawn`.
-use Rattle.std.specs.Prelude.{◌+◌, Bool, true, false, nat_lt, ◌∷◌, length, Result, Ok, Err}
+use Rattle.std.specs.Prelude.{◌≡◌, ℕ, ◌+◌, Bool, true, false, nat_lt, List, ◌∷◌, length, Some, Result, Ok, Err}
 use Rattle.histar_flat.specs.Accounts.{Accounts}
 use Rattle.histar_flat.specs.Words.{ProcName, most_children, most_numbers}
 use Rattle.histar_flat.specs.declared.replies.Errno.{Errno}
@@ -7,9 +7,11 @@ use Rattle.histar_flat.specs.declared.replies.Errno.TheVariants.{EAGAIN}
 use Rattle.histar_flat.specs.declared.replies.Reply.TheVariants as replies
 use Rattle.histar_label.specs.Levels.{Levels}
 use Rattle.histar_rules.specs.declared.raw.RawCall.TheVariants.{OwnLabel, SetLabel, SetClearance}
-use Rattle.histar_layout.specs.Status.{ProcessStatus}
+use Rattle.histar_layout.specs.Status.{ProcessStatus, status_in}
+use Rattle.histar_syscall.specs.KernelModel.{KernelModel}
+use Rattle.histar_programs.specs.declared.call_error.CallError.{CallError}
 use Rattle.histar_programs.specs.declared.roots.Home.{Home}
-use Rattle.histar_programs.specs.Programs.{Program, Part}
+use Rattle.histar_programs.specs.Programs.{Program, Part, RunsPart}
 use Rattle.histar_programs.specs.Programs.Program.{Answers}
 use Rattle.histar_programs.specs.Parts.{◌>>=◌, ◌>>◌, ask, given}
 use Rattle.histar_programs.specs.Kin.{kin_of}
@@ -36,6 +38,19 @@ take_labels own rest = do
   ask (SetLabel own.0)
   ask (SetClearance own.1)
   rest tt
+
+-- The thread asks for its own labels, the child is born, and the thread takes its own labels again.
+abbrev pub make_child : Accounts → Home → ProcessStatus → Part (Unit {0})
+make_child accounts me status rest = do
+  own ← ask OwnLabel
+  birth me status (kin_of accounts own.0)
+  take_labels own
+  rest tt
+
+-- a child is made by a thread of the process whose segment has these bytes, whatever status they show
+abbrev pub MakesChild : Accounts → Home → List ℕ → KernelModel → KernelModel → ℕ → Result (Unit {0}) CallError → Type 0
+MakesChild accounts me bytes old new thread result =
+    (status : ProcessStatus) → status_in bytes ≡ Some status → RunsPart (make_child accounts me status) old new thread result
 
 -- There is room for a child. The thread asks for its own labels, the child is born, and the thread takes its own labels again.
 unfoldable pub spawn_program : Accounts → ProcName → Home → Program

@@ -6,47 +6,116 @@ ghost use Rattle.histar_layout.specs.StatusParts.{HasRoomForChild};
 ghost use Rattle.histar_layout.specs.Labelling.{guarded_by, owner_label, cleared_at};
 ghost use Rattle.histar_programs.specs.Parts.{ask};
 ghost use Rattle.histar_programs.specs.Programs.{RunsPart};
-ghost use Rattle.histar_process.specs.Births.{RunsBirth, make_categories, make_containers, make_thread, make_segment};
+ghost use Rattle.histar_process.specs.Births.{MakesObjects, RunsBirth, kin_of_newborn, make_body};
+ghost use Rattle.histar_process.specs.Births.{make_categories, make_containers, make_segment, make_thread};
 
-use crate::find::write_segment;
+use crate::find::{Parent, write_segment};
 use histar_label::{Category, Label, LabelStore};
 use histar_layout::{add_child, cleared_at, first_status, guarded_by, owner_label};
 use histar_object::ObjId;
-use histar_programs::{CallError, Home, joined};
+use histar_programs::{CallError, joined};
 use histar_syscall::Kernel;
 use std::alloc::{AllocError, Global};
 
-/// Makes a child of the process that is found there, whose segment has these bytes: the child owns its two
-/// categories and these, and is in the jobs of these. Its objects are made, and it is added to the
-/// segment of its parent.
+/// What a child gets from its parent.
+#[derive(Clone, Copy)]
+pub struct Inherited<'a> {
+    /// The categories that it owns beside its own two.
+    pub owned: &'a [Category],
+    /// The jobs that it is in.
+    pub jobs: &'a [Category],
+}
+
+/// A child that is being born, from when its categories are made.
+#[derive(Clone, Copy)]
+struct Newborn<'a> {
+    /// The category by which it keeps its secrets.
+    read: Category,
+    /// The category by which it alone writes its objects.
+    write: Category,
+    owned: &'a [Category],
+    jobs: &'a [Category],
+}
+
+/// The objects of a child that are made before its process segment.
+#[derive(Clone, Copy)]
+struct Body {
+    container: ObjId,
+    /// Its internal container, which is secret to it.
+    internal: ObjId,
+    thread: ObjId,
+}
+
+/// Who may read and write a new object.
+#[derive(Clone, Copy)]
+struct Guard<'a> {
+    /// The categories in which it is secret.
+    secret: &'a [Category],
+    /// The category whose owner alone may write it.
+    write: Category,
+}
+
+/// Makes a child of the process whose segment was read: the child owns its two categories and those that
+/// it gets, and is in the jobs that it gets. Its objects are made, and it is added to the segment of its
+/// parent.
 pub fn give_birth<S: LabelStore + Drop>(
     alloc: Global,
     kernel: &mut Kernel<S>,
     thread: ObjId,
-    parent: &Home,
-    bytes: &[u8],
-    owned: &[Category],
-    jobs: &[Category],
+    parent: &Parent,
+    inherited: &Inherited,
 ) -> Result<(), CallError>
-    requires { HasRoomForChild bytes.now }
-    ensures { RunsBirth parent.now bytes.now owned.now jobs.now kernel.old kernel.new thread result }
+    requires { HasRoomForChild parent.now.bytes.now }
+    ensures { RunsBirth parent.now.home.now parent.now.bytes.now inherited.now.owned.now inherited.now.jobs.now
+        kernel.old kernel.new thread result }
 {
+    let Inherited { owned, jobs } = *inherited;
     let (read, write) = make_categories(kernel, thread)?;
-    let (container, internal) = make_containers(
-        alloc,
-        kernel,
-        thread,
-        parent.container,
-        jobs,
+    let newborn = Newborn {
         read,
         write,
-    )?;
-    let child = make_thread(alloc, kernel, thread, internal, owned, jobs, read, write)?;
-    let its = make_segment(
-        alloc, kernel, thread, container, jobs, write, internal, child,
-    )?;
-    let grown = add_child(alloc, bytes, container, its)?;
-    write_segment(alloc, kernel, thread, parent, grown)
+        owned,
+        jobs,
+    };
+    make_objects(alloc, kernel, thread, parent, &newborn)
+}
+
+/// Makes the objects of a child, and adds it to the segment of its parent.
+fn make_objects<S: LabelStore + Drop>(
+    alloc: Global,
+    kernel: &mut Kernel<S>,
+    thread: ObjId,
+    parent: &Parent,
+    newborn: &Newborn,
+) -> Result<(), CallError>
+    requires { HasRoomForChild parent.now.bytes.now }
+    ensures { MakesObjects parent.now.home.now parent.now.bytes.now (kin_of_newborn newborn.now)
+        (newborn.now.read, newborn.now.write) kernel.old kernel.new thread result }
+{
+    let body = make_body(alloc, kernel, thread, parent.home.container, newborn)?;
+    let segment = make_segment(alloc, kernel, thread, newborn, &body)?;
+    let grown = add_child(alloc, parent.bytes, body.container, segment)?;
+    write_segment(alloc, kernel, thread, parent.home, grown)
+}
+
+/// Makes the two containers and the thread of a child.
+fn make_body<S: LabelStore + Drop>(
+    alloc: Global,
+    kernel: &mut Kernel<S>,
+    thread: ObjId,
+    parent: ObjId,
+    newborn: &Newborn,
+) -> Result<Body, CallError>
+    ensures { RunsPart (make_body parent (kin_of_newborn newborn.now) (newborn.now.read, newborn.now.write))
+        kernel.old kernel.new thread result }
+{
+    let (container, internal) = make_containers(alloc, kernel, thread, parent, newborn)?;
+    let child = make_thread(alloc, kernel, thread, internal, newborn)?;
+    Ok(Body {
+        container,
+        internal,
+        thread: child,
+    })
 }
 
 /// Makes the two categories of a child.
@@ -67,31 +136,43 @@ fn make_containers<S: LabelStore + Drop>(
     kernel: &mut Kernel<S>,
     thread: ObjId,
     parent: ObjId,
-    jobs: &[Category],
-    read: Category,
-    write: Category,
+    newborn: &Newborn,
 ) -> Result<(ObjId, ObjId), CallError>
-    ensures { RunsPart (make_containers parent jobs.now read write) kernel.old kernel.new thread result }
+    ensures { RunsPart (make_containers parent newborn.now.jobs.now newborn.now.read newborn.now.write)
+        kernel.old kernel.new thread result }
 {
-    let container = make_guarded(alloc, kernel, thread, parent, jobs, write)?;
+    let Newborn {
+        read,
+        write,
+        jobs,
+        ..
+    } = *newborn;
+    let outer = Guard {
+        secret: jobs,
+        write,
+    };
+    let container = make_guarded(alloc, kernel, thread, parent, &outer)?;
     let secret = joined(alloc, &[read], jobs)?;
-    let internal = make_guarded(alloc, kernel, thread, container, secret.as_slice(), write)?;
+    let inner = Guard {
+        secret: secret.as_slice(),
+        write,
+    };
+    let internal = make_guarded(alloc, kernel, thread, container, &inner)?;
     Ok((container, internal))
 }
 
-/// Makes a container that is secret in these categories, and that the owner of another category writes.
+/// Makes a container that this guards.
 fn make_guarded<S: LabelStore + Drop>(
     alloc: Global,
     kernel: &mut Kernel<S>,
     thread: ObjId,
     container: ObjId,
-    secret: &[Category],
-    write: Category,
+    guard: &Guard,
 ) -> Result<ObjId, CallError>
-    ensures { RunsPart (ask (calls.MakeContainer container (guarded_by secret.now (write ∷ []))))
+    ensures { RunsPart (ask (calls.MakeContainer container (guarded_by guard.now.secret.now (guard.now.write ∷ []))))
         kernel.old kernel.new thread result }
 {
-    let label = guarded_by(alloc, secret, &[write])?;
+    let label = guarded_by(alloc, guard.secret, &[guard.write])?;
     let made = kernel.make_container(alloc, thread, container, label)?;
     Ok(made)
 }
@@ -102,29 +183,30 @@ fn make_thread<S: LabelStore + Drop>(
     kernel: &mut Kernel<S>,
     thread: ObjId,
     internal: ObjId,
-    owned: &[Category],
-    jobs: &[Category],
-    read: Category,
-    write: Category,
+    newborn: &Newborn,
 ) -> Result<ObjId, CallError>
-    ensures { RunsPart (make_thread internal owned.now jobs.now read write) kernel.old kernel.new thread result }
+    ensures { let child = newborn.now in
+        RunsPart (make_thread internal child.owned.now child.jobs.now child.read child.write)
+        kernel.old kernel.new thread result }
 {
-    let (label, clearance) = thread_labels(alloc, owned, jobs, read, write)?;
+    let (label, clearance) = thread_labels(alloc, newborn)?;
     let made = kernel.make_thread(thread, internal, label, clearance)?;
     Ok(made)
 }
 
 /// Makes the label and the clearance of the thread of a child.
-fn thread_labels(
-    alloc: Global,
-    owned: &[Category],
-    jobs: &[Category],
-    read: Category,
-    write: Category,
-) -> Result<(Label, Label), AllocError>
-    ensures label { IfOk result (λ made. made.0 ≡ owner_label (read ∷ write ∷ owned.now) jobs.now) }
-    ensures clearance { IfOk result (λ made. made.1 ≡ cleared_at ((read ∷ write ∷ owned.now) ++ jobs.now)) }
+fn thread_labels(alloc: Global, newborn: &Newborn) -> Result<(Label, Label), AllocError>
+    ensures label { let child = newborn.now in
+        IfOk result (λ made. made.0 ≡ owner_label (child.read ∷ child.write ∷ child.owned.now) child.jobs.now) }
+    ensures clearance { let child = newborn.now in
+        IfOk result (λ made. made.1 ≡ cleared_at ((child.read ∷ child.write ∷ child.owned.now) ++ child.jobs.now)) }
 {
+    let Newborn {
+        read,
+        write,
+        owned,
+        jobs,
+    } = *newborn;
     let all = joined(alloc, &[read, write], owned)?;
     let label = owner_label(alloc, all.as_slice(), jobs)?;
     let known = joined(alloc, all.as_slice(), jobs)?;
@@ -137,16 +219,15 @@ fn make_segment<S: LabelStore + Drop>(
     alloc: Global,
     kernel: &mut Kernel<S>,
     thread: ObjId,
-    container: ObjId,
-    jobs: &[Category],
-    write: Category,
-    internal: ObjId,
-    child: ObjId,
+    newborn: &Newborn,
+    body: &Body,
 ) -> Result<ObjId, CallError>
-    ensures { RunsPart (make_segment container jobs.now write internal child) kernel.old kernel.new thread result }
+    ensures { RunsPart
+        (make_segment body.now.container newborn.now.jobs.now newborn.now.write body.now.internal body.now.thread)
+        kernel.old kernel.new thread result }
 {
-    let label = guarded_by(alloc, jobs, &[write])?;
-    let bytes = first_status(alloc, internal, child)?;
-    let made = kernel.make_segment(alloc, thread, container, label, bytes)?;
+    let label = guarded_by(alloc, newborn.jobs, &[newborn.write])?;
+    let bytes = first_status(alloc, body.internal, body.thread)?;
+    let made = kernel.make_segment(alloc, thread, body.container, label, bytes)?;
     Ok(made)
 }

@@ -1,13 +1,13 @@
 //! Ending a process.
 ghost use Rattle.histar_programs.specs.Programs.{Runs};
 ghost use Rattle.histar_programs.specs.Refusals.{settled};
-ghost use Rattle.histar_process.specs.ExitCall.{exit_program};
+ghost use Rattle.histar_process.specs.ExitCall.{EndsProcess, exit_program};
 
 use crate::find::{Segment, read_segment, write_segment};
 use histar_flat::Reply;
 use histar_label::LabelStore;
 use histar_layout::exit_status;
-use histar_programs::{CallError, Caller};
+use histar_programs::{CallError, Unix};
 use histar_syscall::Kernel;
 use std::alloc::Global;
 
@@ -16,15 +16,33 @@ use std::alloc::Global;
 pub fn exit<S: LabelStore + Drop>(
     alloc: Global,
     kernel: &mut Kernel<S>,
-    caller: &Caller,
+    unix: &Unix,
     number: u8,
 ) -> Result<Reply, CallError>
-    ensures { Runs (exit_program caller.now.home number) kernel.old kernel.new caller.now.thread (settled result) }
+    ensures { Runs (exit_program unix.now.caller.now.home number) kernel.old kernel.new
+        unix.now.caller.now.thread (settled result) }
 {
-    let (home, thread) = (&caller.home, caller.thread);
-    let Segment { head, bytes: old } = read_segment(alloc, kernel, thread, home)?;
+    let (home, thread) = (&unix.caller.home, unix.caller.thread);
+    let segment = read_segment(alloc, kernel, thread, home)?;
+    end_process(alloc, kernel, unix, segment, number)?;
+    Ok(Reply::Done)
+}
+
+/// Records the number in the segment of the process, which was read, and unlinks its internal container.
+fn end_process<S: LabelStore + Drop>(
+    alloc: Global,
+    kernel: &mut Kernel<S>,
+    unix: &Unix,
+    segment: Segment,
+    number: u8,
+) -> Result<(), CallError>
+    ensures { EndsProcess unix.now.caller.now.home segment number kernel.old kernel.new
+        unix.now.caller.now.thread result }
+{
+    let (home, thread) = (&unix.caller.home, unix.caller.thread);
+    let Segment { head, bytes: old } = segment;
     let bytes = exit_status(alloc, old.as_slice(), number)?;
     write_segment(alloc, kernel, thread, home, bytes)?;
     kernel.unlink(alloc, thread, home.container, head.internal)?;
-    Ok(Reply::Done)
+    Ok(())
 }

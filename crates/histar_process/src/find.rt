@@ -22,6 +22,15 @@ pub struct Segment {
     pub bytes: Bytes,
 }
 
+/// A process whose segment was read, and whose children are to change.
+#[derive(Clone, Copy)]
+pub struct Parent<'a> {
+    /// Where it is found.
+    pub home: &'a Home,
+    /// The bytes of its segment.
+    pub bytes: &'a [u8],
+}
+
 /// Returns where a child is found.
 pub fn home_of(child: Child) -> Home
     ensures { result ≡ home_of child }

@@ -5,13 +5,13 @@ ghost use Rattle.histar_programs.specs.Refusals.{settled};
 ghost use Rattle.histar_process.specs.KillCall.{KillsKnown, kill_program};
 
 use crate::find::{
-    Segment, find_home, home_of, must_be_there, read_head, read_segment, write_segment,
+    Parent, Segment, find_home, home_of, must_be_there, read_head, read_segment, write_segment,
 };
 use histar_flat::{ProcName, Reply};
 use histar_label::LabelStore;
 use histar_layout::{find_child, remove_child};
 use histar_object::ObjId;
-use histar_programs::{CallError, Home, Roots};
+use histar_programs::{CallError, Unix};
 use histar_syscall::Kernel;
 use std::alloc::Global;
 
@@ -24,29 +24,30 @@ const ROOT: u64 = 1;
 pub fn kill<S: LabelStore + Drop>(
     alloc: Global,
     kernel: &mut Kernel<S>,
-    roots: &Roots,
-    thread: ObjId,
+    unix: &Unix,
     name: &ProcName,
 ) -> Result<Reply, CallError>
-    ensures { Runs (kill_program roots.now name.now) kernel.old kernel.new thread (settled result) }
+    ensures { Runs (kill_program unix.now.roots.now name.now) kernel.old kernel.new
+        unix.now.caller.now.thread (settled result) }
 {
     let [number, above @ ..] = name.numbers() else {
-        return kill_first(alloc, kernel, roots, thread);
+        return kill_first(alloc, kernel, unix);
     };
-    kill_child(alloc, kernel, roots, thread, *number, above)
+    kill_child(alloc, kernel, unix, *number, above)
 }
 
 /// Kills process 0.
 fn kill_first<S: LabelStore + Drop>(
     alloc: Global,
     kernel: &mut Kernel<S>,
-    roots: &Roots,
-    thread: ObjId,
+    unix: &Unix,
 ) -> Result<Reply, CallError>
-    ensures { Runs (kill_program roots.now []) kernel.old kernel.new thread (settled result) }
+    ensures { Runs (kill_program unix.now.roots.now []) kernel.old kernel.new
+        unix.now.caller.now.thread (settled result) }
 {
-    read_head(kernel, thread, &roots.home)?;
-    kernel.unlink(alloc, thread, ObjId::new(ROOT), roots.home.container)?;
+    let (home, thread) = (&unix.roots.home, unix.caller.thread);
+    read_head(kernel, thread, home)?;
+    kernel.unlink(alloc, thread, ObjId::new(ROOT), home.container)?;
     Ok(Reply::Done)
 }
 
@@ -54,30 +55,35 @@ fn kill_first<S: LabelStore + Drop>(
 fn kill_child<S: LabelStore + Drop>(
     alloc: Global,
     kernel: &mut Kernel<S>,
-    roots: &Roots,
-    thread: ObjId,
+    unix: &Unix,
     number: u8,
     above: &[u8],
 ) -> Result<Reply, CallError>
-    ensures { Runs (kill_program roots.now (number ∷ above.now)) kernel.old kernel.new thread (settled result) }
+    ensures { Runs (kill_program unix.now.roots.now (number ∷ above.now)) kernel.old kernel.new
+        unix.now.caller.now.thread (settled result) }
 {
-    let home = find_home(kernel, roots.home, thread, above)?;
+    let thread = unix.caller.thread;
+    let home = find_home(kernel, unix.roots.home, thread, above)?;
     let Segment { bytes, .. } = read_segment(alloc, kernel, thread, &home)?;
-    kill_known(alloc, kernel, thread, &home, bytes.as_slice(), number)?;
+    let parent = Parent {
+        home: &home,
+        bytes: bytes.as_slice(),
+    };
+    kill_known(alloc, kernel, thread, &parent, number)?;
     Ok(Reply::Done)
 }
 
-/// Kills the child of this number of the process at this home, whose segment has these bytes.
+/// Kills the child of this number of a process whose segment was read.
 fn kill_known<S: LabelStore + Drop>(
     alloc: Global,
     kernel: &mut Kernel<S>,
     thread: ObjId,
-    home: &Home,
-    bytes: &[u8],
+    parent: &Parent,
     number: u8,
 ) -> Result<(), CallError>
-    ensures { KillsKnown home.now bytes.now number kernel.old kernel.new thread result }
+    ensures { KillsKnown parent.now.home.now parent.now.bytes.now number kernel.old kernel.new thread result }
 {
+    let Parent { home, bytes } = *parent;
     let found = find_child(bytes, number)?;
     let child = must_be_there(found)?;
     let its = home_of(child);

@@ -13,6 +13,6 @@ pub mod spawn;
 pub mod status;
 pub mod whoami;
 
-pub use birth::give_birth;
-pub use find::Segment;
+pub use birth::{Inherited, give_birth};
+pub use find::{Parent, Segment};
 pub use spawn::room_for_child;

@@ -7,67 +7,81 @@ ghost use Rattle.histar_layout.specs.StatusParts.{HasRoomForChild};
 ghost use Rattle.histar_process.specs.Births.{RunsBirth};
 ghost use Rattle.histar_programs.specs.Kin.{kin_of};
 ghost use Rattle.histar_process.specs.Reading.{RunsRoom};
-ghost use Rattle.histar_process.specs.SpawnCall.{must_have_room, spawn_program, take_labels};
+ghost use Rattle.histar_process.specs.SpawnCall.{MakesChild, must_have_room, spawn_program, take_labels};
 
-use crate::birth::give_birth;
-use crate::find::{Segment, read_segment};
+use crate::birth::{Inherited, give_birth};
+use crate::find::{Parent, Segment, read_segment};
 use histar_flat::{Errno, MOST_NUMBERS, ProcName, Reply};
 use histar_label::{Label, LabelStore};
-use histar_layout::{UserTable, is_in_job, jobs_in, user_of};
+use histar_layout::{is_in_job, jobs_in, user_of};
 use histar_object::ObjId;
-use histar_programs::{CallError, Caller, Home, owned_by};
+use histar_programs::{CallError, Home, Unix, owned_by};
 use histar_syscall::Kernel;
 use std::alloc::Global;
 
 /// The greatest number of children that are born to a process.
 const MOST_CHILDREN: u8 = 64;
 
-/// Makes a child of the process of this name, which makes the call: its user is the caller's, and it is
-/// in the same jobs. EAGAIN where the name has no room for one number more or 64 children were
-/// born already, EACCES where the kernel doesn't let the thread modify the process's own objects.
+/// Makes a child of the process that makes the call: its user is the caller's, and it is in the same jobs.
+/// EAGAIN where the process's name has no room for one number more or 64 children were born already, EACCES
+/// where the kernel doesn't let the thread modify the process's own objects.
 pub fn spawn<S: LabelStore + Drop>(
     alloc: Global,
     kernel: &mut Kernel<S>,
-    users: &UserTable,
-    name: &ProcName,
-    caller: &Caller,
+    unix: &Unix,
 ) -> Result<Reply, CallError>
-    ensures { Runs (spawn_program users.now name.now caller.now.home) kernel.old kernel.new
-        caller.now.thread (settled result) }
+    ensures { Runs (spawn_program unix.now.users.now unix.now.process.now unix.now.caller.now.home)
+        kernel.old kernel.new unix.now.caller.now.thread (settled result) }
 {
-    let thread = caller.thread;
-    let Segment { head, bytes } = room_for_child(alloc, kernel, thread, name, &caller.home)?;
-    let (own, clearance) = kernel.own_label(thread)?;
-    bear_child(alloc, kernel, users, caller, bytes.as_slice(), &own)?;
-    take_labels(kernel, thread, own, clearance)?;
+    let (name, home, thread) = (unix.process, &unix.caller.home, unix.caller.thread);
+    let Segment { head, bytes } = room_for_child(alloc, kernel, thread, name, home)?;
+    make_child(alloc, kernel, unix, bytes.as_slice())?;
     Ok(Reply::Child(name.child(head.born + 1)))
 }
 
-/// Makes a child of a caller whose thread has this label and whose segment has these bytes: its
+/// Makes a child of a caller whose segment has these bytes, and gives the thread its own label and clearance
+/// again.
+fn make_child<S: LabelStore + Drop>(
+    alloc: Global,
+    kernel: &mut Kernel<S>,
+    unix: &Unix,
+    bytes: &[u8],
+) -> Result<(), CallError>
+    requires { HasRoomForChild bytes.now }
+    ensures { MakesChild unix.now.users.now unix.now.caller.now.home bytes.now kernel.old kernel.new
+        unix.now.caller.now.thread result }
+{
+    let thread = unix.caller.thread;
+    let (own, clearance) = kernel.own_label(thread)?;
+    bear_child(alloc, kernel, unix, bytes, &own)?;
+    take_labels(kernel, thread, own, clearance)
+}
+
+/// Makes a child of a caller whose segment has these bytes and whose thread has this label: its
 /// user is the caller's, and it is in the same jobs.
 fn bear_child<S: LabelStore + Drop>(
     alloc: Global,
     kernel: &mut Kernel<S>,
-    users: &UserTable,
-    caller: &Caller,
+    unix: &Unix,
     bytes: &[u8],
     own: &Label,
 ) -> Result<(), CallError>
     requires { HasRoomForChild bytes.now }
-    ensures { let kin = kin_of users.now own.now in
-        RunsBirth caller.now.home bytes.now kin.owned kin.jobs kernel.old kernel.new caller.now.thread result }
+    ensures { let kin = kin_of unix.now.users.now own.now in RunsBirth unix.now.caller.now.home bytes.now
+        kin.owned kin.jobs kernel.old kernel.new unix.now.caller.now.thread result }
 {
+    let (users, caller) = (unix.users, unix.caller);
     let jobs = jobs_in(alloc, own)?;
     let owned = owned_by(alloc, users, user_of(own, users), !is_in_job(own))?;
-    give_birth(
-        alloc,
-        kernel,
-        caller.thread,
-        &caller.home,
+    let inherited = Inherited {
+        owned: owned.as_slice(),
+        jobs: jobs.as_slice(),
+    };
+    let parent = Parent {
+        home: &caller.home,
         bytes,
-        owned.as_slice(),
-        jobs.as_slice(),
-    )
+    };
+    give_birth(alloc, kernel, caller.thread, &parent, &inherited)
 }
 
 /// Gives a thread a label and a clearance.

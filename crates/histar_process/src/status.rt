@@ -7,21 +7,21 @@ ghost use Rattle.histar_process.specs.StatusCall.{status_reply, status_program};
 use crate::find::{find_home, read_head};
 use histar_flat::{ProcName, Reply};
 use histar_label::LabelStore;
-use histar_object::ObjId;
-use histar_programs::{CallError, Roots};
+use histar_programs::{CallError, Unix};
 use histar_syscall::Kernel;
 
 /// Answers whether a process runs, or what it has exited with. EACCES where the kernel doesn't let the thread
 /// observe its segment or one above it, ESRCH where it was not born or was killed.
 pub fn status<S: LabelStore + Drop>(
     kernel: &mut Kernel<S>,
-    roots: &Roots,
-    thread: ObjId,
+    unix: &Unix,
     name: &ProcName,
 ) -> Result<Reply, CallError>
-    ensures { Runs (status_program roots.now name.now) kernel.old kernel.new thread (settled result) }
+    ensures { Runs (status_program unix.now.roots.now name.now) kernel.old kernel.new
+        unix.now.caller.now.thread (settled result) }
 {
-    let home = find_home(kernel, roots.home, thread, name.numbers())?;
+    let thread = unix.caller.thread;
+    let home = find_home(kernel, unix.roots.home, thread, name.numbers())?;
     let head = read_head(kernel, thread, &home)?;
     Ok(status_reply(head.exited))
 }

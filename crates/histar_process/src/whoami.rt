@@ -5,21 +5,17 @@ ghost use Rattle.histar_process.specs.Whoami.{whoami_program};
 
 use histar_flat::Reply;
 use histar_label::LabelStore;
-use histar_layout::{UserTable, is_in_job, user_of};
-use histar_object::ObjId;
-use histar_programs::{CallError, user_name};
+use histar_layout::{is_in_job, user_of};
+use histar_programs::{CallError, Unix, user_name};
 use histar_syscall::Kernel;
 
-/// Answers with the user of the process that the thread belongs to, and whether the process is in a job. Both
-/// are read off the thread's own label.
-pub fn whoami<S: LabelStore + Drop>(
-    kernel: &mut Kernel<S>,
-    users: &UserTable,
-    thread: ObjId,
-) -> Result<Reply, CallError>
-    ensures { Runs (whoami_program users.now) kernel.old kernel.new thread (settled result) }
+/// Answers with the user of the process that makes the call, and whether it is in a job. Both are read off
+/// the own label of its thread.
+pub fn whoami<S: LabelStore + Drop>(kernel: &mut Kernel<S>, unix: &Unix) -> Result<Reply, CallError>
+    ensures { Runs (whoami_program unix.now.users.now) kernel.old kernel.new
+        unix.now.caller.now.thread (settled result) }
 {
-    let (own, _most) = kernel.own_label(thread)?;
-    let number = user_of(&own, users);
-    Ok(Reply::User(user_name(users, number), is_in_job(&own)))
+    let (own, _most) = kernel.own_label(unix.caller.thread)?;
+    let number = user_of(&own, unix.users);
+    Ok(Reply::User(user_name(unix.users, number), is_in_job(&own)))
 }

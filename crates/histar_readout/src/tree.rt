@@ -44,6 +44,13 @@ impl TreeNode {
     }
 }
 
+/// Where a tree is read from.
+#[derive(Drop)]
+struct Source<'a, S: LabelStore + Drop> {
+    kernel: &'a Kernel<S>,
+    users: &'a UserTable,
+}
+
 /// The reason why no tree can be read.
 enum TreeError {
     /// The objects are no tree: bytes are no directory, a label is of no class, or a path is too long.
@@ -85,8 +92,9 @@ pub fn tree_of<S: LabelStore + Drop>(
     ensures { IfOk result (FindsTree users.now (state kernel.now) roots.now) }
 {
     let mut tree = Vec::new(alloc);
+    let source = Source { kernel, users };
     let slash = Target::Directory(roots.slash.container, roots.slash.listing);
-    match push_tree(alloc, kernel, users, &Path::root(), slash, &mut tree) {
+    match push_tree(alloc, &source, &Path::root(), slash, &mut tree) {
         Ok(()) => Ok(Some(tree)),
         Err(TreeError::NotATree) => Ok(None),
         Err(TreeError::OutOfMemory) => Err(AllocError),
@@ -107,20 +115,19 @@ pub fn bytes_of<'a, S: LabelStore + Drop>(kernel: &'a Kernel<S>, node: &TreeNode
 #[cycle(tree)]
 fn push_tree<S: LabelStore + Drop>(
     alloc: Global,
-    kernel: &Kernel<S>,
-    users: &UserTable,
+    source: &Source<S>,
     path: &Path,
     target: Target,
     tree: &mut Vec<TreeNode>,
 ) -> Result<(), TreeError>
     requires { length path.now ≤ most_names }
-    ensures { AddsTree users.now (state kernel.now) path.now target tree.old.items tree.new.items result }
+    ensures { AddsTree source.now.users.now (state source.now.kernel.now) path.now target tree.old.items tree.new.items result }
 {
-    let node = node_at(alloc, kernel, users, path, target)?;
+    let node = node_at(alloc, source, path, target)?;
     tree.push(node)?;
     match &target {
         Target::File(_) => Ok(()),
-        Target::Directory(_, listing) => push_below(alloc, kernel, users, path, *listing, tree),
+        Target::Directory(_, listing) => push_below(alloc, source, path, *listing, tree),
     }
 }
 
@@ -128,16 +135,15 @@ fn push_tree<S: LabelStore + Drop>(
 #[cycle(tree)]
 fn push_below<S: LabelStore + Drop>(
     alloc: Global,
-    kernel: &Kernel<S>,
-    users: &UserTable,
+    source: &Source<S>,
     path: &Path,
     listing: ObjId,
     tree: &mut Vec<TreeNode>,
 ) -> Result<(), TreeError>
     requires { length path.now ≤ most_names }
-    ensures { AddsBelow users.now (state kernel.now) path.now listing tree.old.items tree.new.items result }
+    ensures { AddsBelow source.now.users.now (state source.now.kernel.now) path.now listing tree.old.items tree.new.items result }
 {
-    let Some(directory) = read_dir(alloc, kernel.bytes(listing))? else {
+    let Some(directory) = read_dir(alloc, source.kernel.bytes(listing))? else {
         return Err(TreeError::NotATree);
     };
     let entries = directory.entries(alloc)?;
@@ -147,7 +153,7 @@ fn push_below<S: LabelStore + Drop>(
             return Err(TreeError::NotATree);
         }
         let inner = path.entry(name);
-        push_tree(alloc, kernel, users, &inner, target, tree)?;
+        push_tree(alloc, source, &inner, target, tree)?;
     }
     Ok(())
 }
@@ -155,17 +161,16 @@ fn push_below<S: LabelStore + Drop>(
 /// Returns the file or directory at a path with this target: its object has a label, which is of a class.
 fn node_at<S: LabelStore + Drop>(
     alloc: Global,
-    kernel: &Kernel<S>,
-    users: &UserTable,
+    source: &Source<S>,
     path: &Path,
     target: Target,
 ) -> Result<TreeNode, TreeError>
-    ensures { FindsNode users.now (state kernel.now) path.now target result }
+    ensures { FindsNode source.now.users.now (state source.now.kernel.now) path.now target result }
 {
-    let Some(label) = kernel.label(target.object()) else {
+    let Some(label) = source.kernel.label(target.object()) else {
         return Err(TreeError::NotATree);
     };
-    let Some(class) = class_of(alloc, label, users)? else {
+    let Some(class) = class_of(alloc, label, source.users)? else {
         return Err(TreeError::NotATree);
     };
     Ok(TreeNode {

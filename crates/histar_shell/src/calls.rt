@@ -5,13 +5,12 @@ ghost use Rattle.histar_shell.specs.Machine.{Makes, kind_of};
 ghost use Rattle.histar_shell.specs.declared.calls.CallKind.TheVariants.{Entries, Processes, Reading, Writing};
 
 use histar_calls::{append, create, list, mkdir, read, stat, write};
-use histar_flat::{ProcName, Reply, UnixCall};
+use histar_flat::{Reply, UnixCall};
 use histar_label::LabelStore;
-use histar_layout::UserTable;
 use histar_login::login;
 use histar_moves::{rename, rmdir, rmtree, unlink};
 use histar_process::{exit, kill, spawn, status, whoami};
-use histar_programs::{CallError, Caller, Roots};
+use histar_programs::{CallError, Unix};
 use histar_syscall::Kernel;
 use histar_wrap::wrap;
 use std::alloc::Global;
@@ -27,15 +26,6 @@ pub(crate) enum CallKind {
     Entries,
     /// It is on processes and their users.
     Processes,
-}
-
-/// The process that makes a call, with the places and the users of its machine.
-#[derive(Clone, Copy)]
-pub(crate) struct Maker<'a> {
-    pub roots: &'a Roots,
-    pub users: &'a UserTable,
-    pub me: &'a ProcName,
-    pub caller: &'a Caller,
 }
 
 /// Returns the kind of a call.
@@ -56,24 +46,17 @@ pub(crate) fn kind_of(call: &UnixCall) -> CallKind
 pub(crate) fn make_reading_call<S: LabelStore + Drop>(
     alloc: Global,
     kernel: &mut Kernel<S>,
-    maker: &Maker,
+    unix: &Unix,
     call: UnixCall,
 ) -> Result<Reply, CallError>
     requires { kind_of call ≡ Reading }
-    ensures { Makes maker.now.users.now maker.now.roots.now maker.now.me.now maker.now.caller.now
+    ensures { Makes unix.now.users.now unix.now.roots.now unix.now.process.now unix.now.caller.now
         kernel.old kernel.new call (settled result) }
 {
-    let Maker {
-        roots,
-        users,
-        caller,
-        ..
-    } = *maker;
-    let thread = caller.thread;
     match call {
-        UnixCall::Read(path) => read::read(alloc, kernel, roots, thread, path.names()),
-        UnixCall::List(path) => list::list(alloc, kernel, roots, thread, path.names()),
-        UnixCall::Stat(path) => stat::stat(kernel, roots, users, thread, path.names()),
+        UnixCall::Read(path) => read::read(alloc, kernel, unix, path.names()),
+        UnixCall::List(path) => list::list(alloc, kernel, unix, path.names()),
+        UnixCall::Stat(path) => stat::stat(kernel, unix, path.names()),
         _ => unreachable!(),
     }
 }
@@ -82,33 +65,18 @@ pub(crate) fn make_reading_call<S: LabelStore + Drop>(
 pub(crate) fn make_writing_call<S: LabelStore + Drop>(
     alloc: Global,
     kernel: &mut Kernel<S>,
-    maker: &Maker,
+    unix: &Unix,
     call: UnixCall,
 ) -> Result<Reply, CallError>
     requires { kind_of call ≡ Writing }
-    ensures { Makes maker.now.users.now maker.now.roots.now maker.now.me.now maker.now.caller.now
+    ensures { Makes unix.now.users.now unix.now.roots.now unix.now.process.now unix.now.caller.now
         kernel.old kernel.new call (settled result) }
 {
-    let Maker {
-        roots,
-        users,
-        caller,
-        ..
-    } = *maker;
-    let thread = caller.thread;
     match call {
-        UnixCall::Create(path, mode) => {
-            create::create(alloc, kernel, roots, users, thread, path.names(), mode)
-        }
-        UnixCall::Mkdir(path, mode) => {
-            mkdir::mkdir(alloc, kernel, roots, users, thread, path.names(), mode)
-        }
-        UnixCall::Write(path, bytes) => {
-            write::write(alloc, kernel, roots, thread, path.names(), bytes)
-        }
-        UnixCall::Append(path, bytes) => {
-            append::append(alloc, kernel, roots, thread, path.names(), bytes)
-        }
+        UnixCall::Create(path, mode) => create::create(alloc, kernel, unix, path.names(), mode),
+        UnixCall::Mkdir(path, mode) => mkdir::mkdir(alloc, kernel, unix, path.names(), mode),
+        UnixCall::Write(path, bytes) => write::write(alloc, kernel, unix, path.names(), bytes),
+        UnixCall::Append(path, bytes) => append::append(alloc, kernel, unix, path.names(), bytes),
         _ => unreachable!(),
     }
 }
@@ -117,22 +85,18 @@ pub(crate) fn make_writing_call<S: LabelStore + Drop>(
 pub(crate) fn make_entry_call<S: LabelStore + Drop>(
     alloc: Global,
     kernel: &mut Kernel<S>,
-    maker: &Maker,
+    unix: &Unix,
     call: UnixCall,
 ) -> Result<Reply, CallError>
     requires { kind_of call ≡ Entries }
-    ensures { Makes maker.now.users.now maker.now.roots.now maker.now.me.now maker.now.caller.now
+    ensures { Makes unix.now.users.now unix.now.roots.now unix.now.process.now unix.now.caller.now
         kernel.old kernel.new call (settled result) }
 {
-    let Maker { roots, caller, .. } = *maker;
-    let thread = caller.thread;
     match call {
-        UnixCall::Unlink(path) => unlink::unlink(alloc, kernel, roots, thread, path.names()),
-        UnixCall::Rmdir(path) => rmdir::rmdir(alloc, kernel, roots, thread, path.names()),
-        UnixCall::Rmtree(path) => rmtree::rmtree(alloc, kernel, roots, thread, path.names()),
-        UnixCall::Rename(path, name) => {
-            rename::rename(alloc, kernel, roots, thread, path.names(), &name)
-        }
+        UnixCall::Unlink(path) => unlink::unlink(alloc, kernel, unix, path.names()),
+        UnixCall::Rmdir(path) => rmdir::rmdir(alloc, kernel, unix, path.names()),
+        UnixCall::Rmtree(path) => rmtree::rmtree(alloc, kernel, unix, path.names()),
+        UnixCall::Rename(path, name) => rename::rename(alloc, kernel, unix, path.names(), &name),
         _ => unreachable!(),
     }
 }
@@ -141,30 +105,23 @@ pub(crate) fn make_entry_call<S: LabelStore + Drop>(
 pub(crate) fn make_process_call<S: LabelStore + Drop>(
     alloc: Global,
     kernel: &mut Kernel<S>,
-    maker: &Maker,
+    unix: &Unix,
     call: UnixCall,
 ) -> Result<Reply, CallError>
     requires { kind_of call ≡ Processes }
-    ensures { Makes maker.now.users.now maker.now.roots.now maker.now.me.now maker.now.caller.now
+    ensures { Makes unix.now.users.now unix.now.roots.now unix.now.process.now unix.now.caller.now
         kernel.old kernel.new call (settled result) }
 {
-    let Maker {
-        roots,
-        users,
-        me,
-        caller,
-    } = *maker;
-    let thread = caller.thread;
     match call {
-        UnixCall::Spawn => spawn::spawn(alloc, kernel, users, me, caller),
-        UnixCall::Exit(number) => exit::exit(alloc, kernel, caller, number),
-        UnixCall::Status(name) => status::status(kernel, roots, thread, &name),
-        UnixCall::Kill(name) => kill::kill(alloc, kernel, roots, thread, &name),
-        UnixCall::Whoami => whoami::whoami(kernel, users, thread),
+        UnixCall::Spawn => spawn::spawn(alloc, kernel, unix),
+        UnixCall::Exit(number) => exit::exit(alloc, kernel, unix, number),
+        UnixCall::Status(name) => status::status(kernel, unix, &name),
+        UnixCall::Kill(name) => kill::kill(alloc, kernel, unix, &name),
+        UnixCall::Whoami => whoami::whoami(kernel, unix),
         UnixCall::Login(name, password) => {
-            login::login(alloc, kernel, users, caller, name, password)
+            login::login(alloc, kernel, unix.users, unix.caller, name, password)
         }
-        UnixCall::Wrap(path) => wrap::wrap(alloc, kernel, roots, users, me, caller, path.names()),
+        UnixCall::Wrap(path) => wrap::wrap(alloc, kernel, unix, path.names()),
         _ => unreachable!(),
     }
 }

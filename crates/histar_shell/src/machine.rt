@@ -9,14 +9,13 @@ ghost use Rattle.histar_syscall.specs.KernelModel.{state};
 ghost use Rattle.histar_readout.specs.TreeEntries.{node_bytes};
 
 use crate::calls::{
-    CallKind, Maker, kind_of, make_entry_call, make_process_call, make_reading_call,
-    make_writing_call,
+    CallKind, kind_of, make_entry_call, make_process_call, make_reading_call, make_writing_call,
 };
 use histar_flat::{Accounts, ProcName, Reply, UnixCall, each_call_is_right};
 use histar_label::LabelStore;
 use histar_layout::UserTable;
 use histar_login::boot;
-use histar_programs::{CallError, Caller, Roots, Stopped, find_caller, settle};
+use histar_programs::{CallError, Roots, Stopped, Unix, find_caller, settle};
 use histar_readout::{TreeNode, bytes_of, tree_of};
 use histar_syscall::{Kernel, Trace as KernelTrace};
 use std::alloc::{AllocError, Global};
@@ -113,15 +112,13 @@ impl<S: LabelStore + Drop> Machine<S> {
             return Ok(Reply::Gone);
         };
         self.kernel.begin(line);
-        let outcome = make(
-            alloc,
-            &mut self.kernel,
-            &self.roots,
-            &self.users,
+        let unix = Unix {
+            roots: &self.roots,
+            users: &self.users,
             process,
-            &caller,
-            call,
-        );
+            caller: &caller,
+        };
+        let outcome = make(alloc, &mut self.kernel, &unix, call);
         let result = settle(outcome);
         self.is_stopped = result.is_err();
         result
@@ -191,24 +188,16 @@ impl<S: LabelStore + Drop> Machine<S> {
 fn make<S: LabelStore + Drop>(
     alloc: Global,
     kernel: &mut Kernel<S>,
-    roots: &Roots,
-    users: &UserTable,
-    me: &ProcName,
-    caller: &Caller,
+    unix: &Unix,
     call: UnixCall,
 ) -> Result<Reply, CallError>
-    ensures { Makes users.now roots.now me.now caller.now kernel.old kernel.new call (settled result) }
+    ensures { Makes unix.now.users.now unix.now.roots.now unix.now.process.now unix.now.caller.now
+        kernel.old kernel.new call (settled result) }
 {
-    let maker = Maker {
-        roots,
-        users,
-        me,
-        caller,
-    };
     match kind_of(&call) {
-        CallKind::Reading => make_reading_call(alloc, kernel, &maker, call),
-        CallKind::Writing => make_writing_call(alloc, kernel, &maker, call),
-        CallKind::Entries => make_entry_call(alloc, kernel, &maker, call),
-        CallKind::Processes => make_process_call(alloc, kernel, &maker, call),
+        CallKind::Reading => make_reading_call(alloc, kernel, unix, call),
+        CallKind::Writing => make_writing_call(alloc, kernel, unix, call),
+        CallKind::Entries => make_entry_call(alloc, kernel, unix, call),
+        CallKind::Processes => make_process_call(alloc, kernel, unix, call),
     }
 }

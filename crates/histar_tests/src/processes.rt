@@ -10,7 +10,7 @@ use histar_label::PlainStore;
 use histar_layout::{Chain, Target, UserTable};
 use histar_login::{boot, login};
 use histar_process::{exit, spawn};
-use histar_programs::{Roots, find_caller};
+use histar_programs::{Roots, Unix, find_caller};
 use histar_readout::{Life, ProcessNode, procs_of, resolve};
 use histar_syscall::Kernel;
 use histar_wrap::wrap;
@@ -91,18 +91,15 @@ fn check_slash(rt: &impl Abort, kernel: &Kernel<PlainStore>, roots: &Roots) {
     assert!(rt; found == Some(Target::Directory(place.container, place.listing)));
 }
 
-/// Checks that the processes of a kernel are the expected ones.
-fn check_listed(
-    rt: &impl Abort,
+/// Returns the processes of a kernel.
+fn listed(
     alloc: Global,
     kernel: &Kernel<PlainStore>,
     roots: &Roots,
     users: &UserTable,
-    rows: &[Row],
-) -> Result<(), Fail> {
+) -> Result<Vec<ProcessNode>, Fail> {
     let listed = procs_of(alloc, kernel, roots, users)?.ok_or("processes")?;
-    check_processes(rt, listed.as_slice(), rows);
-    Ok(())
+    Ok(listed)
 }
 
 /// Checks that these are the expected processes.
@@ -143,13 +140,26 @@ fn make_calls(
 ) -> Result<(), Fail> {
     let zero = ProcName::zero();
     let caller = find_caller(kernel, roots.home, &zero).ok_or("process 0")?;
-    spawn::spawn(alloc, kernel, users, &zero, &caller)?;
-    let child = find_caller(kernel, roots.home, &zero.child(1)).ok_or("child 1")?;
-    exit::exit(alloc, kernel, &child, 5)?;
+    let unix = Unix {
+        roots,
+        users,
+        process: &zero,
+        caller: &caller,
+    };
+    spawn::spawn(alloc, kernel, &unix)?;
+    let one = zero.child(1);
+    let child = find_caller(kernel, roots.home, &one).ok_or("child 1")?;
+    let childs = Unix {
+        roots,
+        users,
+        process: &one,
+        caller: &child,
+    };
+    exit::exit(alloc, kernel, &childs, 5)?;
     let (name, password) = root()?;
     login::login(alloc, kernel, users, &caller, name, password)?;
     let scratch = [read_name(b"scratch").ok_or("a name")?];
-    wrap::wrap(alloc, kernel, roots, users, &zero, &caller, &scratch)?;
+    wrap::wrap(alloc, kernel, &unix, &scratch)?;
     Ok(())
 }
 
@@ -172,7 +182,10 @@ fn check_session(
     users: &UserTable,
 ) -> Result<(), Fail> {
     check_slash(rt, kernel, roots);
-    check_listed(rt, alloc, kernel, roots, users, AFTER_BOOT)?;
+    let booted = listed(alloc, kernel, roots, users)?;
+    check_processes(rt, booted.as_slice(), AFTER_BOOT);
     make_calls(alloc, kernel, roots, users)?;
-    check_listed(rt, alloc, kernel, roots, users, AT_THE_END)
+    let ended = listed(alloc, kernel, roots, users)?;
+    check_processes(rt, ended.as_slice(), AT_THE_END);
+    Ok(())
 }

@@ -1,11 +1,11 @@
 -- How the code of `wrap` runs its program, from one part to the next.
-use Rattle.std.proofs.Common.{◌≡◌, ℕ, ◌+◌, List, ◌∷◌, Result, Ok, Err, length, inl, sym, ap, ◌∙◌}
+use Rattle.std.proofs.Common.{◌≡◌, ℕ, ◌+◌, List, ◌∷◌, Result, Ok, Err, length, inl, sym, ap, ◌∙◌, subst}
 use Rattle.std.specs.Prelude.{false}
 use Rattle.histar_flat.specs.Accounts.{Accounts}
 use Rattle.histar_flat.specs.Words.{Path, ProcName}
 use Rattle.histar_flat.specs.declared.replies.Reply.TheVariants.{Child}
 use Rattle.histar_label.specs.Levels.{Levels}
-use Rattle.histar_rules.specs.declared.raw.RawCall.TheVariants.{MakeCategory, MakeContainer, OwnLabel}
+use Rattle.histar_rules.specs.declared.raw.RawCall.TheVariants.{MakeCategory, MakeContainer}
 use Rattle.histar_syscall.specs.KernelModel.{KernelModel}
 use Rattle.histar_syscall.proofs.Runs.{same_kernel}
 use Rattle.histar_layout.specs.Status.{ProcessStatus}
@@ -24,7 +24,7 @@ use Rattle.histar_layout.proofs.UserOf.{user_is}
 use Rattle.histar_process.specs.Birth.{birth}
 use Rattle.histar_programs.specs.Kin.{owned_by}
 use Rattle.histar_process.specs.SpawnCall.{room_for_child}
-use Rattle.histar_wrap.specs.Filling.{JobPlan, fill_job, plan_for}
+use Rattle.histar_wrap.specs.Filling.{JobPlan, fill_job, plan_for, start_job}
 use Rattle.histar_wrap.specs.Scratch.{ask_or_give_back, directory_label, hold_job, jobs_with, kin_in, make_scratch}
 use Rattle.histar_wrap.specs.WrapCall.{wrap_program}
 use Rattle.histar_wrap.proofs.Scratching.{without_container}
@@ -89,22 +89,32 @@ pub before_filling : (t : ℕ) (me : Home) (status : ProcessStatus) (room : Room
     → RunsPart (fill_job me status room plan) k k t (Err HasStopped)
 before_filling t me status room plan k = no_scratch t me status room plan k k HasStopped (before_scratch t plan.own plan.label room k)
 
+-- a job was filled by the expected plan, and by the expected thread
+pub filled_so : (me : Home) (status : ProcessStatus) (room : Room) (old new : KernelModel) (plan due : JobPlan) → plan ≡ due → (thread t : ℕ) → thread ≡ t
+    → (result : Result (Unit {0}) CallError) → RunsPart (fill_job me status room plan) old new thread result
+    → RunsPart (fill_job me status room due) old new t result
+filled_so me status room old new plan due same thread t is result runs =
+    subst (λ (p : JobPlan). RunsPart {A = Unit {0}} (fill_job me status room p) old new t result) same
+    (subst (λ (u : ℕ). RunsPart {A = Unit {0}} (fill_job me status room plan) old new u result) is runs)
+
+-- the parts of starting a job, one after another
+module _ (accounts : Accounts) (me : Home) (status : ProcessStatus) (room : Room) where
+  -- what comes after the category
+  abbrev pub after_job : Levels × Levels → ℕ → Part (Unit {0})
+  after_job own job = fill_job me status room (plan_for accounts own job)
+
+  -- what comes after the thread's own labels
+  abbrev pub after_own : Levels × Levels → Part (Unit {0})
+  after_own own rest = ask MakeCategory (λ job. after_job own job rest)
+
 module _ (accounts : Accounts) (roots : Roots) (name : ProcName) (me : Home) (path : Path) where
-  -- what is still to do once the job is filled
-  abbrev pub after_filling : ProcessStatus → Program
-  after_filling status = Answers (Child ((status.born + 1) ∷ name))
-
-  -- what is still to do once the category is made
-  abbrev pub after_job : ProcessStatus → Room → Levels × Levels → ℕ → Program
-  after_job status room own job = fill_job me status room (plan_for accounts own job) (λ (done : Unit {0}). after_filling status)
-
-  -- what is still to do once the thread's labels are known
-  abbrev pub after_own : ProcessStatus → Room → Levels × Levels → Program
-  after_own status room own = ask MakeCategory (after_job status room own)
+  -- what is still to do once the job is started
+  abbrev pub after_start : ProcessStatus → Program
+  after_start status = Answers (Child ((status.born + 1) ∷ name))
 
   -- what is still to do once there is room for an entry
   abbrev pub after_room : ProcessStatus → Room → Program
-  after_room status room = ask OwnLabel (after_own status room)
+  after_room status room = start_job accounts me status room (λ (done : Unit {0}). after_start status)
 
   -- what is still to do once there is room for a child
   abbrev pub after_status : ProcessStatus → Program

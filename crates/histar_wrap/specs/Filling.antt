@@ -2,14 +2,14 @@
 use Rattle.std.specs.Prelude.{◌≡◌, ℕ, List, Some, Result}
 use Rattle.histar_flat.specs.Accounts.{Accounts}
 use Rattle.histar_label.specs.Levels.{Levels}
+use Rattle.histar_rules.specs.declared.raw.RawCall.TheVariants.{MakeCategory, OwnLabel}
 use Rattle.histar_syscall.specs.KernelModel.{KernelModel}
 use Rattle.histar_layout.specs.Status.{ProcessStatus, status_in}
 use Rattle.histar_programs.specs.declared.call_error.CallError.{CallError}
 use Rattle.histar_programs.specs.declared.find.Room.{Room}
 use Rattle.histar_programs.specs.declared.roots.Home.{Home}
-use Rattle.histar_programs.specs.Parts.{◌>>◌}
+use Rattle.histar_programs.specs.Parts.{◌>>=◌, ◌>>◌, ask}
 use Rattle.histar_programs.specs.Programs.{Part, RunsPart}
-use Rattle.histar_programs.specs.declared.caller.Caller.{Caller}
 use Rattle.histar_process.specs.Birth.{birth}
 use Rattle.histar_programs.specs.Kin.{Kin}
 use Rattle.histar_wrap.specs.declared.wrap.Plan.{Plan}
@@ -28,7 +28,7 @@ plan_for accounts own job = record { own = own; job = job; label = directory_lab
 
 -- the plan that the code keeps
 abbrev pub planned : Plan → JobPlan
-planned p = record { own = (p.own, p.clearance); job = p.job; label = p.label; kin = record { owned = p.owned.items; jobs = p.jobs.items } }
+planned p = record { own = (p.wrapper.own, p.wrapper.clearance); job = p.job; label = p.label; kin = record { owned = p.owned.items; jobs = p.jobs.items } }
 
 -- The scratch directory is made, the job's first process is born, and the thread holds the job.
 abbrev pub fill_job : Home → ProcessStatus → Room → JobPlan → Part (Unit {0})
@@ -38,7 +38,20 @@ fill_job me status room plan rest = do
   hold_job plan.own plan.job
   rest tt
 
--- a job was filled by a caller whose process segment has these bytes, whatever status they show
-abbrev pub FillsJob : Caller → List ℕ → Room → JobPlan → KernelModel → KernelModel → Result (Unit {0}) CallError → Type 0
-FillsJob caller bytes room plan old new result =
-    (status : ProcessStatus) → status_in bytes ≡ Some status → RunsPart (fill_job caller.home status room plan) old new caller.thread result
+-- a job was filled by a thread of the process whose segment has these bytes, whatever status they show
+abbrev pub FillsJob : Home → List ℕ → Room → JobPlan → KernelModel → KernelModel → ℕ → Result (Unit {0}) CallError → Type 0
+FillsJob home bytes room plan old new thread result =
+    (status : ProcessStatus) → status_in bytes ≡ Some status → RunsPart (fill_job home status room plan) old new thread result
+
+-- The thread asks for its own labels and makes the job's category, and the job is filled.
+abbrev pub start_job : Accounts → Home → ProcessStatus → Room → Part (Unit {0})
+start_job accounts me status room rest = do
+  own ← ask OwnLabel
+  job ← ask MakeCategory
+  fill_job me status room (plan_for accounts own job)
+  rest tt
+
+-- a job was started by a thread of the process whose segment has these bytes, whatever status they show
+abbrev pub StartsJob : Accounts → Home → List ℕ → Room → KernelModel → KernelModel → ℕ → Result (Unit {0}) CallError → Type 0
+StartsJob accounts home bytes room old new thread result =
+    (status : ProcessStatus) → status_in bytes ≡ Some status → RunsPart (start_job accounts home status room) old new thread result

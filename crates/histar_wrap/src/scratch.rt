@@ -15,74 +15,78 @@ use histar_programs::{CallError, Room, write_entries};
 use histar_syscall::{Kernel, Refusal};
 use std::alloc::Global;
 
+/// The thread that wraps.
+#[derive(Drop)]
+pub struct Wrapper {
+    pub thread: ObjId,
+    /// Its own label, which it had before the job.
+    pub own: Label,
+    /// Its own clearance.
+    pub clearance: Label,
+}
+
 /// Makes a scratch directory: a container and in it an empty directory segment, both with this label, and
 /// the entry in the directory above. EACCES where the directory above may not be written, EPERM where the
-/// label is beyond the thread's clearance: these come at the container, and the thread takes its own label
+/// label is beyond the thread's clearance: these come at the container, and the wrapper takes its own label
 /// and clearance again first.
 pub fn make_scratch<S: LabelStore + Drop>(
     alloc: Global,
     kernel: &mut Kernel<S>,
-    thread: ObjId,
-    own: &Label,
-    own_clearance: &Label,
+    wrapper: &Wrapper,
     label: Label,
     room: Room,
 ) -> Result<(), CallError>
     requires { map.len room.entries < most_entries }
-    ensures { RunsPart (make_scratch (own.now, own_clearance.now) label room) kernel.old kernel.new thread result }
+    ensures { RunsPart (make_scratch (wrapper.now.own, wrapper.now.clearance) label room) kernel.old kernel.new
+        wrapper.now.thread result }
 {
     let Room {
         place,
         mut entries,
         name,
     } = room;
+    let thread = wrapper.thread;
     let same = label.copy()?;
-    let above = place.container;
-    let container = make_or_give_back(alloc, kernel, thread, own, own_clearance, above, label)?;
+    let container = make_or_give_back(alloc, kernel, wrapper, place.container, label)?;
     let empty = Bytes::new(alloc);
     let listing = kernel.make_segment(alloc, thread, container, same, empty)?;
     entries.insert(alloc, &name, Target::Directory(container, listing))?;
     write_entries(alloc, kernel, thread, place, entries)
 }
 
-// Makes a container with this label. Where the kernel denies it the thread takes its own label and
+// Makes a container with this label. Where the kernel denies it the wrapper takes its own label and
 // clearance again, and the denial ends the call; where memory runs out inside that, the call ends without
 // a reply.
 fn make_or_give_back<S: LabelStore + Drop>(
     alloc: Global,
     kernel: &mut Kernel<S>,
-    thread: ObjId,
-    own: &Label,
-    own_clearance: &Label,
+    wrapper: &Wrapper,
     above: ObjId,
     label: Label,
 ) -> Result<ObjId, CallError>
-    ensures runs { RunsPart (ask_or_give_back (own.now, own_clearance.now) (calls.MakeContainer above label))
-        kernel.old kernel.new thread result }
+    ensures runs { RunsPart
+        (ask_or_give_back (wrapper.now.own, wrapper.now.clearance) (calls.MakeContainer above label))
+        kernel.old kernel.new wrapper.now.thread result }
     ensures number { IfOk result (λ container. 0 < container) }
 {
-    let refusal = match kernel.make_container(alloc, thread, above, label) {
+    let refusal = match kernel.make_container(alloc, wrapper.thread, above, label) {
         Ok(container) => return Ok(container),
         Err(refusal) => refusal,
     };
     let CallError::Refused(errno) = CallError::from(refusal) else {
         return Err(CallError::Stopped);
     };
-    restore(kernel, thread, own, own_clearance)?;
+    restore(kernel, wrapper)?;
     Err(CallError::Refused(errno))
 }
 
-// Gives the thread its own label and clearance again.
-fn restore<S: LabelStore + Drop>(
-    kernel: &mut Kernel<S>,
-    thread: ObjId,
-    own: &Label,
-    own_clearance: &Label,
-) -> Result<(), CallError>
-    ensures { RunsPart (restore (own.now, own_clearance.now)) kernel.old kernel.new thread result }
+// Gives the wrapper its own label and clearance again.
+fn restore<S: LabelStore + Drop>(kernel: &mut Kernel<S>, wrapper: &Wrapper) -> Result<(), CallError>
+    ensures { RunsPart (restore (wrapper.now.own, wrapper.now.clearance)) kernel.old kernel.new
+        wrapper.now.thread result }
 {
-    stopping(kernel.set_label(thread, own.copy()?))?;
-    stopping(kernel.set_clearance(thread, own_clearance.copy()?))
+    stopping(kernel.set_label(wrapper.thread, wrapper.own.copy()?))?;
+    stopping(kernel.set_clearance(wrapper.thread, wrapper.clearance.copy()?))
 }
 
 // Returns the answer of a raw call that may not be refused: a refusal ends the call without a reply.
@@ -95,20 +99,19 @@ fn stopping(answer: Result<(), Refusal>) -> Result<(), CallError>
     }
 }
 
-/// Gives the thread its own label and clearance again, but the label owns the job's category, and the
+/// Gives the wrapper its own label and clearance again, but the label owns the job's category, and the
 /// clearance has it at 3.
 pub fn hold_job<S: LabelStore + Drop>(
     kernel: &mut Kernel<S>,
-    thread: ObjId,
-    own: &Label,
-    own_clearance: &Label,
+    wrapper: &Wrapper,
     job: Category,
 ) -> Result<(), CallError>
-    ensures { RunsPart (hold_job (own.now, own_clearance.now) job) kernel.old kernel.new thread result }
+    ensures { RunsPart (hold_job (wrapper.now.own, wrapper.now.clearance) job) kernel.old kernel.new
+        wrapper.now.thread result }
 {
-    let label = own.with(job, Level::Star)?;
-    kernel.set_label(thread, label)?;
-    let clearance = own_clearance.with(job, Level::L3)?;
-    kernel.set_clearance(thread, clearance)?;
+    let label = wrapper.own.with(job, Level::Star)?;
+    kernel.set_label(wrapper.thread, label)?;
+    let clearance = wrapper.clearance.with(job, Level::L3)?;
+    kernel.set_clearance(wrapper.thread, clearance)?;
     Ok(())
 }

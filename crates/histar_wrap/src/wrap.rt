@@ -5,25 +5,23 @@ ghost use Rattle.histar_flat.specs.FlatCalls.{most_entries};
 ghost use Rattle.histar_programs.specs.Programs.{Runs};
 ghost use Rattle.histar_programs.specs.Refusals.{settled};
 ghost use Rattle.histar_layout.specs.StatusParts.{HasRoomForChild};
-ghost use Rattle.histar_wrap.specs.Filling.{FillsJob, plan_for, planned};
+ghost use Rattle.histar_wrap.specs.Filling.{FillsJob, StartsJob, plan_for, planned};
 ghost use Rattle.histar_wrap.specs.Scratch.{jobs_with};
 ghost use Rattle.histar_wrap.specs.WrapCall.{wrap_program};
 
-use crate::scratch::{hold_job, make_scratch};
-use histar_flat::{Name, ProcName, Reply};
+use crate::scratch::{Wrapper, hold_job, make_scratch};
+use histar_flat::{Name, Reply};
 use histar_label::{Category, Label, LabelStore};
 use histar_layout::{UserTable, jobs_in, scratch_label, user_of};
-use histar_process::{Segment, give_birth, room_for_child};
-use histar_programs::{CallError, Caller, Room, Roots, find_room, owned_by};
+use histar_process::{Inherited, Parent, Segment, give_birth, room_for_child};
+use histar_programs::{CallError, Room, Unix, find_room, owned_by};
 use histar_syscall::Kernel;
 use std::alloc::{AllocError, Global};
 
 /// What a job is made of, once its category is made.
 #[derive(Drop)]
 struct Plan {
-    /// The label and the clearance of the thread that wraps.
-    own: Label,
-    clearance: Label,
+    wrapper: Wrapper,
     job: Category,
     /// The label of the scratch directory.
     label: Label,
@@ -47,42 +45,63 @@ struct Plan {
 pub fn wrap<S: LabelStore + Drop>(
     alloc: Global,
     kernel: &mut Kernel<S>,
-    roots: &Roots,
-    users: &UserTable,
-    name: &ProcName,
-    caller: &Caller,
+    unix: &Unix,
     path: &[Name],
 ) -> Result<Reply, CallError>
-    ensures { Runs (wrap_program users.now roots.now name.now caller.now.home path.now) kernel.old
-        kernel.new caller.now.thread (settled result) }
+    ensures { let caller = unix.now.caller.now in
+        Runs (wrap_program unix.now.users.now unix.now.roots.now unix.now.process.now caller.home path.now)
+        kernel.old kernel.new caller.thread (settled result) }
 {
-    let thread = caller.thread;
-    let Segment { head, bytes } = room_for_child(alloc, kernel, thread, name, &caller.home)?;
-    let room = find_room(alloc, kernel, roots, thread, path)?;
-    let (own, clearance) = kernel.own_label(thread)?;
-    let job = kernel.make_category(thread)?;
-    let plan = plan_job(alloc, users, own, clearance, job)?;
-    fill_job(alloc, kernel, caller, bytes.as_slice(), room, plan)?;
+    let (name, home, thread) = (unix.process, &unix.caller.home, unix.caller.thread);
+    let Segment { head, bytes } = room_for_child(alloc, kernel, thread, name, home)?;
+    let room = find_room(alloc, kernel, unix.roots, thread, path)?;
+    start_job(alloc, kernel, unix, bytes.as_slice(), room)?;
     Ok(Reply::Child(name.child(head.born + 1)))
 }
 
-/// Plans the job of this category, which a thread of this label and clearance makes.
+/// Makes a new job of a caller whose segment has these bytes, with its scratch directory in a directory that
+/// has room for it.
+fn start_job<S: LabelStore + Drop>(
+    alloc: Global,
+    kernel: &mut Kernel<S>,
+    unix: &Unix,
+    bytes: &[u8],
+    room: Room,
+) -> Result<(), CallError>
+    requires entries { map.len room.entries < most_entries }
+    requires child { HasRoomForChild bytes.now }
+    ensures { StartsJob unix.now.users.now unix.now.caller.now.home bytes.now room kernel.old kernel.new
+        unix.now.caller.now.thread result }
+{
+    let (home, thread) = (&unix.caller.home, unix.caller.thread);
+    let (own, clearance) = kernel.own_label(thread)?;
+    let job = kernel.make_category(thread)?;
+    let wrapper = Wrapper {
+        thread,
+        own,
+        clearance,
+    };
+    let plan = plan_job(alloc, unix.users, wrapper, job)?;
+    fill_job(alloc, kernel, &Parent { home, bytes }, room, plan)
+}
+
+/// Plans the job of this category.
 fn plan_job(
     alloc: Global,
     users: &UserTable,
-    own: Label,
-    clearance: Label,
+    wrapper: Wrapper,
     job: Category,
 ) -> Result<Plan, AllocError>
-    ensures { IfOk result (λ plan. planned plan ≡ plan_for users.now (own, clearance) job) }
+    ensures plan { IfOk result
+        (λ plan. planned plan ≡ plan_for users.now (wrapper.own, wrapper.clearance) job) }
+    ensures thread { IfOk result (λ plan. plan.wrapper.thread ≡ wrapper.thread) }
 {
-    let user = user_of(&own, users);
-    let jobs = jobs_with(alloc, &own, job)?;
+    let user = user_of(&wrapper.own, users);
+    let jobs = jobs_with(alloc, &wrapper.own, job)?;
     let label = scratch_label(alloc, user, jobs.as_slice())?;
     let owned = owned_by(alloc, users, user, false)?;
     Ok(Plan {
-        own,
-        clearance,
+        wrapper,
         job,
         label,
         owned,
@@ -90,40 +109,34 @@ fn plan_job(
     })
 }
 
-/// Makes the scratch directory of a job and its first process, a child of the caller, and lets the caller
-/// hold the job.
+/// Makes the scratch directory of a job and its first process, a child of the wrapper's process, and lets the
+/// wrapper hold the job.
 fn fill_job<S: LabelStore + Drop>(
     alloc: Global,
     kernel: &mut Kernel<S>,
-    caller: &Caller,
-    bytes: &[u8],
+    parent: &Parent,
     room: Room,
     plan: Plan,
 ) -> Result<(), CallError>
     requires entries { map.len room.entries < most_entries }
-    requires child { HasRoomForChild bytes.now }
-    ensures { FillsJob caller.now bytes.now room (planned plan) kernel.old kernel.new result }
+    requires child { HasRoomForChild parent.now.bytes.now }
+    ensures { FillsJob parent.now.home.now parent.now.bytes.now room (planned plan) kernel.old kernel.new
+        plan.wrapper.thread result }
 {
     let Plan {
-        own,
-        clearance,
+        wrapper,
         job,
         label,
         owned,
         jobs,
     } = plan;
-    let thread = caller.thread;
-    make_scratch(alloc, kernel, thread, &own, &clearance, label, room)?;
-    give_birth(
-        alloc,
-        kernel,
-        thread,
-        &caller.home,
-        bytes,
-        owned.as_slice(),
-        jobs.as_slice(),
-    )?;
-    hold_job(kernel, thread, &own, &clearance, job)
+    make_scratch(alloc, kernel, &wrapper, label, room)?;
+    let inherited = Inherited {
+        owned: owned.as_slice(),
+        jobs: jobs.as_slice(),
+    };
+    give_birth(alloc, kernel, wrapper.thread, parent, &inherited)?;
+    hold_job(kernel, &wrapper, job)
 }
 
 // Returns the jobs that a thread of this label is in, and one more.

@@ -13,51 +13,51 @@ use Rattle.histar_moves.proofs.rmdir.rmdir.Goals as goal
 pub returns-in_err-entry : goal.returns-in_err-entry
 unfolding rmdir_program
 returns-in_err-entry g c =
-    let t = c.args.thread in
+    let t = c.args.unix.now.caller.now.thread in
     let old = c.args.kernel.now in
     let end = c.find_entry.new.kernel in
-    call_fails_so t (rmdir_program c.args.roots.now c.args.path.now) old end c.in_err-entry.field-0.0 _ c.from_residual.ensures.1
-    (call_fails t (find_entry c.args.roots.now c.args.path.now) old end _ c.in_err-entry.field-0.0 c.in_err-entry.ensures.runs)
+    call_fails_so t (rmdir_program c.args.unix.now.roots.now c.args.path.now) old end c.in_err-entry.field-0.0 _ c.from_residual.ensures.1
+    (call_fails t (find_entry c.args.unix.now.roots.now c.args.path.now) old end _ c.in_err-entry.field-0.0 c.in_err-entry.ensures.runs)
 
 pub returns-in_err-place : goal.returns-in_err-place
 unfolding rmdir_program
 returns-in_err-place g c =
-    let t = c.args.thread in
+    let t = c.args.unix.now.caller.now.thread in
     let old = c.args.kernel.now in
     let end = c.find_entry.new.kernel in
     let entry = c.in_ok-entry.entry in
-    call_fails_so t (rmdir_program c.args.roots.now c.args.path.now) old end (Refused c.in_err-place.field-0.0) _
+    call_fails_so t (rmdir_program c.args.unix.now.roots.now c.args.path.now) old end (Refused c.in_err-place.field-0.0) _
     c.from_residual-in_err-place.ensures.1
-    (then_call t (find_entry c.args.roots.now c.args.path.now) old end _ end entry c.in_ok-entry.ensures.runs _
+    (then_call t (find_entry c.args.unix.now.roots.now c.args.path.now) old end _ end entry c.in_ok-entry.ensures.runs _
     (is_refused t (must_be_directory entry.target) (of_directory entry) end c.in_err-place.field-0.0 c.in_err-place.ensures))
 
 pub returns-in_err-directory : goal.returns-in_err-directory
 unfolding rmdir_program
 returns-in_err-directory g c =
-    let t = c.args.thread in
+    let t = c.args.unix.now.caller.now.thread in
     let old = c.args.kernel.now in
     let mid = c.find_entry.new.kernel in
     let end = c.read.new.kernel in
     let entry = c.in_ok-entry.entry in
     let place = c.in_ok-place.place in
-    call_fails_so t (rmdir_program c.args.roots.now c.args.path.now) old end c.in_err-directory.field-0.0 _ c.from_residual-in_err-directory.ensures.1
-    (then_call t (find_entry c.args.roots.now c.args.path.now) old end _ mid entry c.in_ok-entry.ensures.runs _
+    call_fails_so t (rmdir_program c.args.unix.now.roots.now c.args.path.now) old end c.in_err-directory.field-0.0 _ c.from_residual-in_err-directory.ensures.1
+    (then_call t (find_entry c.args.unix.now.roots.now c.args.path.now) old end _ mid entry c.in_ok-entry.ensures.runs _
     (goes_on t (must_be_directory entry.target) (of_directory entry) mid end place c.in_ok-place.ensures _
     (call_fails t (read_directory place) mid end (if_empty entry) c.in_err-directory.field-0.0 c.in_err-directory.ensures)))
 
 pub returns-in_err-must_be_empty : goal.returns-in_err-must_be_empty
 unfolding rmdir_program
 returns-in_err-must_be_empty g c =
-    let t = c.args.thread in
+    let t = c.args.unix.now.caller.now.thread in
     let old = c.args.kernel.now in
     let mid = c.find_entry.new.kernel in
     let end = c.read.new.kernel in
     let entry = c.in_ok-entry.entry in
     let place = c.in_ok-place.place in
     let directory = c.in_ok-directory.directory in
-    call_fails_so t (rmdir_program c.args.roots.now c.args.path.now) old end (Refused c.in_err-must_be_empty.field-0.0)
+    call_fails_so t (rmdir_program c.args.unix.now.roots.now c.args.path.now) old end (Refused c.in_err-must_be_empty.field-0.0)
     _ c.from_residual-in_err-must_be_empty.ensures.1
-    (then_call t (find_entry c.args.roots.now c.args.path.now) old end _ mid entry c.in_ok-entry.ensures.runs _
+    (then_call t (find_entry c.args.unix.now.roots.now c.args.path.now) old end _ mid entry c.in_ok-entry.ensures.runs _
     (goes_on t (must_be_directory entry.target) (of_directory entry) mid end place c.in_ok-place.ensures _
     (then_call t (read_directory place) mid end (if_empty entry) end directory c.in_ok-directory.ensures _
     (is_refused t (must_be_empty directory.entries) (λ _. take_away entry (λ _. Answers Done)) end
@@ -66,7 +66,7 @@ returns-in_err-must_be_empty g c =
 pub returns-in_err-take_away : goal.returns-in_err-take_away
 unfolding rmdir_program
 returns-in_err-take_away g c =
-    let t = c.args.thread in
+    let t = c.args.unix.now.caller.now.thread in
     let old = c.args.kernel.now in
     let mid = c.find_entry.new.kernel in
     let later = c.read.new.kernel in
@@ -74,8 +74,8 @@ returns-in_err-take_away g c =
     let entry = c.in_ok-entry.entry in
     let place = c.in_ok-place.place in
     let directory = c.in_ok-directory.directory in
-    call_fails_so t (rmdir_program c.args.roots.now c.args.path.now) old end c.in_err-take_away.field-0.0 _ c.from_residual-in_err-take_away.ensures.1
-    (then_call t (find_entry c.args.roots.now c.args.path.now) old end _ mid entry c.in_ok-entry.ensures.runs _
+    call_fails_so t (rmdir_program c.args.unix.now.roots.now c.args.path.now) old end c.in_err-take_away.field-0.0 _ c.from_residual-in_err-take_away.ensures.1
+    (then_call t (find_entry c.args.unix.now.roots.now c.args.path.now) old end _ mid entry c.in_ok-entry.ensures.runs _
     (goes_on t (must_be_directory entry.target) (of_directory entry) mid end place c.in_ok-place.ensures _
     (then_call t (read_directory place) mid end (if_empty entry) later directory c.in_ok-directory.ensures _
     (goes_on t (must_be_empty directory.entries) (λ _. take_away entry (λ _. Answers Done)) later end tt c.in_ok-must_be_empty.ensures _
@@ -84,7 +84,7 @@ returns-in_err-take_away g c =
 pub returns : goal.returns
 unfolding rmdir_program
 returns g c =
-    let t = c.args.thread in
+    let t = c.args.unix.now.caller.now.thread in
     let old = c.args.kernel.now in
     let mid = c.find_entry.new.kernel in
     let later = c.read.new.kernel in
@@ -92,7 +92,7 @@ returns g c =
     let entry = c.in_ok-entry.entry in
     let place = c.in_ok-place.place in
     let directory = c.in_ok-directory.directory in
-    then_call t (find_entry c.args.roots.now c.args.path.now) old end _ mid entry c.in_ok-entry.ensures.runs _
+    then_call t (find_entry c.args.unix.now.roots.now c.args.path.now) old end _ mid entry c.in_ok-entry.ensures.runs _
     (goes_on t (must_be_directory entry.target) (of_directory entry) mid end place c.in_ok-place.ensures _
     (then_call t (read_directory place) mid end (if_empty entry) later directory c.in_ok-directory.ensures _
     (goes_on t (must_be_empty directory.entries) (λ _. take_away entry (λ _. Answers Done)) later end tt c.in_ok-must_be_empty.ensures _

@@ -13,9 +13,9 @@ returns-in_err-container g c =
     let t = c.args.thread in
     let old = c.args.kernel.now in
     let parent = c.args.parent in
-    let jobs = c.args.jobs.now in
-    let read = c.args.read in
-    let write = c.args.write in
+    let jobs = c.args.newborn.now.jobs.now in
+    let read = c.args.newborn.now.read in
+    let write = c.args.newborn.now.write in
     let end = c.make_guarded.new.kernel in
     fails_so t (make_containers parent jobs read write) old end c.in_err-container.field-0.0 _ c.from_residual.ensures.1
     (no_container t old end parent jobs read write c.in_err-container.field-0.0 c.in_err-container.ensures)
@@ -25,9 +25,9 @@ returns-in_err-secret g c =
     let t = c.args.thread in
     let old = c.args.kernel.now in
     let parent = c.args.parent in
-    let jobs = c.args.jobs.now in
-    let read = c.args.read in
-    let write = c.args.write in
+    let jobs = c.args.newborn.now.jobs.now in
+    let read = c.args.newborn.now.read in
+    let write = c.args.newborn.now.write in
     let end = c.make_guarded.new.kernel in
     fails_so t (make_containers parent jobs read write) old end Stopped _ c.from_residual-in_err-secret.ensures.1
     (no_internal t old end parent jobs read write end c.in_ok-container.container c.in_ok-container.ensures Stopped
@@ -38,9 +38,9 @@ returns-in_err-internal g c =
     let t = c.args.thread in
     let old = c.args.kernel.now in
     let parent = c.args.parent in
-    let jobs = c.args.jobs.now in
-    let read = c.args.read in
-    let write = c.args.write in
+    let jobs = c.args.newborn.now.jobs.now in
+    let read = c.args.newborn.now.read in
+    let write = c.args.newborn.now.write in
     let mid = c.make_guarded.new.kernel in
     let end = c.make_guarded-2.new.kernel in
     fails_so t (make_containers parent jobs read write) old end c.in_err-internal.field-0.0 _ c.from_residual-in_err-internal.ensures.1
@@ -54,9 +54,9 @@ returns g c =
     let t = c.args.thread in
     let old = c.args.kernel.now in
     let parent = c.args.parent in
-    let jobs = c.args.jobs.now in
-    let read = c.args.read in
-    let write = c.args.write in
+    let jobs = c.args.newborn.now.jobs.now in
+    let read = c.args.newborn.now.read in
+    let write = c.args.newborn.now.write in
     let mid = c.make_guarded.new.kernel in
     let end = c.make_guarded-2.new.kernel in
     containers t old end parent jobs read write mid c.in_ok-container.container c.in_ok-container.ensures c.in_ok-internal.internal

@@ -12,16 +12,16 @@ pub returns-in_err-label : goal.returns-in_err-label
 returns-in_err-label g c =
     let t = c.args.thread in
     let old = c.args.kernel.now in
-    let owned : List ℕ = c.args.read ∷ c.args.write ∷ c.args.owned.now in
-    let call = MakeThread c.args.internal (owner_label owned c.args.jobs.now) (cleared_at (owned ++ c.args.jobs.now)) in
+    let owned : List ℕ = c.args.newborn.now.read ∷ c.args.newborn.now.write ∷ c.args.newborn.now.owned.now in
+    let call = MakeThread c.args.internal (owner_label owned c.args.newborn.now.jobs.now) (cleared_at (owned ++ c.args.newborn.now.jobs.now)) in
     fails_so t (ask call) old old Stopped _ c.from_residual.ensures.1 (before_ask t call old)
 
 pub returns-in_err-made : goal.returns-in_err-made
 returns-in_err-made g c =
     let t = c.args.thread in
     let old = c.args.kernel.now in
-    let owned : List ℕ = c.args.read ∷ c.args.write ∷ c.args.owned.now in
-    let call = MakeThread c.args.internal (owner_label owned c.args.jobs.now) (cleared_at (owned ++ c.args.jobs.now)) in
+    let owned : List ℕ = c.args.newborn.now.read ∷ c.args.newborn.now.write ∷ c.args.newborn.now.owned.now in
+    let call = MakeThread c.args.internal (owner_label owned c.args.newborn.now.jobs.now) (cleared_at (owned ++ c.args.newborn.now.jobs.now)) in
     let end = c.make_thread.new.self in
     let made = MakeThread c.args.internal c.in_ok-label.label c.in_ok-label.clearance in
     fails_so t (ask call) old end _ _ c.from_residual-in_err-made.ensures.1

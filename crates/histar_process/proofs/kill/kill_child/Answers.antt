@@ -11,8 +11,8 @@ use Rattle.histar_process.proofs.kill.kill_child.Goals as goal
 pub returns-in_err-home : goal.returns-in_err-home
 unfolding kill_program
 returns-in_err-home g c =
-    let t = c.args.thread in
-    let roots = c.args.roots.now in
+    let t = c.args.unix.now.caller.now.thread in
+    let roots = c.args.unix.now.roots.now in
     let name = c.args.number ∷ c.args.above.now in
     let old = c.args.kernel.now in
     let k1 = c.find_home.new.kernel in
@@ -23,8 +23,8 @@ returns-in_err-home g c =
 pub returns-in_err-bytes : goal.returns-in_err-bytes
 unfolding kill_program
 returns-in_err-bytes g c =
-    let t = c.args.thread in
-    let roots = c.args.roots.now in
+    let t = c.args.unix.now.caller.now.thread in
+    let roots = c.args.unix.now.roots.now in
     let name = c.args.number ∷ c.args.above.now in
     let old = c.args.kernel.now in
     let k1 = c.find_home.new.kernel in
@@ -38,8 +38,8 @@ returns-in_err-bytes g c =
 pub returns-in_err-kill_known : goal.returns-in_err-kill_known
 unfolding kill_program
 returns-in_err-kill_known g c =
-    let t = c.args.thread in
-    let roots = c.args.roots.now in
+    let t = c.args.unix.now.caller.now.thread in
+    let roots = c.args.unix.now.roots.now in
     let name = c.args.number ∷ c.args.above.now in
     let old = c.args.kernel.now in
     let k1 = c.find_home.new.kernel in
@@ -57,8 +57,8 @@ returns-in_err-kill_known g c =
 pub returns : goal.returns
 unfolding kill_program
 returns g c =
-    let t = c.args.thread in
-    let roots = c.args.roots.now in
+    let t = c.args.unix.now.caller.now.thread in
+    let roots = c.args.unix.now.roots.now in
     let old = c.args.kernel.now in
     let k1 = c.find_home.new.kernel in
     let home = c.in_ok-home.home in

@@ -15,8 +15,8 @@ use Rattle.histar_process.proofs.kill.kill_first.Goals as goal
 pub returns-in_err-read_head : goal.returns-in_err-read_head
 unfolding kill_program read_head
 returns-in_err-read_head g c =
-    let t = c.args.thread in
-    let roots = c.args.roots.now in
+    let t = c.args.unix.now.caller.now.thread in
+    let roots = c.args.unix.now.roots.now in
     let home = roots.home in
     let old = c.args.kernel.now in
     let mid = c.read_head.new.kernel in
@@ -28,8 +28,8 @@ returns-in_err-read_head g c =
 pub returns-in_err-unlink : goal.returns-in_err-unlink
 unfolding kill_program read_head
 returns-in_err-unlink g c =
-    let t = c.args.thread in
-    let roots = c.args.roots.now in
+    let t = c.args.unix.now.caller.now.thread in
+    let roots = c.args.unix.now.roots.now in
     let home = roots.home in
     let old = c.args.kernel.now in
     let mid = c.read_head.new.kernel in
@@ -45,8 +45,8 @@ returns-in_err-unlink g c =
 pub returns : goal.returns
 unfolding kill_program read_head
 returns g c =
-    let t = c.args.thread in
-    let roots = c.args.roots.now in
+    let t = c.args.unix.now.caller.now.thread in
+    let roots = c.args.unix.now.roots.now in
     let home = roots.home in
     let old = c.args.kernel.now in
     let mid = c.read_head.new.kernel in

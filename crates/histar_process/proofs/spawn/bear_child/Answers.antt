@@ -9,25 +9,25 @@ use Rattle.histar_process.proofs.spawn.bear_child.Goals as goal
 
 pub returns-in_err-jobs : goal.returns-in_err-jobs
 returns-in_err-jobs g c status is =
-    let t = c.args.caller.now.thread in
-    let me = c.args.caller.now.home in
+    let t = c.args.unix.now.caller.now.thread in
+    let me = c.args.unix.now.caller.now.home in
     let old = c.args.kernel.now in
-    let kin = kin_of c.args.users.now c.args.own.now in
+    let kin = kin_of c.args.unix.now.users.now c.args.own.now in
     fails_so t (birth me status kin) old old Stopped _ c.from_residual.ensures.1 (before_birth t me status kin old)
 
 pub returns-in_err-owned : goal.returns-in_err-owned
 returns-in_err-owned g c status is =
-    let t = c.args.caller.now.thread in
-    let me = c.args.caller.now.home in
+    let t = c.args.unix.now.caller.now.thread in
+    let me = c.args.unix.now.caller.now.home in
     let old = c.args.kernel.now in
-    let kin = kin_of c.args.users.now c.args.own.now in
+    let kin = kin_of c.args.unix.now.users.now c.args.own.now in
     fails_so t (birth me status kin) old old Stopped _ c.from_residual-in_err-owned.ensures.1 (before_birth t me status kin old)
 
 pub returns : goal.returns
 returns g c status is =
-    let t = c.args.caller.now.thread in
-    let me = c.args.caller.now.home in
-    let accounts = c.args.users.now in
+    let t = c.args.unix.now.caller.now.thread in
+    let me = c.args.unix.now.caller.now.home in
+    let accounts = c.args.unix.now.users.now in
     let own = c.args.own.now in
     let kin_so =
     kin_is own accounts c.user_of.result c.is_in_job.result c.as_slice.result.now c.as_slice-2.result.now

@@ -12,8 +12,8 @@ use Rattle.histar_process.proofs.status.status.Goals as goal
 pub returns-in_err-home : goal.returns-in_err-home
 unfolding status_program
 returns-in_err-home g c =
-    let t = c.args.thread in
-    let roots = c.args.roots.now in
+    let t = c.args.unix.now.caller.now.thread in
+    let roots = c.args.unix.now.roots.now in
     let name = c.args.name.now in
     let old = c.args.kernel.now in
     let mid = c.find_home.new.kernel in
@@ -25,8 +25,8 @@ returns-in_err-home g c =
 pub returns-in_err-head : goal.returns-in_err-head
 unfolding status_program read_head
 returns-in_err-head g c =
-    let t = c.args.thread in
-    let roots = c.args.roots.now in
+    let t = c.args.unix.now.caller.now.thread in
+    let roots = c.args.unix.now.roots.now in
     let name = c.args.name.now in
     let old = c.args.kernel.now in
     let mid = c.find_home.new.kernel in
@@ -41,8 +41,8 @@ returns-in_err-head g c =
 pub returns : goal.returns
 unfolding status_program read_head
 returns g c =
-    let t = c.args.thread in
-    let roots = c.args.roots.now in
+    let t = c.args.unix.now.caller.now.thread in
+    let roots = c.args.unix.now.roots.now in
     let name = c.args.name.now in
     let old = c.args.kernel.now in
     let mid = c.find_home.new.kernel in

@@ -14,19 +14,19 @@ use Rattle.histar_process.proofs.whoami.whoami.Goals as goal
 pub returns-in_err-own : goal.returns-in_err-own
 unfolding whoami_program
 returns-in_err-own g c =
-    let t = c.args.thread in
+    let t = c.args.unix.now.caller.now.thread in
     let old = c.args.kernel.now in
     let end = c.own_label.new.self in
-    call_fails_so t (whoami_program c.args.users.now) old end _ _ c.from_residual.ensures.1
+    call_fails_so t (whoami_program c.args.unix.now.users.now) old end _ _ c.from_residual.ensures.1
     (call_fails t (ask OwnLabel) old end _ _ (refuses t OwnLabel old end _ c.in_err-own.field-0.0 c.in_err-own.ensures))
 
 pub returns : goal.returns
 unfolding whoami_program
 returns g c =
-    let t = c.args.thread in
+    let t = c.args.unix.now.caller.now.thread in
     let old = c.args.kernel.now in
     let end = c.own_label.new.self in
-    let accounts = c.args.users.now in
+    let accounts = c.args.unix.now.users.now in
     let users = accounts.users in
     let own = c.in_ok-own.own in
     let number = c.user_of-number.result in

@@ -20,11 +20,11 @@ none_left items i past = nil_from_length (drop i items) (omega (arith, past, len
 
 pub push_below-entries-init : goal.push_below-entries-init
 push_below-entries-init g t c =
-    let s = state c.args.kernel.now in (
+    let s = state c.args.source.now.kernel.now in (
       c.in-Some.directory,
       read_as (bytes_in (s.objects c.args.listing)) c.bytes.result.now c.in_ok-directory.field-0 c.in-Some.directory
           c.bytes.ensures c.in-Some.is c.in_ok-directory.ensures,
-      adds_none (below_at c.args.users.now s c.args.path.now) c.args.path.now (map.entries c.in-Some.directory) _
+      adds_none (below_at c.args.source.now.users.now s c.args.path.now) c.args.path.now (map.entries c.in-Some.directory) _
           c.args.tree.now.items (c.deref-entry-items.ensures.value ∙ c.in_ok-entries.ensures),
     )
 
@@ -32,7 +32,7 @@ pub push_below-returns-then-depth-eq-MOST_NAMES : goal.push_below-returns-then-d
 push_below-returns-then-depth-eq-MOST_NAMES g t c =
     let items = c.deref-entry-items.result.now in
     let turn = next_left items c.entries.entry-index c.entry-item.result (omega arith) c.entry-item.is in
-    no_level_more c.args.users.now (state c.args.kernel.now) c.args.path.now c.args.listing
+    no_level_more c.args.source.now.users.now (state c.args.source.now.kernel.now) c.args.path.now c.args.listing
     (drop c.entries.entry-index items) (drop (c.entries.entry-index + 1) items) c.entry-item.result
     c.args.tree.now.items c.entries.tree.items turn c.entries.invariant
     (sym c.depth.ensures.value ∙ c.if-depth-eq-MOST_NAMES.true)
@@ -41,46 +41,46 @@ pub push_below-entries-preserved : goal.push_below-entries-preserved
 push_below-entries-preserved g t c =
     let items = c.deref-entry-items.result.now in
     let turn = next_left items c.entries.entry-index c.entry-item.result (omega arith) c.entry-item.is in
-    entry_more c.args.users.now (state c.args.kernel.now) c.args.path.now c.args.listing
+    entry_more c.args.source.now.users.now (state c.args.source.now.kernel.now) c.args.path.now c.args.listing
     (drop c.entries.entry-index items) (drop (c.entries.entry-index + 1) items) c.entry-item.result
     c.args.tree.now.items c.entries.tree.items _ turn c.entries.invariant
     c.requires (λ e. c.if-depth-eq-MOST_NAMES.false (c.depth.ensures.value ∙ e))
     (subst (λ (q : Path).
-    AddsTree c.args.users.now (state c.args.kernel.now) q c.entry-item.result.1 c.entries.tree.items
+    AddsTree c.args.source.now.users.now (state c.args.source.now.kernel.now) q c.entry-item.result.1 c.entries.tree.items
     c.push_tree.new.tree.items (Ok tt)) c.entry-inner.ensures c.in_ok-push_tree.ensures)
 
 pub push_below-returns-in_err-push_tree : goal.push_below-returns-in_err-push_tree
 push_below-returns-in_err-push_tree g t c =
     let items = c.deref-entry-items.result.now in
     let turn = next_left items c.entries.entry-index c.entry-item.result (omega arith) c.entry-item.is in
-    fails_below c.args.users.now (state c.args.kernel.now) c.args.path.now c.args.listing c.args.tree.now.items
+    fails_below c.args.source.now.users.now (state c.args.source.now.kernel.now) c.args.path.now c.args.listing c.args.tree.now.items
     c.push_tree.new.tree.items c.in_err-push_tree.field-0.0 c.from_residual-in_err-push_tree.result
     c.from_residual-in_err-push_tree.ensures.1
-    (no_entry_more c.args.users.now (state c.args.kernel.now) c.args.path.now c.args.listing
+    (no_entry_more c.args.source.now.users.now (state c.args.source.now.kernel.now) c.args.path.now c.args.listing
     (drop c.entries.entry-index items) (drop (c.entries.entry-index + 1) items) c.entry-item.result
     c.args.tree.now.items c.entries.tree.items c.push_tree.new.tree.items c.in_err-push_tree.field-0.0 turn
     c.entries.invariant
     c.requires (λ e. c.if-depth-eq-MOST_NAMES.false (c.depth.ensures.value ∙ e))
     (subst (λ (q : Path).
-    AddsTree c.args.users.now (state c.args.kernel.now) q c.entry-item.result.1 c.entries.tree.items
+    AddsTree c.args.source.now.users.now (state c.args.source.now.kernel.now) q c.entry-item.result.1 c.entries.tree.items
     c.push_tree.new.tree.items (Err c.in_err-push_tree.field-0.0)) c.entry-inner.ensures
     c.in_err-push_tree.ensures))
 
 pub push_below-returns : goal.push_below-returns
 push_below-returns g t c =
     let items = c.deref-entry-items.result.now in
-    entries_all c.args.users.now (state c.args.kernel.now) c.args.path.now c.args.listing
+    entries_all c.args.source.now.users.now (state c.args.source.now.kernel.now) c.args.path.now c.args.listing
     (drop c.entries.entry-index items) c.args.tree.now.items c.entries.tree.items
     (none_left items c.entries.entry-index (omega arith)) c.entries.invariant
 
 pub push_tree-returns-in-Directory : goal.push_tree-returns-in-Directory
 push_tree-returns-in-Directory g t c =
-    adds_directory c.args.users.now (state c.args.kernel.now) c.args.path.now c.args.target c.in-Directory.field-0
+    adds_directory c.args.source.now.users.now (state c.args.source.now.kernel.now) c.args.path.now c.args.target c.in-Directory.field-0
     c.in-Directory.listing c.in-Directory.is c.in_ok-node.node c.in_ok-node.ensures c.args.tree.now.items _ _ _
     c.in_ok-push.ensures.items c.push_below.ensures
 
 pub push_tree-returns-in_err-node : goal.push_tree-returns-in_err-node
 push_tree-returns-in_err-node g t c =
-    no_node c.args.users.now (state c.args.kernel.now) c.args.path.now c.args.target c.args.tree.now.items
+    no_node c.args.source.now.users.now (state c.args.source.now.kernel.now) c.args.path.now c.args.target c.args.tree.now.items
     c.args.tree.now.items c.in_err-node.field-0.0 c.from_residual.result c.from_residual.ensures.1
     c.in_err-node.ensures

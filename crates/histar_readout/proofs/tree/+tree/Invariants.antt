@@ -14,5 +14,5 @@ decreases-push_tree g l = 2 * (most_names - length l.path.now) + 1
 
 abbrev pub invariant-push_below-entries : goal.invariant-push_below-entries
 invariant-push_below-entries g l =
-    AddsEntries l.users (state l.kernel) l.path l.fn.listing (drop l.entry-index l.entry-items) l.fn.tree.items
+    AddsEntries l.source.users.now (state l.source.kernel.now) l.path l.fn.listing (drop l.entry-index l.entry-items) l.fn.tree.items
     l.tree.items

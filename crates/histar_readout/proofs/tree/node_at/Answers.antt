@@ -14,8 +14,8 @@ returns g c =
       path_is = refl;
       target_is = refl;
       label = label;
-      label_is = sym (c.in-Some.ensures ∙ ap (λ (o : ℕ). label_there ((state c.args.kernel.now).objects o)) c.object.ensures);
+      label_is = sym (c.in-Some.ensures ∙ ap (λ (o : ℕ). label_there ((state c.args.source.now.kernel.now).objects o)) c.object.ensures);
       of_class =
-          MatchOption-at_some _ (λ (class : Class). IsClassLabel c.args.users.now class label) c.in-Some-2.class
+          MatchOption-at_some _ (λ (class : Class). IsClassLabel c.args.source.now.users.now class label) c.in-Some-2.class
           c.in-Some-2.is c.in_ok-class.ensures;
     }

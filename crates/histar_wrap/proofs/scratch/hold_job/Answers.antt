@@ -11,20 +11,20 @@ use Rattle.histar_wrap.proofs.scratch.hold_job.Goals as goal
 
 pub returns-in_err-label : goal.returns-in_err-label
 returns-in_err-label g c =
-    let t = c.args.thread in
+    let t = c.args.wrapper.now.thread in
     let old = c.args.kernel.now in
-    let own = c.args.own.now in
-    let own_clearance = c.args.own_clearance.now in
+    let own = c.args.wrapper.now.own in
+    let own_clearance = c.args.wrapper.now.clearance in
     let job = c.args.job in
     fails_so t (hold_job (own, own_clearance) job) old old Stopped _ c.from_residual.ensures.1
     (hold_fails t (own, own_clearance) job old old Stopped (before_ask t (SetLabel (with_level own job Star)) old))
 
 pub returns-in_err-set_label : goal.returns-in_err-set_label
 returns-in_err-set_label g c =
-    let t = c.args.thread in
+    let t = c.args.wrapper.now.thread in
     let old = c.args.kernel.now in
-    let own = c.args.own.now in
-    let own_clearance = c.args.own_clearance.now in
+    let own = c.args.wrapper.now.own in
+    let own_clearance = c.args.wrapper.now.clearance in
     let job = c.args.job in
     let mid = c.set_label.new.self in
     fails_so t (hold_job (own, own_clearance) job) old mid _ _ c.from_residual-in_err-set_label.ensures.1
@@ -34,10 +34,10 @@ returns-in_err-set_label g c =
 
 pub returns-in_err-clearance : goal.returns-in_err-clearance
 returns-in_err-clearance g c =
-    let t = c.args.thread in
+    let t = c.args.wrapper.now.thread in
     let old = c.args.kernel.now in
-    let own = c.args.own.now in
-    let own_clearance = c.args.own_clearance.now in
+    let own = c.args.wrapper.now.own in
+    let own_clearance = c.args.wrapper.now.clearance in
     let job = c.args.job in
     let mid = c.set_label.new.self in
     fails_so t (hold_job (own, own_clearance) job) old mid Stopped _ c.from_residual-in_err-clearance.ensures.1
@@ -48,10 +48,10 @@ returns-in_err-clearance g c =
 
 pub returns-in_err-set_clearance : goal.returns-in_err-set_clearance
 returns-in_err-set_clearance g c =
-    let t = c.args.thread in
+    let t = c.args.wrapper.now.thread in
     let old = c.args.kernel.now in
-    let own = c.args.own.now in
-    let own_clearance = c.args.own_clearance.now in
+    let own = c.args.wrapper.now.own in
+    let own_clearance = c.args.wrapper.now.clearance in
     let job = c.args.job in
     let mid = c.set_label.new.self in
     let end = c.set_clearance.new.self in
@@ -65,10 +65,10 @@ returns-in_err-set_clearance g c =
 
 pub returns : goal.returns
 returns g c =
-    let t = c.args.thread in
+    let t = c.args.wrapper.now.thread in
     let old = c.args.kernel.now in
-    let own = c.args.own.now in
-    let own_clearance = c.args.own_clearance.now in
+    let own = c.args.wrapper.now.own in
+    let own_clearance = c.args.wrapper.now.clearance in
     let job = c.args.job in
     let mid = c.set_label.new.self in
     let end = c.set_clearance.new.self in

@@ -9,21 +9,21 @@ use Rattle.histar_wrap.proofs.scratch.make_or_give_back.Goals as goal
 pub returns-in-Ok-clause-runs : goal.returns-in-Ok-clause-runs
 returns-in-Ok-clause-runs g c =
     let call = MakeContainer c.args.above c.args.label in
-    goes_on c.args.thread call c.args.kernel.now c.make_container.new.self (c.args.own.now, c.args.own_clearance.now)
+    goes_on c.args.wrapper.now.thread call c.args.kernel.now c.make_container.new.self (c.args.wrapper.now.own, c.args.wrapper.now.clearance)
     c.in-Ok.container c.in-Ok.ensures.0 c.in-Ok.ensures.1.0
 
 pub returns-in_default-clause-runs : goal.returns-in_default-clause-runs
 returns-in_default-clause-runs g c =
     let call = MakeContainer c.args.above c.args.label in
-    stops_there c.args.thread call c.args.kernel.now c.make_container.new.self
-    (c.args.own.now, c.args.own_clearance.now) _ c.in-Err.refusal c.in-Err.ensures (sym c.in_default.ensures)
+    stops_there c.args.wrapper.now.thread call c.args.kernel.now c.make_container.new.self
+    (c.args.wrapper.now.own, c.args.wrapper.now.clearance) _ c.in-Err.refusal c.in-Err.ensures (sym c.in_default.ensures)
 
 pub returns-in_err-restore-clause-runs : goal.returns-in_err-restore-clause-runs
 returns-in_err-restore-clause-runs g c =
-    let t = c.args.thread in
+    let t = c.args.wrapper.now.thread in
     let call = MakeContainer c.args.above c.args.label in
-    let own = c.args.own.now in
-    let own_clearance = c.args.own_clearance.now in
+    let own = c.args.wrapper.now.own in
+    let own_clearance = c.args.wrapper.now.clearance in
     let old = c.args.kernel.now in
     let mid = c.make_container.new.self in
     let end = c.restore.new.kernel in
@@ -36,10 +36,10 @@ returns-in_err-restore-clause-runs g c =
 
 pub returns-clause-runs : goal.returns-clause-runs
 returns-clause-runs g c =
-    let t = c.args.thread in
+    let t = c.args.wrapper.now.thread in
     let call = MakeContainer c.args.above c.args.label in
-    let own = c.args.own.now in
-    let own_clearance = c.args.own_clearance.now in
+    let own = c.args.wrapper.now.own in
+    let own_clearance = c.args.wrapper.now.clearance in
     let old = c.args.kernel.now in
     let mid = c.make_container.new.self in
     let end = c.restore.new.kernel in

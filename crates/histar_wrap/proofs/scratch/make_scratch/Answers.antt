@@ -13,10 +13,10 @@ use Rattle.histar_wrap.proofs.scratch.make_scratch.Goals as goal
 
 pub returns-in_err-same : goal.returns-in_err-same
 returns-in_err-same g c =
-    let t = c.args.thread in
+    let t = c.args.wrapper.now.thread in
     let old = c.args.kernel.now in
-    let own = c.args.own.now in
-    let own_clearance = c.args.own_clearance.now in
+    let own = c.args.wrapper.now.own in
+    let own_clearance = c.args.wrapper.now.clearance in
     let label = c.args.label in
     let room = c.args.room in
     fails_so t (make_scratch (own, own_clearance) label room) old old Stopped _ c.from_residual.ensures.1
@@ -24,10 +24,10 @@ returns-in_err-same g c =
 
 pub returns-in_err-container : goal.returns-in_err-container
 returns-in_err-container g c =
-    let t = c.args.thread in
+    let t = c.args.wrapper.now.thread in
     let old = c.args.kernel.now in
-    let own = c.args.own.now in
-    let own_clearance = c.args.own_clearance.now in
+    let own = c.args.wrapper.now.own in
+    let own_clearance = c.args.wrapper.now.clearance in
     let label = c.args.label in
     let room = c.args.room in
     let k1 = c.make_or_give_back.new.kernel in
@@ -36,10 +36,10 @@ returns-in_err-container g c =
 
 pub returns-in_err-listing : goal.returns-in_err-listing
 returns-in_err-listing g c =
-    let t = c.args.thread in
+    let t = c.args.wrapper.now.thread in
     let old = c.args.kernel.now in
-    let own = c.args.own.now in
-    let own_clearance = c.args.own_clearance.now in
+    let own = c.args.wrapper.now.own in
+    let own_clearance = c.args.wrapper.now.clearance in
     let label = c.args.label in
     let room = c.args.room in
     let k1 = c.make_or_give_back.new.kernel in
@@ -53,10 +53,10 @@ returns-in_err-listing g c =
 
 pub returns-in_err-insert : goal.returns-in_err-insert
 returns-in_err-insert g c =
-    let t = c.args.thread in
+    let t = c.args.wrapper.now.thread in
     let old = c.args.kernel.now in
-    let own = c.args.own.now in
-    let own_clearance = c.args.own_clearance.now in
+    let own = c.args.wrapper.now.own in
+    let own_clearance = c.args.wrapper.now.clearance in
     let label = c.args.label in
     let room = c.args.room in
     let k1 = c.make_or_give_back.new.kernel in
@@ -74,10 +74,10 @@ returns-in_err-insert g c =
 
 pub returns : goal.returns
 returns g c =
-    let t = c.args.thread in
+    let t = c.args.wrapper.now.thread in
     let old = c.args.kernel.now in
-    let own = c.args.own.now in
-    let own_clearance = c.args.own_clearance.now in
+    let own = c.args.wrapper.now.own in
+    let own_clearance = c.args.wrapper.now.clearance in
     let label = c.args.label in
     let room = c.args.room in
     let k1 = c.make_or_give_back.new.kernel in

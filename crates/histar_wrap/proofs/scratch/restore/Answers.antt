@@ -9,19 +9,19 @@ use Rattle.histar_wrap.proofs.scratch.restore.Goals as goal
 
 pub returns-in_err-copy : goal.returns-in_err-copy
 returns-in_err-copy g c =
-    let t = c.args.thread in
+    let t = c.args.wrapper.now.thread in
     let old = c.args.kernel.now in
-    let own = c.args.own.now in
-    let own_clearance = c.args.own_clearance.now in
+    let own = c.args.wrapper.now.own in
+    let own_clearance = c.args.wrapper.now.clearance in
     fails_so t (restore (own, own_clearance)) old old Stopped _ c.from_residual.ensures.1
     (label_fails t old old (own, own_clearance) Stopped (before_asking t (SetLabel own) old))
 
 pub returns-in_err-stopping : goal.returns-in_err-stopping
 returns-in_err-stopping g c =
-    let t = c.args.thread in
+    let t = c.args.wrapper.now.thread in
     let old = c.args.kernel.now in
-    let own = c.args.own.now in
-    let own_clearance = c.args.own_clearance.now in
+    let own = c.args.wrapper.now.own in
+    let own_clearance = c.args.wrapper.now.clearance in
     let mid = c.set_label.new.self in
     let call_error = c.in_err-stopping.field-0.0 in
     fails_so t (restore (own, own_clearance)) old mid call_error _ c.from_residual-in_err-stopping.ensures.1
@@ -30,10 +30,10 @@ returns-in_err-stopping g c =
 
 pub returns-in_err-copy-2 : goal.returns-in_err-copy-2
 returns-in_err-copy-2 g c =
-    let t = c.args.thread in
+    let t = c.args.wrapper.now.thread in
     let old = c.args.kernel.now in
-    let own = c.args.own.now in
-    let own_clearance = c.args.own_clearance.now in
+    let own = c.args.wrapper.now.own in
+    let own_clearance = c.args.wrapper.now.clearance in
     let mid = c.set_label.new.self in
     fails_so t (restore (own, own_clearance)) old mid Stopped _ c.from_residual-in_err-copy-2.ensures.1
     (label_then t old mid (own, own_clearance) mid (label_given t old mid _ own c.in_ok-copy.ensures c.set_label.result
@@ -42,10 +42,10 @@ returns-in_err-copy-2 g c =
 
 pub returns : goal.returns
 returns g c =
-    let t = c.args.thread in
+    let t = c.args.wrapper.now.thread in
     let old = c.args.kernel.now in
-    let own = c.args.own.now in
-    let own_clearance = c.args.own_clearance.now in
+    let own = c.args.wrapper.now.own in
+    let own_clearance = c.args.wrapper.now.clearance in
     let mid = c.set_label.new.self in
     let end = c.set_clearance.new.self in
     label_then t old end (own, own_clearance) mid (label_given t old mid _ own c.in_ok-copy.ensures c.set_label.result

@@ -8,8 +8,8 @@ use Rattle.histar_wrap.proofs.wrap.fill_job.Goals as goal
 
 pub returns-in_err-make_scratch : goal.returns-in_err-make_scratch
 returns-in_err-make_scratch g c status is =
-    let t = c.args.caller.now.thread in
-    let me = c.args.caller.now.home in
+    let t = c.args.plan.wrapper.thread in
+    let me = c.args.parent.now.home.now in
     let room = c.args.room in
     let plan = planned c.args.plan in
     let old = c.args.kernel.now in
@@ -20,8 +20,8 @@ returns-in_err-make_scratch g c status is =
 
 pub returns-in_err-give_birth : goal.returns-in_err-give_birth
 returns-in_err-give_birth g c status is =
-    let t = c.args.caller.now.thread in
-    let me = c.args.caller.now.home in
+    let t = c.args.plan.wrapper.thread in
+    let me = c.args.parent.now.home.now in
     let room = c.args.room in
     let plan = planned c.args.plan in
     let old = c.args.kernel.now in
@@ -37,8 +37,8 @@ returns-in_err-give_birth g c status is =
 
 pub returns : goal.returns
 returns g c status is =
-    let t = c.args.caller.now.thread in
-    let me = c.args.caller.now.home in
+    let t = c.args.plan.wrapper.thread in
+    let me = c.args.parent.now.home.now in
     let room = c.args.room in
     let plan = planned c.args.plan in
     let k1 = c.make_scratch.new.kernel in

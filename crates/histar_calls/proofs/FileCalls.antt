@@ -1,0 +1,38 @@
+-- How the code of the calls that read or write a file runs its program.
+use Rattle.std.proofs.Common.{ℕ, List}
+use Rattle.histar_flat.specs.FlatCalls.{most_bytes}
+use Rattle.histar_flat.specs.Words.{Path}
+use Rattle.histar_flat.specs.declared.replies.Reply.TheVariants.{Data, Done}
+use Rattle.histar_rules.specs.declared.raw.RawCall.TheVariants.{Read, Write}
+use Rattle.histar_syscall.specs.KernelModel.{KernelModel}
+use Rattle.histar_programs.specs.declared.find.FoundFile.{FoundFile}
+use Rattle.histar_programs.specs.declared.roots.Roots.{Roots}
+use Rattle.histar_programs.specs.Programs.{Program}
+use Rattle.histar_programs.specs.Programs.Program.{Answers}
+use Rattle.histar_programs.specs.Parts.{ask, find_file}
+use Rattle.histar_calls.specs.Append.{append_program}
+use Rattle.histar_calls.specs.Read.{read_program}
+use Rattle.histar_calls.specs.Write.{write_program}
+use Rattle.histar_programs.proofs.Exits.{Leaves}
+
+-- what is still to do once the file that is read was found
+abbrev pub to_read : FoundFile → Program
+to_read file = ask (Read file.container file.segment) (λ bytes. Answers (Data bytes))
+
+-- what is still to do once the file that is written was found: this many bytes of it are kept
+abbrev pub to_write : ℕ → List ℕ → FoundFile → Program
+to_write kept bytes file = ask (Write file.container file.segment kept bytes) (λ (done : Unit {0}). Answers Done)
+
+module _ (roots : Roots) (path : Path) (t : ℕ) (old : KernelModel) where
+  -- at first the whole program is left
+  pub read_begun : Leaves t (read_program roots path) old (find_file roots path to_read) old
+  unfolding read_program
+  read_begun = record { leads = λ new result on. on }
+
+  pub write_begun : (bytes : List ℕ) → Leaves t (write_program roots path bytes) old (find_file roots path (to_write 0 bytes)) old
+  unfolding write_program
+  write_begun bytes = record { leads = λ new result on. on }
+
+  pub append_begun : (bytes : List ℕ) → Leaves t (append_program roots path bytes) old (find_file roots path (to_write most_bytes bytes)) old
+  unfolding append_program
+  append_begun bytes = record { leads = λ new result on. on }

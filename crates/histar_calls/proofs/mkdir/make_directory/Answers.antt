@@ -1,0 +1,51 @@
+-- Proves the goals of `make_directory` of src/mkdir.rt that the search leaves open.
+use Rattle.std.proofs.Common.{Err}
+use Rattle.histar_label.specs.Levels.{Levels}
+use Rattle.histar_rules.specs.declared.raw.RawCall.TheVariants.{OwnLabel}
+use Rattle.histar_layout.specs.Categories.{label_made}
+use Rattle.histar_programs.specs.declared.call_error.CallError.TheVariants.{Stopped}
+use Rattle.histar_programs.specs.Parts.{ask}
+use Rattle.histar_calls.specs.Mkdir.{make_directory}
+use Rattle.histar_programs.proofs.Exits.{ends_in_so, further_in, whole_part}
+use Rattle.histar_calls.proofs.MakingDirectories.{adds_so, after_own, before_adding}
+use Rattle.histar_programs.proofs.Running.{fails_so, grants, refuses}
+use Rattle.histar_calls.proofs.mkdir.make_directory.Goals as goal
+
+pub returns-in_err-own : goal.returns-in_err-own
+returns-in_err-own g c =
+    let t = c.args.unix.now.caller.now.thread in
+    let accounts = c.args.unix.now.users.now in
+    let room = c.args.room in
+    let old = c.args.kernel.now in
+    let k1 = c.own_label.new.self in
+    ends_in_so (ask OwnLabel) (after_own accounts c.args.mode room) (whole_part t (make_directory accounts c.args.mode room) old) k1 _ _
+    c.from_residual.ensures.1 (refuses t OwnLabel old k1 _ c.in_err-own.field-0.0 c.in_err-own.ensures)
+
+pub returns-in_err-label : goal.returns-in_err-label
+returns-in_err-label g c =
+    let t = c.args.unix.now.caller.now.thread in
+    let accounts = c.args.unix.now.users.now in
+    let room = c.args.room in
+    let old = c.args.kernel.now in
+    let k1 = c.own_label.new.self in
+    let own : Levels × Levels = (c.in_ok-own.own, c.in_ok-own.field-0-1) in
+    let whole = make_directory accounts c.args.mode room in
+    let adding = further_in (ask OwnLabel) (after_own accounts c.args.mode room) (whole_part t whole old) k1 own
+    (grants t OwnLabel old k1 own c.in_ok-own.ensures.0 c.in_ok-own.ensures.1) in
+    fails_so t whole old k1 Stopped _ c.from_residual-in_err-label.ensures.1
+    (adding.leads k1 (Err Stopped) (before_adding t (label_made accounts own.0 c.args.mode) room k1))
+
+pub returns : goal.returns
+returns g c =
+    let t = c.args.unix.now.caller.now.thread in
+    let accounts = c.args.unix.now.users.now in
+    let room = c.args.room in
+    let old = c.args.kernel.now in
+    let k1 = c.own_label.new.self in
+    let own : Levels × Levels = (c.in_ok-own.own, c.in_ok-own.field-0-1) in
+    let whole = make_directory accounts c.args.mode room in
+    let adding = further_in (ask OwnLabel) (after_own accounts c.args.mode room) (whole_part t whole old) k1 own
+    (grants t OwnLabel old k1 own c.in_ok-own.ensures.0 c.in_ok-own.ensures.1) in
+    let end = c.add_directory.new.kernel in
+    adding.leads end c.add_directory.result
+    (adds_so t k1 end c.in_ok-label.label (label_made accounts own.0 c.args.mode) room c.in_ok-label.ensures c.add_directory.result c.add_directory.ensures)
