@@ -19,6 +19,9 @@ use std::marker::Model;
 /// and the entries of most sessions are never moved to a larger place.
 const FIRST_ROOM: usize = 65_536;
 
+/// The number of calls with bytes for which a trace has room from the start.
+const FIRST_BYTES: usize = 16_384;
+
 /// The raw calls of a kernel, in their order. It changes in two steps: a call is stored before it is decided,
 /// with room for its entry, and its entry is recorded afterwards with its outcome. Where memory runs out the
 /// entries are as they were.
@@ -57,7 +60,7 @@ impl Trace {
         Ok(Trace {
             entries: Vec::with_capacity(alloc, FIRST_ROOM)?,
             labels: TraceLabels::new(alloc)?,
-            bytes: Vec::new(alloc),
+            bytes: Vec::with_capacity(alloc, FIRST_BYTES)?,
         })
     }
 
