@@ -61,6 +61,18 @@ module _ {A : Type 0} (f : A → List ℕ) (xs : List A) (i : ℕ) (x : A) (lt :
   pub line_unwritten : (a b : Option (List ℕ)) → Appends a b so_far → AppendsFront a b (flat_map f xs)
   line_unwritten a b written = (f x ++ flat_map f (drop (i + 1) xs), record { front = so_far; parts = all_parts; appended = written })
 
+-- the lines of the things from a place on are not written
+pub rest_unwritten : {A : Type 0} (f : A → List ℕ) (xs : List A) (i : ℕ) (a b : Option (List ℕ)) → Appends a b (flat_map f (take i xs))
+    → AppendsFront a b (flat_map f xs)
+rest_unwritten f xs i a b written = (
+  flat_map f (drop i xs),
+  record {
+    front = flat_map f (take i xs);
+    parts = ap (flat_map f) (sym (take-append-drop i xs)) ∙ flat_map-append f (take i xs) (drop i xs);
+    appended = written;
+  },
+)
+
 -- a beginning of the tree is a beginning of what follows the replies
 pub tree_begun : (options : Options) (m : MachineModel) (old new : Option (List ℕ)) → BeginsTree options m old new → BeginsTheEnding options m old new
 tree_begun options m old new begun =

@@ -13,10 +13,10 @@ returns-in_err-write_tree-clause-err g c =
 pub returns-clause-ok : goal.returns-clause-ok
 returns-clause-ok g c =
     on_ok_weaker c.write_trace.result (ending_written c.args.options c.args.machine.now _ _ _
-    (asked_trace c.args.options c.trace.result.now) (ap (asked_trace c.args.options) c.trace.ensures)
+    (asked_trace c.args.options c.trace.result.now.entries) (ap (asked_trace c.args.options) c.trace.ensures)
     c.in_ok-write_tree.ensures.ok) c.write_trace.ensures.ok
 
 pub returns-clause-err : goal.returns-clause-err
 returns-clause-err g c =
-    on_err_weaker c.write_trace.result (trace_begun c.args.options c.args.machine.now _ _ _ (asked_trace c.args.options c.trace.result.now)
+    on_err_weaker c.write_trace.result (trace_begun c.args.options c.args.machine.now _ _ _ (asked_trace c.args.options c.trace.result.now.entries)
     (ap (asked_trace c.args.options) c.trace.ensures) c.in_ok-write_tree.ensures.ok) c.write_trace.ensures.err

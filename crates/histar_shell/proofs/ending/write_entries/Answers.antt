@@ -1,22 +1,20 @@
 -- Proves the goals of `write_entries` of src/ending.rt that the search leaves open.
-use Rattle.std.proofs.Common.{◌≡◌, rules, sym, get_or}
+use Rattle.std.proofs.Common.{rules}
 use Rattle.std.proofs.lemmas.Option.{get_or_from_slice_get, slice_get_within}
 use Rattle.std.proofs.lemmas.Result.{err_from_is_err_and}
 use Rattle.histar_rawtext.specs.RawText.{trace_line}
-use Rattle.histar_shell.proofs.EachLine.{line_begun, line_more, line_unwritten}
+use Rattle.histar_shell.proofs.EachLine.{line_begun, line_more, rest_unwritten}
 use Rattle.histar_shell.proofs.ending.write_entries.Goals as goal
 
 pub returns-in_err-entry-clause-err : goal.returns-in_err-entry-clause-err
-returns-in_err-entry-clause-err g c = ?
+returns-in_err-entry-clause-err g c =
+    let p = err_from_is_err_and c.from_residual.result c.from_residual.ensures.1 in
+    rw p.1 (rest_unwritten trace_line c.args.trace.now.entries c.lines.at _ _ c.lines.invariant.written)
 
 pub returns-in_err-line-clause-err : goal.returns-in_err-line-clause-err
 returns-in_err-line-clause-err g c =
-    let p = err_from_is_err_and c.from_residual.result c.from_residual.ensures.1 in
-    let entries = c.args.trace.now.entries in
-    let at = c.lines.at in
-    let entry = c.in_ok-entry.entry in
-    rw p.1 (line_unwritten trace_line entries at entry (slice_get_within entries at entry c.in_ok-entry.ensures)
-    (sym (get_or_from_slice_get entries at entry entry c.in_ok-entry.ensures)) _ _ c.lines.invariant.written)
+    let p = err_from_is_err_and c.from_residual-in_err-line.result c.from_residual-in_err-line.ensures.1 in
+    rw p.1 (rest_unwritten trace_line c.args.trace.now.entries c.lines.at _ _ c.lines.invariant.written)
 
 pub returns-in_err-write_bytes-clause-err : goal.returns-in_err-write_bytes-clause-err
 returns-in_err-write_bytes-clause-err g c =
@@ -25,7 +23,7 @@ returns-in_err-write_bytes-clause-err g c =
     let at = c.lines.at in
     let entry = c.in_ok-entry.entry in
     rw p.1 (line_begun trace_line entries at entry (slice_get_within entries at entry c.in_ok-entry.ensures)
-    (sym (get_or_from_slice_get entries at entry entry c.in_ok-entry.ensures))
+    (get_or_from_slice_get entries at entry entry c.in_ok-entry.ensures)
     _ _ _ c.in_ok-line.line.items c.as_slice.result.now c.lines.invariant.written c.in_ok-line.ensures
     c.as_slice.ensures.value c.in_err-write_bytes.ensures.err)
 
@@ -37,7 +35,7 @@ lines-preserved g c =
     record {
       written =
           line_more trace_line entries at entry (slice_get_within entries at entry c.in_ok-entry.ensures)
-          (sym (get_or_from_slice_get entries at entry entry c.in_ok-entry.ensures)) _ _
+          (get_or_from_slice_get entries at entry entry c.in_ok-entry.ensures) _ _
           _ c.in_ok-line.line.items c.as_slice.result.now c.lines.invariant.written c.in_ok-line.ensures
           c.as_slice.ensures.value c.in_ok-write_bytes.ensures.ok;
       count = search rules;
