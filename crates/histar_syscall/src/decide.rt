@@ -7,14 +7,15 @@ ghost use Rattle.histar_syscall.specs.Answers.{IsAnswerValue, IsValueOf};
 ghost use Rattle.histar_syscall.specs.declared.answers.Answer.TheVariants as answers;
 
 use crate::answers::Answer;
-use crate::containers::{label_of, make_container, unlink};
-use crate::segments::{make_segment, read, write};
+use crate::containers::{label_of, unlink};
+use crate::copied::{copied_container, copied_gate, copied_segment, copied_thread};
+use crate::segments::{read, write};
 use histar_base::Bytes;
-use histar_gate::{enter, make_gate};
+use histar_gate::enter;
 use histar_label::{Category, Label, LabelStore};
 use histar_object::{Entry, ObjId};
 use histar_rules::{HandedLabels, LabelledObjects, RawCall, Refusal};
-use histar_thread::{make_category, make_thread, own_label, set_clearance, set_label};
+use histar_thread::{make_category, own_label, set_clearance, set_label};
 use std::alloc::Global;
 
 /// Decides a raw call on the objects, and returns its answer where it is granted.
@@ -22,11 +23,11 @@ pub(crate) fn decide<S: LabelStore + Drop>(
     objects: &mut LabelledObjects<S>,
     alloc: Global,
     thread: ObjId,
-    call: RawCall,
+    call: &RawCall,
 ) -> Result<Answer, Refusal>
     requires { AreTree (objects_of objects.old.objects) }
-    ensures { Decides objects.old objects.new thread call result
-        (λ a. IsAnswerValue (state_of objects.old) thread call a) }
+    ensures { Decides objects.old objects.new thread call.now result
+        (λ a. IsAnswerValue (state_of objects.old) thread call.now a) }
 {
     match call {
         RawCall::MakeCategory => category(make_category(objects, thread)),
@@ -36,20 +37,16 @@ pub(crate) fn decide<S: LabelStore + Drop>(
             done(set_clearance(objects, thread, clearance.label()))
         }
         RawCall::MakeSegment(container, label, bytes) => {
-            let label = label.into_label();
-            made(make_segment(objects, alloc, thread, container, label, &bytes))
+            made(copied_segment(objects, alloc, thread, *container, label, bytes))
         }
         RawCall::MakeContainer(container, label) => {
-            let label = label.into_label();
-            made(make_container(objects, alloc, thread, container, label))
+            made(copied_container(objects, alloc, thread, *container, label))
         }
         RawCall::MakeThread(container, label, clearance) => {
-            let (label, clearance) = (label.into_label(), clearance.into_label());
-            made(make_thread(objects, thread, container, label, clearance))
+            made(copied_thread(objects, thread, *container, label, clearance))
         }
         RawCall::MakeGate(container, label, clearance, entry) => {
-            let (label, clearance) = (label.into_label(), clearance.into_label());
-            made(make_gate(objects, thread, container, label, clearance, entry))
+            made(copied_gate(objects, thread, *container, label, clearance, *entry))
         }
         RawCall::Enter(container, gate, wanted, clearance, verify) => {
             let labels = HandedLabels {
@@ -57,19 +54,19 @@ pub(crate) fn decide<S: LabelStore + Drop>(
                 clearance: clearance.label(),
                 verify: verify.label(),
             };
-            entry(enter(objects, thread, container, gate, labels))
+            entry(enter(objects, thread, *container, *gate, labels))
         }
         RawCall::Read(container, segment) => {
-            bytes(read(objects, alloc, thread, container, segment))
+            bytes(read(objects, alloc, thread, *container, *segment))
         }
         RawCall::Write(container, segment, keep, bytes) => {
-            done(write(objects, alloc, thread, container, segment, keep, &bytes))
+            done(write(objects, alloc, thread, *container, *segment, *keep, bytes))
         }
         RawCall::Unlink(container, object) => {
-            done(unlink(objects, alloc, thread, container, object))
+            done(unlink(objects, alloc, thread, *container, *object))
         }
         RawCall::LabelOf(container, object) => {
-            label(label_of(objects, thread, container, object))
+            label(label_of(objects, thread, *container, *object))
         }
     }
 }

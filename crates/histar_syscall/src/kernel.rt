@@ -105,7 +105,7 @@ impl<S: LabelStore + Drop> Kernel<S> {
         ensures sound { IsSound (state self.old) × IsSound (state self.new) }
     {
         let stored = self.trace.store(alloc, &call)?;
-        let answer = decide(&mut self.objects, alloc, thread, call);
+        let answer = decide(&mut self.objects, alloc, thread, &call);
         self.trace.record(self.line, thread, stored, answer)
     }
 

@@ -3,6 +3,7 @@
 
 mod answers;
 mod containers;
+mod copied;
 mod decide;
 mod empty_objects;
 mod kernel;

@@ -21,30 +21,27 @@ returns-in-OwnLabel g c =
 
 pub returns-in-MakeSegment : goal.returns-in-MakeSegment
 returns-in-MakeSegment g c =
-    let t : Turn = record { old = c.args.objects.now; new = c.make_segment.new.objects; thread = c.args.thread; call = (MakeSegment c.in-MakeSegment.container c.in-MakeSegment.label c.in-MakeSegment.bytes) } in
+    let t : Turn = record { old = c.args.objects.now; new = c.copied_segment.new.objects; thread = c.args.thread; call = (MakeSegment c.in-MakeSegment.container c.in-MakeSegment.label c.in-MakeSegment.bytes) } in
     rw c.in-MakeSegment.is (as_value t (IsNextNumber c.args.objects.now) answers.Object (λ n is. record { answer = n; determined = is.0; is_value = refl })
-    c.make_segment.result c.made.result (rw c.into_label-label.ensures at c.make_segment.ensures) c.made.ensures)
+    c.copied_segment.result c.made.result c.copied_segment.ensures c.made.ensures)
 
 pub returns-in-MakeContainer : goal.returns-in-MakeContainer
 returns-in-MakeContainer g c =
-    let t : Turn = record { old = c.args.objects.now; new = c.make_container.new.objects; thread = c.args.thread; call = (MakeContainer c.in-MakeContainer.container c.in-MakeContainer.label) } in
+    let t : Turn = record { old = c.args.objects.now; new = c.copied_container.new.objects; thread = c.args.thread; call = (MakeContainer c.in-MakeContainer.container c.in-MakeContainer.label) } in
     rw c.in-MakeContainer.is (as_value t (IsNextNumber c.args.objects.now) answers.Object (λ n is. record { answer = n; determined = is.0; is_value = refl })
-    c.make_container.result c.made-in-MakeContainer.result (rw c.into_label-label-in-MakeContainer.ensures at c.make_container.ensures)
-    c.made-in-MakeContainer.ensures)
+    c.copied_container.result c.made-in-MakeContainer.result c.copied_container.ensures c.made-in-MakeContainer.ensures)
 
 pub returns-in-MakeThread : goal.returns-in-MakeThread
 returns-in-MakeThread g c =
-    let t : Turn = record { old = c.args.objects.now; new = c.make_thread.new.objects; thread = c.args.thread; call = (MakeThread c.in-MakeThread.container c.in-MakeThread.label c.in-MakeThread.clearance) } in
+    let t : Turn = record { old = c.args.objects.now; new = c.copied_thread.new.objects; thread = c.args.thread; call = (MakeThread c.in-MakeThread.container c.in-MakeThread.label c.in-MakeThread.clearance) } in
     rw c.in-MakeThread.is (as_value t (IsNextNumber c.args.objects.now) answers.Object (λ n is. record { answer = n; determined = is.0; is_value = refl })
-    c.make_thread.result c.made-in-MakeThread.result
-    (rw (c.into_label-label-in-MakeThread.ensures, c.into_label-clearance.ensures) at c.make_thread.ensures) c.made-in-MakeThread.ensures)
+    c.copied_thread.result c.made-in-MakeThread.result c.copied_thread.ensures c.made-in-MakeThread.ensures)
 
 pub returns-in-MakeGate : goal.returns-in-MakeGate
 returns-in-MakeGate g c =
-    let t : Turn = record { old = c.args.objects.now; new = c.make_gate.new.objects; thread = c.args.thread; call = (MakeGate c.in-MakeGate.container c.in-MakeGate.label c.in-MakeGate.clearance c.in-MakeGate.entry) } in
+    let t : Turn = record { old = c.args.objects.now; new = c.copied_gate.new.objects; thread = c.args.thread; call = (MakeGate c.in-MakeGate.container c.in-MakeGate.label c.in-MakeGate.clearance c.in-MakeGate.entry) } in
     rw c.in-MakeGate.is (as_value t (IsNextNumber c.args.objects.now) answers.Object (λ n is. record { answer = n; determined = is.0; is_value = refl })
-    c.make_gate.result c.made-in-MakeGate.result
-    (rw (c.into_label-label-in-MakeGate.ensures, c.into_label-clearance-in-MakeGate.ensures) at c.make_gate.ensures) c.made-in-MakeGate.ensures)
+    c.copied_gate.result c.made-in-MakeGate.result c.copied_gate.ensures c.made-in-MakeGate.ensures)
 
 pub returns-in-Enter : goal.returns-in-Enter
 returns-in-Enter g c =
@@ -57,7 +54,7 @@ pub returns-in-Read : goal.returns-in-Read
 returns-in-Read g c =
     let t : Turn = record { old = c.args.objects.now; new = c.read.new.objects; thread = c.args.thread; call = (Read c.in-Read.container c.in-Read.segment) } in
     rw c.in-Read.is (as_value t (AreBytesOf c.args.objects.now c.in-Read.segment) answers.Bytes (λ bytes is. record { answer = bytes; determined = is; is_value = refl })
-    c.read.result c.bytes-in-Read.result c.read.ensures c.bytes-in-Read.ensures)
+    c.read.result c.bytes.result c.read.ensures c.bytes.ensures)
 
 pub returns-in-LabelOf : goal.returns-in-LabelOf
 returns-in-LabelOf g c =
