@@ -8,10 +8,10 @@ use Rattle.histar_raw_explain.proofs.session.explain_last.Goals as goal
 
 pub returns : goal.returns
 returns g c =
-    let S = c.trace.result.now.entries in
+    let S = c.trace-trace.result.now.entries in
     let e = c.in_ok-entry.entry in
     let is : Some e ≡ slice_get S (length S - 1) = sym c.in_ok-entry.ensures ∙ ap (λ (n : ℕ). slice_get S (n - 1)) c.len.ensures in
     last_denied c.args.kernel.now S e c.in-Some.denied c.in_ok-explanation.explanation _
-    c.trace.ensures is c.in-Some.is c.in_ok-explanation.ensures
+    c.trace-trace.ensures is c.in-Some.is c.in_ok-explanation.ensures
     (c.in_ok-push_explanation.ensures
     ∙ ap (λ l. l ++ explanation_text raw_words e.line e.thread c.in_ok-explanation.explanation) c.new-text.ensures.items)
