@@ -97,7 +97,7 @@ pub(crate) fn explain_entries<S: LabelStore + Drop, V: Wording>(
     text: &mut Vec<u8>,
     entries: Entries,
 ) -> Result<(), OutOfMemory>
-    requires { IsRunFrom (state kernel.old) (drop entries.entry.from entries.entry.trace.now.entries) }
+    requires { IsRunFrom (state kernel.old) (drop entries.from entries.trace.now.entries) }
     ensures explained { OnOk result (AddsEntries (V.words words.now) (state kernel.old)
         (drop entries.entry.from entries.entry.trace.now.entries) (state kernel.new) text.old.items text.new.items) }
     ensures ends { OnOk result (EndsAsRun (state kernel.old)

@@ -1,6 +1,7 @@
 -- Proves the goals of `explain_entries` of src/replaying.rt that the search leaves open.
 use Rattle.std.proofs.Common.{◌≡◌, ◌<◌, ◌≤◌, arith, drop, length, get_or}
-use Rattle.std.proofs.lemmas.Grind.{common_steps, gets}
+use Rattle.std.proofs.lemmas.Grind.{common_steps}
+use Rattle.std.proofs.lemmas.Option.{gets}
 use Rattle.histar_syscall.specs.KernelModel.{state}
 use Rattle.histar_run_explain.proofs.Replays.{replayed_none, replayed_more, replayed_all, replayed_end}
 use Rattle.histar_run_explain.proofs.replaying.explain_entries.Goals as goal

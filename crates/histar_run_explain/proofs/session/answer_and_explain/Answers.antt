@@ -9,13 +9,13 @@ use Rattle.histar_run_explain.proofs.session.answer_and_explain.Goals as goal
 
 pub explain_answered-requires-clause-within : goal.explain_answered-requires-clause-within
 explain_answered-requires-clause-within g c =
-    subst (λ n. n ≤ length c.answer_call.new.machine.kernel.trace) (sym (ap length c.trace-before.ensures))
+    subst (λ n. n ≤ length c.answer_call.new.machine.kernel.trace) (sym (c.len-before.ensures ∙ ap length c.trace.ensures))
     (grown c.args.machine.now c.answer_call.new.machine _ _ c.args.call c.in_ok-answer_call.ensures.ok _ refl)
 
 pub explain_answered-requires-clause-run : goal.explain_answered-requires-clause-run
 explain_answered-requires-clause-run g c =
     runs_on c.args.machine.now c.answer_call.new.machine _ _ c.args.call c.in_ok-answer_call.ensures.ok _ refl _
-    (ap length c.trace-before.ensures) _ c.requires
+    (c.len-before.ensures ∙ ap length c.trace.ensures) _ c.requires
 
 pub returns-in_err-explain_answered-clause-err : goal.returns-in_err-explain_answered-clause-err
 returns-in_err-explain_answered-clause-err g c = on_err _ _ (line_begins _ _ _ _ c.args.call c.in_ok-answer_call.ensures.ok)
@@ -26,7 +26,7 @@ returns-clause-ok g c =
       adds.0,
       adds.1,
       line_said c.args.machine.now c.answer_call.new.machine _ _ c.args.call c.in_ok-answer_call.ensures.ok _ refl _
-          (ap length c.trace-before.ensures) _ c.requires _ c.clue_of-clue.result _ adds.0 c.clue_of-clue.ensures
+          (c.len-before.ensures ∙ ap length c.trace.ensures) _ c.requires _ c.clue_of-clue.result _ adds.0 c.clue_of-clue.ensures
           c.in_ok-explain_answered.ensures.ends adds.2,
     )
 
@@ -40,4 +40,4 @@ returns-clause-births g c =
 pub returns-clause-same : goal.returns-clause-same
 returns-clause-same g c =
     same_end c.args.machine.now c.answer_call.new.machine _ _ c.args.call c.in_ok-answer_call.ensures.ok _ refl _
-    (ap length c.trace-before.ensures) _ c.requires _ c.in_ok-explain_answered.ensures.ends
+    (c.len-before.ensures ∙ ap length c.trace.ensures) _ c.requires _ c.in_ok-explain_answered.ensures.ends
