@@ -20,7 +20,7 @@ use std::marker::Model;
 const FIRST_ROOM: usize = 65_536;
 
 /// The number of calls with bytes for which a trace has room from the start.
-const FIRST_BYTES: usize = 16_384;
+const FIRST_BYTES: usize = 32_768;
 
 /// The raw calls of a kernel, in their order. It changes in two steps: a call is stored before it is decided,
 /// with room for its entry, and its entry is recorded afterwards with its outcome. Where memory runs out the
