@@ -4,24 +4,24 @@ ghost use Rattle.histar_rules.specs.declared.raw.RawCall.TheVariants as calls;
 
 use histar_label::{Label, LabelStore};
 use histar_object::{Entry, Kind, ObjId};
-use histar_rules::{HandedLabels, LabelledObjects, Refusal};
+use histar_rules::{Access, HandedLabels, LabelledObjects, Maker, Refusal};
 
 /// Makes a gate in a container, and returns its number. The gate gives its label to each thread that enters
 /// it, so its maker must own what the gate is to own.
 pub fn make_gate<S: LabelStore + Drop>(
     objects: &mut LabelledObjects<S>,
-    thread: ObjId,
-    container: ObjId,
+    maker: &Maker,
     label: Label,
     clearance: Label,
     entry: Entry,
 ) -> Result<ObjId, Refusal>
-    ensures { Decides objects.old objects.new thread
-        (calls.MakeGate container label clearance entry) result (IsNextNumber objects.old) }
+    ensures { Decides objects.old objects.new maker.now.thread
+        (calls.MakeGate maker.now.container label clearance entry) result
+        (IsNextNumber objects.old) }
 {
-    objects.check_new_owner(thread, container, &label, &clearance)?;
+    objects.check_new_owner(maker, &label, &clearance)?;
     let number = objects.next_object();
-    objects.add(container, label, Kind::Gate(clearance, entry))?;
+    objects.add(maker.container, label, Kind::Gate(clearance, entry))?;
     Ok(number)
 }
 
@@ -30,14 +30,13 @@ pub fn make_gate<S: LabelStore + Drop>(
 /// thread owns. `Gate` where the gate's clearance or the verify label doesn't let it in.
 pub fn enter<S: LabelStore + Drop>(
     objects: &mut LabelledObjects<S>,
-    thread: ObjId,
-    container: ObjId,
-    gate: ObjId,
+    access: &Access,
     labels: HandedLabels,
 ) -> Result<Entry, Refusal>
-    ensures { Decides objects.old objects.new thread (calls.Enter container gate
+    ensures { Decides objects.old objects.new access.now.thread
+        (calls.Enter access.now.container access.now.object
         labels.entry.wanted.now labels.entry.clearance.now labels.entry.verify.now) result
-        (IsEntryOf objects.old gate) }
+        (IsEntryOf objects.old access.now.object) }
 {
-    objects.enter(thread, container, gate, labels)
+    objects.enter(access, labels)
 }

@@ -1,10 +1,15 @@
 -- The test of the categories that a label names decides whether each with another level than the default was made.
-use Rattle.std.proofs.Common.{◌≡◌, ◌↔◌, ℕ, ◌<◌, ◌≤◌, Bool, true, false, ◌&&◌, if◌then◌else◌, IsTrue, get_or, refl, sym, ◌∙◌, arith}
-use Rattle.std.specs.Prelude.{nat_lt, ◌==◌}
+use Rattle.std.proofs.Common.{◌≡◌, ◌↔◌, ℕ, ◌-◌, ◌<◌, ◌≤◌, Bool, true, false, ◌&&◌, if◌then◌else◌, IsTrue, length, get_or, Some, refl, sym, ap, ◌∙◌, arith}
+use Rattle.std.specs.List.{list_all}
+use Rattle.std.specs.Prelude.{nat_lt, ◌==◌, slice_get}
+use Rattle.std.proofs.lemmas.List.{get_or_default}
+use Rattle.std.proofs.lemmas.Option.{slice_get_within, get_or_from_slice_get}
 use Rattle.std.proofs.lemmas.List.Elements.{All-contains, Contains-get_or}
 use Rattle.std.proofs.lemmas.List.Sums.{AllPass-from_list_all, list_all-from_AllPass}
 use Rattle.std.proofs.lemmas.Bool.Decides.{nat_tests}
 use Rattle.histar_label.specs.declared.levels.Level.{Level}
+use Rattle.histar_label.specs.declared.levels.Level.TheVariants.{Star}
+use Rattle.histar_label.specs.Exceptions.{Exceptions, IsRising, category_at}
 use Rattle.histar_label.specs.Levels.{Levels, level_of, exceptions_of, constant, with_level, level_of-constant, level_of-with_level}
 use Rattle.histar_label.specs.Levels.{default_of-constant, default_of-with_level, NamesOnlyMade, is_made}
 use Rattle.histar_label.proofs.Listed.{ListsExceptions-exceptions_of}
@@ -71,3 +76,48 @@ is_made-with_level next L c l low high made =
           differs (kept_level (q == c) l (level_of (with_level L c l) q) (level_of L q) (level_of-with_level L c l q) other
           ∙ is ∙ sym (default_of-with_level L c l)))
     ] refl)
+
+-- ---- the lowest and the greatest category decide for all
+
+module _ (next : ℕ) (es : Exceptions) (rising : IsRising es) where
+  -- each category is between the first and the last
+  between : (i : ℕ) → i < length es → (category_at es 0 ≤ category_at es i) × (category_at es i ≤ category_at es (length es - 1))
+  between i lt =
+      let last = length es - 1 in
+      let low : 0 < i → category_at es 0 < category_at es i = λ later. rising 0 i later lt in
+      let high : i < last → category_at es i < category_at es last = λ less. rising i last less (omega (arith, lt)) in
+      let first : i ≡ 0 → category_at es i ≡ category_at es 0 = λ same. ap (category_at es) same in
+      let end : i ≡ last → category_at es i ≡ category_at es last = λ same. ap (category_at es) same in
+      (grind (arith, lt, low, first), grind (arith, lt, high, end))
+
+  -- where the first and the last are in range, all are
+  all_between : 0 < category_at es 0 → category_at es (length es - 1) < next → list_all (λ e. made next e.0) es ≡ true
+  all_between low high = list_all-from_AllPass (λ e. made next e.0) es (λ k d lt.
+      let read = get_or_default es k d (0, Star) lt in
+      let here = between k lt in
+      passes next _ (rw read (omega (arith, here.0, low), omega (arith, here.1, high))))
+
+  -- where all are in range, so is the last
+  last_below : 0 < length es → list_all (λ e. made next e.0) es ≡ true → category_at es (length es - 1) < next
+  last_below some all =
+      let last = length es - 1 in
+      let passed = AllPass-from_list_all (λ e. made next e.0) es all last (0, Star) (omega (arith, some)) in
+      (in_range next (category_at es last) (nat_lt 0 (category_at es last)) (nat_lt (category_at es last) next) refl refl passed).1
+
+  -- where the first category is in range, the last one decides
+  ends_decide : (b all : Bool) → 0 < length es → 0 < category_at es 0 → nat_lt (category_at es (length es - 1)) next ≡ b
+      → list_all (λ e. made next e.0) es ≡ all → b ≡ all
+  ends_decide true all some low high is = sym (all_between low (grind (arith, nat_tests, high))) ∙ is
+  ends_decide false false some low high is = refl
+  ends_decide false true some low high is =
+      let below = last_below some is in
+      absurd (grind (arith, nat_tests, high, below))
+
+  pub made_by_ends : (first last : ℕ × Level) → slice_get es 0 ≡ Some first → slice_get es (length es - 1) ≡ Some last
+      → 0 < first.0 → nat_lt last.0 next ≡ list_all (λ e. nat_lt 0 e.0 && nat_lt e.0 next) es
+  made_by_ends first last begins ends low =
+      let some = slice_get_within es 0 first begins in
+      let lowest = ap (λ (e : ℕ × Level). e.0) (get_or_from_slice_get es 0 first (0, Star) begins) in
+      let greatest = ap (λ (e : ℕ × Level). e.0) (get_or_from_slice_get es (length es - 1) last (0, Star) ends) in
+      let positive : 0 < category_at es 0 = omega (arith, lowest, low) in
+      ends_decide (nat_lt last.0 next) _ some positive (ap (λ c. nat_lt c next) greatest) refl

@@ -1,6 +1,6 @@
 //! A store that keeps each label once, and remembers answers of comparisons.
 ghost use Rattle.std.specs.Prelude.{◌≡◌, ◌<◌, ◌⊎◌, ◌&&◌, if◌then◌else◌, nat_lt, ℕ, Bool, Some, IfOk, IfSome, OnErr};
-ghost use Rattle.std.specs.Prelude.{[], length, slice_get, slice_set, Contains, Ok, None, All};
+ghost use Rattle.std.specs.Prelude.{[], length, slice_get, slice_set, Contains, IsSome, Ok, None, All};
 ghost use Rattle.std.specs.Option.{option_copied};
 ghost use Rattle.histar_label.specs.Store.{Keeps, HasOneId};
 ghost use Rattle.histar_label.specs.InternStore.{answer_of};
@@ -29,7 +29,10 @@ impl Model for InternId {
 }
 
 /// The number of answers that have a place at hand: a power of two.
-pub(crate) const AT_HAND: usize = 1024;
+pub(crate) const AT_HAND: usize = 4_096;
+
+/// The number of labels that have a place at hand.
+const LABELS_AT_HAND: usize = 1_024;
 
 /// The greatest number of exceptions of two labels together with which a comparison takes less time than
 /// looking up its answer.
@@ -105,11 +108,24 @@ impl InternStore {
             return true;
         }
         let place = comparison.place();
-        if let Some(answer) = found_at(&self.at_hand, place, comparison) {
-            return answer;
+        match found_at(&self.at_hand, place, comparison) {
+            Some(answer) => answer,
+            None => self.answer_anew(place, &comparison),
         }
-        let answer = self.compare_or_recall(comparison);
-        keep_at(&mut self.at_hand, place, (comparison, answer));
+    }
+
+    // Answers a comparison whose answer is not at hand, and keeps the answer at this place.
+    // Not inlined, so that an answer at hand is found in few steps.
+    #[inline(never)]
+    fn answer_anew(&mut self, place: usize, comparison: &Comparison) -> bool
+        requires own { comparison.now.own < length self.old }
+        requires first { comparison.now.first < length self.old }
+        requires second { comparison.now.second < length self.old }
+        ensures answer { result ≡ answer_of self.old comparison.now }
+        ensures unchanged { self.new ≡ self.old }
+    {
+        let answer = self.compare_or_recall(*comparison);
+        keep_at(&mut self.at_hand, place, (*comparison, answer));
         answer
     }
 
@@ -117,9 +133,20 @@ impl InternStore {
     fn found_at_hand(&self, label: &Label) -> Option<InternId>
         ensures { IfSome result (λ id. slice_get self.now id ≡ Some label.now) }
     {
-        let id = InternId(*self.labels_at_hand.get(label.place_among(AT_HAND))?);
+        let id = InternId(*self.labels_at_hand.get(label.place_among(LABELS_AT_HAND))?);
         let kept = self.get(id)?;
         if kept == label { Some(id) } else { None }
+    }
+
+    // Looks a label up among all.
+    // Not inlined, so that a label at hand is found in few steps.
+    #[inline(never)]
+    fn searched(&self, label: &Label) -> Option<InternId>
+        ensures value { IfSome result (λ id. slice_get self.now id ≡ Some label.now) }
+        ensures found { (id : ℕ) → slice_get self.now id ≡ Some label.now → IsSome result }
+    {
+        let place = self.labels.get_index_of(label)?;
+        Some(InternId(place))
     }
 
     // Answers a comparison: compares anew where the labels have few exceptions, and otherwise looks up the
@@ -157,7 +184,7 @@ impl LabelStore for InternStore {
         ensures known { (id : ℕ) → slice_get self.old id ≡ Some label → result ≡ Ok id }
     {
         let exceptions = label.exceptions().len();
-        let hand = label.place_among(AT_HAND);
+        let hand = label.place_among(LABELS_AT_HAND);
         let (place, is_new) = self.labels.insert_full(label)?;
         self.weight = self.weight.saturating_add(weight_of(exceptions, is_new));
         set_at_hand(&mut self.labels_at_hand, hand, place);
@@ -173,11 +200,10 @@ impl LabelStore for InternStore {
     }
 
     fn find(&self, label: &Label) -> Option<InternId> {
-        if let Some(id) = self.found_at_hand(label) {
-            return Some(id);
+        match self.found_at_hand(label) {
+            Some(id) => Some(id),
+            None => self.searched(label),
         }
-        let place = self.labels.get_index_of(label)?;
-        Some(InternId(place))
     }
 
     fn emptied(&self) -> Result<InternStore, OutOfMemory> {
@@ -249,8 +275,8 @@ fn no_answers(alloc: Global) -> Result<Vec<Option<(Comparison, bool)>>, OutOfMem
 
 // Makes the places at hand of labels: the first label is at each of them, if there is one.
 fn no_labels(alloc: Global) -> Result<Vec<usize>, OutOfMemory> {
-    let mut places = Vec::with_capacity(alloc, AT_HAND)?;
-    'places: for _ in 0..AT_HAND {
+    let mut places = Vec::with_capacity(alloc, LABELS_AT_HAND)?;
+    'places: for _ in 0..LABELS_AT_HAND {
         places.push(0)?;
     }
     Ok(places)

@@ -1,7 +1,7 @@
 //! Labels by their exceptions, and the labels of files.
-ghost use Rattle.std.specs.Prelude.{◌≡◌, ℕ, IfOk, length};
+ghost use Rattle.std.specs.Prelude.{◌≡◌, ℕ, IfOk, OnOk, length};
 ghost use Rattle.histar_layout.specs.Categories.{IsUserOf, file_label, label_made, read_category, scratch_label, write_category};
-ghost use Rattle.histar_layout.specs.Labelling.{cleared_at, each_at, guarded_by, labelled, owner_label, secret_of, with_levels};
+ghost use Rattle.histar_layout.specs.Labelling.{each_at, guarded_by, labelled, secret_of, with_levels};
 
 use crate::categories::{read_category, write_category};
 use crate::jobs::{is_in_job, jobs_in};
@@ -35,41 +35,20 @@ pub fn guarded_by(
 ) -> Result<Label, AllocError>
     ensures { IfOk result (λ label. label ≡ guarded_by secret.now written.now) }
 {
-    let empty = Label::with_room(alloc, Level::L1, secret.len() + written.len())?;
-    let label = with_each(empty, Level::L3, secret)?;
-    with_each(label, Level::L0, written)
+    let mut label = Label::with_room(alloc, Level::L1, secret.len() + written.len())?;
+    set_each(&mut label, Level::L3, secret)?;
+    set_each(&mut label, Level::L0, written)?;
+    Ok(label)
 }
 
-/// Makes the label of a thread that owns the first categories, and has the secrets of the others.
-pub fn owner_label(
-    alloc: Global,
-    owned: &[Category],
-    tainted: &[Category],
-) -> Result<Label, AllocError>
-    ensures { IfOk result (λ label. label ≡ owner_label owned.now tainted.now) }
+/// Sets one level at each of these categories, and leaves all others as before. Where memory runs out it has set some.
+pub fn set_each(label: &mut Label, level: Level, categories: &[Category]) -> Result<(), AllocError>
+    ensures { OnOk result (label.new ≡ with_levels label.old (each_at level categories.now)) }
 {
-    let empty = Label::with_room(alloc, Level::L1, owned.len() + tainted.len())?;
-    let label = with_each(empty, Level::Star, owned)?;
-    with_each(label, Level::L3, tainted)
-}
-
-/// Makes the clearance of a thread that may have the secrets of these categories.
-pub fn cleared_at(alloc: Global, categories: &[Category]) -> Result<Label, AllocError>
-    ensures { IfOk result (λ label. label ≡ cleared_at categories.now) }
-{
-    let empty = Label::with_room(alloc, Level::L2, categories.len())?;
-    with_each(empty, Level::L3, categories)
-}
-
-// Sets one level at each of these categories, and leaves all others as before.
-fn with_each(label: Label, level: Level, categories: &[Category]) -> Result<Label, AllocError>
-    ensures { IfOk result (λ made. made ≡ with_levels label (each_at level categories.now)) }
-{
-    let mut label = label;
     for &category in categories {
         label.set(category, level)?;
     }
-    Ok(label)
+    Ok(())
 }
 
 /// Returns the number of the user whose read category a thread owns by its label: 0, nobody's, where it owns

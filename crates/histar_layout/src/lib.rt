@@ -23,9 +23,7 @@ pub use class::{Chain, Class, class_label, class_of, classes_are_shown, labels_h
 pub use directory::{Dir, MOST_ENTRIES, one_directory, read_dir, write_dir};
 pub use entry::Target;
 pub use jobs::{is_in_job, is_three, jobs_in};
-pub use labels::{
-    cleared_at, guarded_by, label_made, label_of, owner_label, scratch_label, user_of,
-};
+pub use labels::{guarded_by, label_made, label_of, scratch_label, set_each, user_of};
 pub use lookup::look_up;
 pub use owners::{group_owner, owners_among, owners_of};
 pub use shown::{ShownClass, shown_class};

@@ -4,7 +4,7 @@ use Rattle.histar_label.specs.Levels.{Levels}
 use Rattle.histar_rules.specs.declared.raw.RawCall.{RawCall}
 use Rattle.histar_rules.specs.declared.raw.RawCall.TheVariants.{MakeCategory, MakeSegment, MakeContainer, MakeThread, Write}
 use Rattle.histar_syscall.specs.KernelModel.{KernelModel}
-use Rattle.histar_layout.specs.Status.{ProcessStatus, status_bytes, with_child_listed}
+use Rattle.histar_layout.specs.Status.{ProcessStatus, with_child_listed}
 use Rattle.histar_layout.specs.Labelling.{guarded_by}
 use Rattle.histar_programs.specs.Parts.{ask}
 use Rattle.histar_programs.specs.Programs.{Part, RunsPart}

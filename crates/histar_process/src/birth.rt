@@ -3,17 +3,18 @@ ghost use Rattle.std.specs.Prelude.{◌≡◌, [], ◌∷◌, ◌++◌, ◌<◌,
 ghost use Rattle.histar_rules.specs.declared.raw.RawCall.TheVariants as calls;
 ghost use Rattle.histar_layout.specs.Status.{started, status_bytes};
 ghost use Rattle.histar_layout.specs.StatusParts.{HasRoomForChild};
-ghost use Rattle.histar_layout.specs.Labelling.{guarded_by, owner_label, cleared_at};
+ghost use Rattle.histar_label.specs.declared.levels.Level.TheVariants.{L3};
+ghost use Rattle.histar_layout.specs.Labelling.{guarded_by, owner_label, cleared_at, each_at, labelled};
 ghost use Rattle.histar_programs.specs.Parts.{ask};
 ghost use Rattle.histar_programs.specs.Programs.{RunsPart};
 ghost use Rattle.histar_process.specs.Births.{MakesObjects, RunsBirth, kin_of_newborn, make_body};
 ghost use Rattle.histar_process.specs.Births.{make_categories, make_containers, make_segment, make_thread};
 
 use crate::find::{Parent, write_segment};
-use histar_label::{Category, Label, LabelStore};
-use histar_layout::{add_child, cleared_at, first_status, guarded_by, owner_label};
+use histar_label::{Category, Label, LabelStore, Level};
+use histar_layout::{add_child, first_status, guarded_by, set_each};
 use histar_object::ObjId;
-use histar_programs::{CallError, joined};
+use histar_programs::CallError;
 use histar_syscall::Kernel;
 use std::alloc::{AllocError, Global};
 
@@ -49,8 +50,10 @@ struct Body {
 /// Who may read and write a new object.
 #[derive(Clone, Copy)]
 struct Guard<'a> {
-    /// The categories in which it is secret.
-    secret: &'a [Category],
+    /// The categories of the child in which it is secret.
+    own: &'a [Category],
+    /// The jobs in whose categories it is secret.
+    jobs: &'a [Category],
     /// The category whose owner alone may write it.
     write: Category,
 }
@@ -148,13 +151,14 @@ fn make_containers<S: LabelStore + Drop>(
         ..
     } = *newborn;
     let outer = Guard {
-        secret: jobs,
+        own: &[],
+        jobs,
         write,
     };
     let container = make_guarded(alloc, kernel, thread, parent, &outer)?;
-    let secret = joined(alloc, &[read], jobs)?;
     let inner = Guard {
-        secret: secret.as_slice(),
+        own: &[read],
+        jobs,
         write,
     };
     let internal = make_guarded(alloc, kernel, thread, container, &inner)?;
@@ -169,12 +173,27 @@ fn make_guarded<S: LabelStore + Drop>(
     container: ObjId,
     guard: &Guard,
 ) -> Result<ObjId, CallError>
-    ensures { RunsPart (ask (calls.MakeContainer container (guarded_by guard.now.secret.now (guard.now.write ∷ []))))
+    ensures { RunsPart (ask (calls.MakeContainer container
+        (guarded_by (guard.now.own.now ++ guard.now.jobs.now) (guard.now.write ∷ []))))
         kernel.old kernel.new thread result }
 {
-    let label = guarded_by(alloc, guard.secret, &[guard.write])?;
+    let label = guarding_label(alloc, guard)?;
     let made = kernel.make_container(alloc, thread, container, label)?;
     Ok(made)
+}
+
+/// Makes the label of an object that this guards.
+fn guarding_label(alloc: Global, guard: &Guard) -> Result<Label, AllocError>
+    ensures { IfOk result (λ label. label ≡
+        guarded_by (guard.now.own.now ++ guard.now.jobs.now) (guard.now.write ∷ [])) }
+{
+    let Guard { own, jobs, write } = *guard;
+    let room = own.len().saturating_add(jobs.len()).saturating_add(1);
+    let mut label = Label::with_room(alloc, Level::L1, room)?;
+    set_each(&mut label, Level::L3, own)?;
+    set_each(&mut label, Level::L3, jobs)?;
+    label.set(write, Level::L0)?;
+    Ok(label)
 }
 
 /// Makes the thread of a child in its internal container.
@@ -201,17 +220,35 @@ fn thread_labels(alloc: Global, newborn: &Newborn) -> Result<(Label, Label), All
     ensures clearance { let child = newborn.now in
         IfOk result (λ made. made.1 ≡ cleared_at ((child.read ∷ child.write ∷ child.owned.now) ++ child.jobs.now)) }
 {
+    let label = label_at(alloc, Level::L1, Level::Star, newborn)?;
+    let clearance = label_at(alloc, Level::L2, Level::L3, newborn)?;
+    Ok((label, clearance))
+}
+
+/// Makes the label with one level at the categories that a child owns, 3 at those of its jobs, and another level at
+/// all others. The categories of its user were made before its own, so its exceptions are set in rising order.
+fn label_at(
+    alloc: Global,
+    default: Level,
+    level: Level,
+    newborn: &Newborn,
+) -> Result<Label, AllocError>
+    ensures { let child = newborn.now in IfOk result (λ label. label ≡ labelled
+        (each_at level (child.read ∷ child.write ∷ child.owned.now) ++ each_at L3 child.jobs.now) default) }
+{
     let Newborn {
         read,
         write,
         owned,
         jobs,
     } = *newborn;
-    let all = joined(alloc, &[read, write], owned)?;
-    let label = owner_label(alloc, all.as_slice(), jobs)?;
-    let known = joined(alloc, all.as_slice(), jobs)?;
-    let clearance = cleared_at(alloc, known.as_slice())?;
-    Ok((label, clearance))
+    let room = owned.len().saturating_add(jobs.len()).saturating_add(2);
+    let mut label = Label::with_room(alloc, default, room)?;
+    set_each(&mut label, level, owned)?;
+    label.set(read, level)?;
+    label.set(write, level)?;
+    set_each(&mut label, Level::L3, jobs)?;
+    Ok(label)
 }
 
 /// Makes the process segment of a child in its container.

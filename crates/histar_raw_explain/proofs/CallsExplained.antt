@@ -20,34 +20,31 @@ use Rattle.histar_explain.specs.Explanations.{ExplainsDenial}
 use Rattle.histar_raw_explain.specs.Texts.{raw_words, explanation_text}
 use Rattle.histar_raw_explain.specs.Explained.{ExplainsCall, ExplainsLast, ExplainsOne, ExplainsCalls}
 
--- lines that explain an entry
-ExplainsEntry : KernelModel → List ℕ → Option TraceEntry → Type 0
-ExplainsEntry k lines found = MatchOption found (lines ≡ []) (λ (e : TraceEntry). ExplainsCall (state k) e.line e.thread e.call e.denied lines)
-
 -- the last entry of a trace
-pub at_last : (k : KernelModel) (lines : List ℕ) (S : List TraceEntry) (found : Option TraceEntry) → S ≡ k.trace
-    → found ≡ slice_get S (length S - 1)
-    → MatchOption found (lines ≡ []) (λ (e : TraceEntry). ExplainsCall (state k) e.line e.thread e.call e.denied lines)
-    → ExplainsLast k lines
-at_last k lines S found same is explained =
-    subst (λ (x : Option TraceEntry).
-    MatchOption x (lines ≡ []) (λ (e : TraceEntry). ExplainsCall (state k) e.line e.thread e.call e.denied lines))
-    (is ∙ ap (λ (T : List TraceEntry). slice_get T (length T - 1)) same) explained
+module _ (k : KernelModel) (S : List TraceEntry) (e : TraceEntry) (same : S ≡ k.trace) (is : Some e ≡ slice_get S (length S - 1)) where
+  at_last : (lines : List ℕ) → ExplainsCall (state k) e.line e.thread e.call e.denied lines → ExplainsLast k lines
+  at_last lines explained =
+      subst (λ (x : Option TraceEntry).
+      MatchOption x (lines ≡ []) (λ (e : TraceEntry). ExplainsCall (state k) e.line e.thread e.call e.denied lines))
+      (is ∙ ap (λ (T : List TraceEntry). slice_get T (length T - 1)) same) explained
+
+  pub last_explained : {E : Type 0} (result : Result (Vec ℕ) E)
+      → IfOk result (λ (lines : Vec ℕ). ExplainsCall (state k) e.line e.thread e.call e.denied lines.items)
+      → IfOk result (λ (lines : Vec ℕ). ExplainsLast k lines.items)
+  last_explained (Ok lines) explained = at_last lines.items explained
+  last_explained (Err error) explained = explained
 
 -- a granted call
-pub last_granted : (k : KernelModel) (lines : List ℕ) (S : List TraceEntry) (e : TraceEntry) → S ≡ k.trace
-    → Some e ≡ slice_get S (length S - 1) → e.denied ≡ None → lines ≡ [] → ExplainsLast k lines
-last_granted k lines S e same is granted none =
-    at_last k lines S (Some e) same is (subst (λ (d : Option Denied). ExplainsCall (state k) e.line e.thread e.call d lines) (sym granted) none)
+pub call_granted : (s : State) (e : TraceEntry) (lines : List ℕ) → e.denied ≡ None → lines ≡ []
+    → ExplainsCall s e.line e.thread e.call e.denied lines
+call_granted s e lines granted none = subst (λ (o : Option Denied). ExplainsCall s e.line e.thread e.call o lines) (sym granted) none
 
 -- a denied call
-module _ (k : KernelModel) (S : List TraceEntry) (e : TraceEntry) (d : Denied) (x : Explanation) where
-  pub last_denied : (lines : List ℕ) → S ≡ k.trace → Some e ≡ slice_get S (length S - 1) → e.denied ≡ Some d
-      → ExplainsDenial (state k) e.thread e.call d x → lines ≡ explanation_text raw_words e.line e.thread x
-      → ExplainsLast k lines
-  last_denied lines same is denied explained text =
-      at_last k lines S (Some e) same is (subst (λ (o : Option Denied). ExplainsCall (state k) e.line e.thread e.call o lines) (sym denied)
-      (x, explained, text))
+pub call_denied : (s : State) (e : TraceEntry) (d : Denied) (x : Explanation) (lines : List ℕ) → e.denied ≡ Some d
+    → ExplainsDenial s e.thread e.call d x → lines ≡ explanation_text raw_words e.line e.thread x
+    → ExplainsCall s e.line e.thread e.call e.denied lines
+call_denied s e d x lines denied explained text =
+    subst (λ (o : Option Denied). ExplainsCall s e.line e.thread e.call o lines) (sym denied) (x, explained, text)
 
 -- the last entry of a trace with one more
 last_is : (xs : List TraceEntry) (e : TraceEntry) → slice_get (xs ++ e ∷ []) (length (xs ++ e ∷ []) - 1) ≡ Some e

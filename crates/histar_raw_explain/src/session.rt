@@ -4,7 +4,8 @@ ghost use Rattle.histar_io.specs.Device.{CountsFailure};
 ghost use Rattle.histar_script.specs.Runs.{IsOutputFault, LeavesSink, RunsInput, is_read_failed, is_write_failed};
 ghost use Rattle.histar_syscall.specs.KernelModel.{state};
 ghost use Rattle.histar_raw_session.specs.Answers.{AnswersCall, AnswersCalls, BeginsAnswer, BeginsAnswers};
-ghost use Rattle.histar_raw_explain.specs.Explained.{ExplainsLast, ExplainsOne, ExplainsCalls, ExplainsAnswered, BeginsExplaining, RunsExplained};
+ghost use Rattle.histar_raw_explain.specs.Explained.{ExplainsCall, ExplainsLast, ExplainsOne, ExplainsCalls};
+ghost use Rattle.histar_raw_explain.specs.Explained.{ExplainsAnswered, BeginsExplaining, RunsExplained};
 
 use crate::lines::push_explanation;
 use crate::wording::ByNumber;
@@ -14,7 +15,7 @@ use histar_label::{LabelStore, OutOfMemory};
 use histar_raw_session::read_session::read_session;
 use histar_raw_session::{RawLine, answer_call, empty_kernel};
 use histar_script::Fault;
-use histar_syscall::Kernel;
+use histar_syscall::{Kernel, TraceEntry};
 use std::alloc::Global;
 
 /// Runs a raw session as `run_raw_script` does, and writes after its answers why each denied call was denied.
@@ -57,7 +58,9 @@ fn explain_text<W: Sink>(alloc: Global, text: &[u8], writer: &mut W) -> Result<(
 {
     let calls = read_session(alloc, text)?;
     let mut kernel = empty_kernel(alloc)?;
-    explain_calls(alloc, &mut kernel, calls, writer)
+    let outcome = explain_calls(alloc, &mut kernel, calls, writer);
+    drop(kernel);
+    outcome
 }
 
 /// Has the kernel make the calls in their order, writes a line for each, and then the explanations of
@@ -137,11 +140,25 @@ fn explain_last<S: LabelStore + Drop>(
         return Ok(Vec::new(alloc));
     }
     let entry = trace.entry(alloc, trace.len() - 1)?;
+    let lines = explain_entry(alloc, kernel, &entry);
+    drop(entry);
+    lines
+}
+
+/// Returns the lines that explain why the call of an entry was denied, if it was, at the state of a kernel.
+fn explain_entry<S: LabelStore + Drop>(
+    alloc: Global,
+    kernel: &Kernel<S>,
+    entry: &TraceEntry,
+) -> Result<Vec<u8>, OutOfMemory>
+    ensures { IfOk result (λ lines. ExplainsCall (state kernel.now)
+        entry.now.line entry.now.thread entry.now.call entry.now.denied lines.items) }
+{
     let Some(denied) = entry.denied else {
         return Ok(Vec::new(alloc));
     };
     let explanation = explain(alloc, kernel, entry.thread, &entry.call, denied)?;
     let mut text = Vec::new(alloc);
-    push_explanation(alloc, &mut text, &ByNumber, &entry, &explanation)?;
+    push_explanation(alloc, &mut text, &ByNumber, entry, &explanation)?;
     Ok(text)
 }

@@ -2,21 +2,22 @@
 use Rattle.std.proofs.Common.{◌≡◌, ℕ, ◌<◌, Option, None, Some, Result, Ok, Err, OnOk, OnErr, true, refl, sym, ap, ◌∙◌, subst}
 use Rattle.std.specs.Prelude.{is_some}
 use Rattle.histar_base.specs.Refusals.{unless, ◌orelse◌}
-use Rattle.histar_label.specs.Levels.{Levels, is_below}
+use Rattle.histar_label.specs.Levels.{Levels, is_below, is_made}
 use Rattle.histar_label.specs.Store.{label_at, Keeps}
 use Rattle.histar_label.proofs.Stands.{label_at-stands}
 use Rattle.histar_object.specs.declared.objects.Entry.{Entry}
 use Rattle.histar_object.specs.declared.objects.Kind.TheVariants.{Thread}
 use Rattle.histar_object.specs.Objects.{TableModel, Objects, objects_of, put, thread_of, is_thread}
 use Rattle.histar_object.specs.State.{State}
-use Rattle.histar_container.specs.Shown.{object_by, shown, AllStand, IsUnusedFrom, IsKept}
+use Rattle.histar_container.specs.Shown.{shown, AllStand, IsUnusedFrom, IsKept}
 use Rattle.histar_container.proofs.Keeping.{all_on, shown_on, stand_put, shown_put, kept_own}
 use Rattle.histar_rules.specs.declared.entering.Opening.{Opening}
 use Rattle.histar_rules.specs.declared.limits.Next.{Next}
 use Rattle.histar_rules.specs.declared.raw.Denied.{Denied}
-use Rattle.histar_rules.specs.declared.raw.Denied.TheVariants.{Gate}
+use Rattle.histar_rules.specs.declared.raw.Denied.TheVariants.{Gate, Range}
 use Rattle.histar_rules.specs.declared.raw.Refusal.{Refusal}
 use Rattle.histar_rules.specs.declared.raw.RawCall.TheVariants.{Enter}
+use Rattle.histar_rules.specs.Rights.{lies_between}
 use Rattle.histar_rules.specs.Finds.{gate_of, state_shown, state_with, no_opening}
 use Rattle.histar_rules.specs.Rules.{check, no_link, FailsAtUnlessExhausted}
 use Rattle.histar_rules.proofs.LinkedObjects.{enter_found}
@@ -27,6 +28,11 @@ use Rattle.histar_rules.proofs.Passing.{first, caller_is}
 grouped : (a b c : Option Denied) → (a orelse b orelse c) ≡ ((a orelse b) orelse c)
 grouped None b c = refl
 grouped (Some d) b c = refl
+
+-- of four refusals in turn the first three may be grouped
+three_grouped : (a b c d : Option Denied) → (a orelse b orelse c orelse d) ≡ ((a orelse b orelse c) orelse d)
+three_grouped None b c d = grouped b c d
+three_grouped (Some denied) b c d = refl
 
 -- the labels of the thread and of the gate that were found, and those that were handed in, decide whether the thread enters
 pub enter_checked : {Id : Type 0} (labels : Id → Option Levels) (es : TableModel Id) (t d o : ℕ) (next : Next) (verify : Levels)
@@ -41,6 +47,14 @@ enter_checked labels es t d o next verify opening entry linked thread gate =
     gate refl refl refl refl
     ∙ grouped (unless (is_below (label_at labels opening.own.0) (label_at labels opening.gate.1)) Gate)
     (unless (is_below (label_at labels opening.own.0) verify) Gate) _
+    ∙ ap (λ (f : Option Denied).
+    (unless (is_below (label_at labels opening.own.0) (label_at labels opening.gate.1)) Gate
+    orelse unless (is_below (label_at labels opening.own.0) verify) Gate) orelse f)
+    (three_grouped (unless (lies_between (label_at labels opening.own.0) (label_at labels opening.gate.0)
+    (label_at labels opening.wanted.0) (label_at labels opening.wanted.1)
+    (label_at labels opening.own.1) (label_at labels opening.gate.1)) Range)
+    (unless (is_made next.category (label_at labels opening.wanted.0)) Range)
+    (unless (is_made next.category (label_at labels opening.wanted.1)) Range) (unless (is_made next.category verify) Range))
 
 -- who enters a gate is a thread
 enters : (s : State) (t d o : ℕ) (wanted clearance verify : Levels) → check s t (Enter d o wanted clearance verify) ≡ None

@@ -1,5 +1,5 @@
 -- What the checks of a thread's own labels say about the thread that was found, and about labels that were put before the checks.
-use Rattle.std.proofs.Common.{◌≡◌, ℕ, Bool, false, Option, None, Some, Result, Ok, Err, refl, sym, ap, ◌∙◌, subst}
+use Rattle.std.proofs.Common.{◌≡◌, ℕ, false, Option, Some, Result, Ok, Err, sym, ap, ◌∙◌, subst}
 use Rattle.std.specs.Prelude.{◌&&◌}
 use Rattle.std.specs.Result.{IsErrAnd}
 use Rattle.histar_base.specs.Refusals.{unless, ◌orelse◌}

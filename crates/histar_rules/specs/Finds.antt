@@ -46,14 +46,18 @@ state_shown labels es = record { objects = objects_shown labels es; next_object 
 abbrev pub state_with : {Id : Type 0} → (Id → Option Levels) → TableModel Id → Next → State
 state_with labels es next = record { objects = objects_shown labels es; next_object = next.object; next_category = next.category }
 
+-- the checks of the label and the clearance that a thread wants behind a gate, on labels that have Ids
+abbrev pub no_wanting : {Id : Type 0} → (Id → Option Levels) → Id × Id → Id × Id → Id × Id → Next → Option Denied
+no_wanting labels own gate wanted next =
+    unless (lies_between (label_at labels own.0) (label_at labels gate.0) (label_at labels wanted.0) (label_at labels wanted.1)
+    (label_at labels own.1) (label_at labels gate.1)) denials.Range
+    orelse unless (is_made next.category (label_at labels wanted.0)) denials.Range
+    orelse unless (is_made next.category (label_at labels wanted.1)) denials.Range
+
 -- the last checks of entering a gate, on labels that have Ids, and a verify label
 abbrev pub no_opening : {Id : Type 0} → (Id → Option Levels) → Opening Id → Levels → Next → Option Denied
 no_opening labels opening verify next =
     (unless (is_below (label_at labels opening.own.0) (label_at labels opening.gate.1)) denials.Gate
     orelse unless (is_below (label_at labels opening.own.0) verify) denials.Gate)
-    orelse unless (lies_between (label_at labels opening.own.0) (label_at labels opening.gate.0)
-    (label_at labels opening.wanted.0) (label_at labels opening.wanted.1)
-    (label_at labels opening.own.1) (label_at labels opening.gate.1)) denials.Range
-    orelse unless (is_made next.category (label_at labels opening.wanted.0)) denials.Range
-    orelse unless (is_made next.category (label_at labels opening.wanted.1)) denials.Range
+    orelse no_wanting labels opening.own opening.gate opening.wanted next
     orelse unless (is_made next.category verify) denials.Range

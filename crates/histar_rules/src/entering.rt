@@ -6,23 +6,23 @@ ghost use Rattle.histar_label.specs.Levels.{is_below};
 ghost use Rattle.histar_label.specs.Store.{label_at};
 ghost use Rattle.histar_object.specs.Objects.{objects_of, entry_there, is_gate, is_thread, put, thread_of};
 ghost use Rattle.histar_container.specs.Shown.{objects_shown, AllStand};
-ghost use Rattle.histar_rules.specs.Finds.{state_with, gate_of, no_opening};
+ghost use Rattle.histar_rules.specs.Finds.{state_with, gate_of, no_opening, no_wanting};
 ghost use Rattle.histar_rules.specs.Rights.{lies_between};
 ghost use Rattle.histar_rules.specs.Rules.{check, FailsAt, FailsAtUnlessExhausted};
 ghost use Rattle.histar_rules.specs.declared.raw.RawCall.TheVariants as calls;
 ghost use Rattle.histar_rules.specs.declared.raw.Denied.TheVariants.{BadKind, Gate};
 
+use crate::access::Access;
 use crate::checks::require;
 use crate::handed::HandedLabels;
 use crate::limits::Next;
 use crate::lookup::linked_in;
-use crate::own::{is_known, put_copy};
+use crate::own::{give_own, is_known, put_copy};
 use crate::raw::{Denied, Refusal};
 use histar_label::{Label, LabelStore};
-use histar_object::{Entry, Kind, ObjId, Object, Table};
+use histar_object::{Entry, Kind, ObjId, Table};
 
 /// The Ids of the labels of a thread that wants to enter a gate, and of those of the gate.
-#[derive(Clone, Copy)]
 struct Opening<L> {
     /// The thread's own label and its clearance.
     own: (L, L),
@@ -30,6 +30,13 @@ struct Opening<L> {
     gate: (L, L),
     /// The label and the clearance that the thread wants.
     wanted: (L, L),
+}
+
+/// The Ids of the label and the clearance that a thread wants behind a gate, and its verify label.
+struct Wanted<'l, L> {
+    label: L,
+    clearance: L,
+    verify: &'l Label,
 }
 
 // Looks up a gate: its label, its clearance, and what it gives to threads that enter it.
@@ -91,6 +98,30 @@ fn check_entry<S: LabelStore>(
     require(store.get(own).unwrap().below(verify), Denied::Gate)
 }
 
+// Checks the label and the clearance that a thread wants behind a gate: they lie between what the thread
+// and the gate have, and name only categories that were made.
+fn check_wanted<S: LabelStore>(
+    store: &mut S,
+    own: (S::Id, S::Id),
+    gate: (S::Id, S::Id),
+    wanted: (S::Id, S::Id),
+    next: Next,
+) -> Result<(), Denied>
+    requires own { IsSome (S.labels store.old own.0) }
+    requires own_clearance { IsSome (S.labels store.old own.1) }
+    requires gate { IsSome (S.labels store.old gate.0) }
+    requires gate_clearance { IsSome (S.labels store.old gate.1) }
+    requires wanted { IsSome (S.labels store.old wanted.0) }
+    requires clearance { IsSome (S.labels store.old wanted.1) }
+    ensures answer { FailsAt (no_wanting (S.labels store.old) own gate wanted next) result }
+    ensures unchanged { S.labels store.new ≡ S.labels store.old }
+{
+    let is_between = is_between(store, own, gate, wanted);
+    require(is_between, Denied::Range)?;
+    require(is_known(store, wanted.0, next), Denied::Range)?;
+    require(is_known(store, wanted.1, next), Denied::Range)
+}
+
 // Makes the last checks of entering a gate: the gate lets in a thread with this verify label, and gives it
 // the label and the clearance that it wants. The thread may own behind the gate what it or the gate owns.
 // Elsewhere the label is at least both labels, so that no taint is lost, and the clearance is at most the
@@ -112,10 +143,7 @@ fn check_opening<S: LabelStore>(
 {
     let Opening { own, gate, wanted } = opening;
     check_entry(store, own.0, gate.1, verify)?;
-    let is_between = is_between(store, own, gate, wanted);
-    require(is_between, Denied::Range)?;
-    require(is_known(store, wanted.0, next), Denied::Range)?;
-    require(is_known(store, wanted.1, next), Denied::Range)?;
+    check_wanted(store, own, gate, wanted, next)?;
     require(verify.names_only_made(next.category), Denied::Range)
 }
 
@@ -125,45 +153,36 @@ fn check_enter_in<S: LabelStore>(
     store: &mut S,
     table: &Table<S::Id>,
     next: Next,
-    thread: ObjId,
-    container: ObjId,
-    gate: ObjId,
-    wanted: (S::Id, S::Id),
-    verify: &Label,
+    access: &Access,
+    wanted: Wanted<S::Id>,
 ) -> Result<Entry, Denied>
     requires stand { AllStand (S.labels store.old) (objects_of table.now) }
-    requires wanted { IsSome (S.labels store.old wanted.0) }
-    requires clearance { IsSome (S.labels store.old wanted.1) }
-    ensures answer { FailsAt (check (state_with (S.labels store.old) table.now next) thread
-        (calls.Enter container gate (label_at (S.labels store.old) wanted.0)
-        (label_at (S.labels store.old) wanted.1) verify.now)) result }
+    requires wanted { IsSome (S.labels store.old wanted.label) }
+    requires clearance { IsSome (S.labels store.old wanted.clearance) }
+    ensures answer { FailsAt (check (state_with (S.labels store.old) table.now next)
+        access.now.thread (calls.Enter access.now.container access.now.object
+        (label_at (S.labels store.old) wanted.entry.label)
+        (label_at (S.labels store.old) wanted.entry.clearance) wanted.entry.verify.now)) result }
     ensures entry { IfOk result (λ entry. Some entry
-        ≡ entry_there (objects_shown (S.labels store.old) table.now gate)) }
-    ensures thread { IfOk result (λ _. IsTrue (is_thread (objects_of table.now thread))) }
+        ≡ entry_there (objects_shown (S.labels store.old) table.now access.now.object)) }
+    ensures thread { IfOk result (λ _.
+        IsTrue (is_thread (objects_of table.now access.now.thread))) }
     ensures unchanged { S.labels store.new ≡ S.labels store.old }
 {
-    let found = linked_in(store, table, thread, container, gate)?;
-    let (gate_label, gate_clearance, entry) = gate_in(table, gate)?;
+    let Wanted {
+        label,
+        clearance,
+        verify,
+    } = wanted;
+    let found = linked_in(store, table, access)?;
+    let (gate_label, gate_clearance, entry) = gate_in(table, access.object)?;
     let opening = Opening {
         own: (found.own, found.own_clearance),
         gate: (gate_label, gate_clearance),
-        wanted,
+        wanted: (label, clearance),
     };
     check_opening(store, opening, verify, next)?;
     Ok(entry)
-}
-
-// Gives a thread another label and another clearance.
-fn give_own<L: Copy>(table: &mut Table<L>, thread: ObjId, own: (L, L))
-    requires { IsTrue (is_thread (objects_of table.old thread)) }
-    ensures { objects_of table.new ≡ put (objects_of table.old) thread (thread_of own.0 own.1) }
-{
-    if let Some(object) = table.get_mut(thread) {
-        *object = Object {
-            label: own.0,
-            kind: Kind::Thread(own.1),
-        };
-    }
 }
 
 /// Lets a thread enter a gate with these labels, if it may, and returns what the gate gives.
@@ -171,28 +190,30 @@ pub(crate) fn enter_in<S: LabelStore>(
     store: &mut S,
     table: &mut Table<S::Id>,
     next: Next,
-    thread: ObjId,
-    container: ObjId,
-    gate: ObjId,
+    access: &Access,
     labels: HandedLabels,
 ) -> Result<Entry, Refusal>
     requires { AllStand (S.labels store.old) (objects_of table.old) }
     ensures stand { AllStand (S.labels store.new) (objects_of table.new) }
-    ensures answer { FailsAtUnlessExhausted (check (state_with (S.labels store.old) table.old next) thread
-        (calls.Enter container gate labels.entry.wanted.now labels.entry.clearance.now labels.entry.verify.now)) result }
+    ensures answer { FailsAtUnlessExhausted (check (state_with (S.labels store.old) table.old next)
+        access.now.thread (calls.Enter access.now.container access.now.object
+        labels.entry.wanted.now labels.entry.clearance.now labels.entry.verify.now)) result }
     ensures entry { IfOk result (λ entry. Some entry
-        ≡ entry_there (objects_shown (S.labels store.old) table.old gate)) }
+        ≡ entry_there (objects_shown (S.labels store.old) table.old access.now.object)) }
     ensures ok { OnOk result (objects_shown (S.labels store.new) table.new
-        ≡ put (objects_shown (S.labels store.old) table.old) thread
+        ≡ put (objects_shown (S.labels store.old) table.old) access.now.thread
         (thread_of labels.entry.wanted.now labels.entry.clearance.now)) }
     ensures err { OnErr result (objects_shown (S.labels store.new) table.new
         ≡ objects_shown (S.labels store.old) table.old) }
 {
     let clearance = put_copy(store, labels.clearance)?;
     let label = put_copy(store, labels.wanted)?;
-    let own = (label, clearance);
-    let verify = labels.verify;
-    let entry = check_enter_in(store, table, next, thread, container, gate, own, verify)?;
-    give_own(table, thread, own);
+    let wanted = Wanted {
+        label,
+        clearance,
+        verify: labels.verify,
+    };
+    let entry = check_enter_in(store, table, next, access, wanted)?;
+    give_own(table, access.thread, (label, clearance));
     Ok(entry)
 }

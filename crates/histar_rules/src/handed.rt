@@ -38,48 +38,6 @@ impl HandedLabel {
     {
         &self.label
     }
-
-    /// Takes the label off the heap.
-    pub fn into_label(self) -> Label
-        ensures { result ≡ self }
-    {
-        Box::into_inner(self.label)
-    }
-
-    /// Copies the label.
-    pub fn copy(&self, alloc: Global) -> Result<HandedLabel, AllocError>
-        ensures { IfOk result (λ handed. handed ≡ self.now) }
-    {
-        HandedLabel::new(alloc, self.label.copy()?)
-    }
-
-    /// Copies a label and a clearance.
-    pub(crate) fn copy_pair(
-        alloc: Global,
-        label: &HandedLabel,
-        clearance: &HandedLabel,
-    ) -> Result<(HandedLabel, HandedLabel), AllocError>
-        ensures { IfOk result (λ handed. (handed.0 ≡ label.now) × (handed.1 ≡ clearance.now)) }
-    {
-        let label = label.copy(alloc)?;
-        let clearance = clearance.copy(alloc)?;
-        Ok((label, clearance))
-    }
-
-    /// Copies the three labels of an `enter`: the wanted label, the clearance and the verify label.
-    pub(crate) fn copy_three(
-        alloc: Global,
-        wanted: &HandedLabel,
-        clearance: &HandedLabel,
-        verify: &HandedLabel,
-    ) -> Result<(HandedLabel, (HandedLabel, HandedLabel)), AllocError>
-        ensures { IfOk result (λ handed. (handed.0 ≡ wanted.now) × (handed.1.0 ≡ clearance.now)
-            × (handed.1.1 ≡ verify.now)) }
-    {
-        let wanted = wanted.copy(alloc)?;
-        let others = HandedLabel::copy_pair(alloc, clearance, verify)?;
-        Ok((wanted, others))
-    }
 }
 
 /// The labels with which a thread enters a gate.

@@ -8,7 +8,7 @@ ghost use Rattle.histar_object.specs.Objects.{objects_of, put, changed_at, with_
 ghost use Rattle.histar_object.specs.Objects.{is_container, is_thread, links_in, bytes_there, bytes_in, label_there};
 ghost use Rattle.histar_object.specs.Objects.{clearance_there};
 ghost use Rattle.histar_object.specs.State.{with_object, with_next, with_next_category, with_own, with_segment_bytes};
-ghost use Rattle.histar_container.specs.Shown.{objects_shown, kind_by, AllStand, KindStands, IsKept};
+ghost use Rattle.histar_container.specs.Shown.{objects_shown, kind_by, object_by, AllStand, KindStands, Stands, IsKept};
 ghost use Rattle.histar_container.specs.ObjectsModel.{state_of, CutsOff};
 ghost use Rattle.histar_container.specs.Tree.{AreTree};
 ghost use Rattle.histar_rules.specs.Finds.{LendsThread};
@@ -18,14 +18,16 @@ ghost use Rattle.histar_rules.specs.Rules.{check, greatest, no_new, no_new_owner
 ghost use Rattle.histar_rules.specs.Rules.{AreBytesOf, IsLabelOf, IsEntryOf};
 ghost use Rattle.histar_rules.specs.declared.raw.RawCall.TheVariants as calls;
 
+use crate::access::{Access, Maker};
 use crate::entering::enter_in;
 use crate::handed::HandedLabels;
 use crate::in_use::{LEAST_WEIGHT, forget_unused_in};
 use crate::kinds::ObjectKind;
 use crate::limits::Next;
 use crate::linked::{label_in, read_in, unlink_in, write_in};
-use crate::lookup::{new_in, new_owner_in, thread_in};
-use crate::own::{set_clearance_in, set_label_in};
+use crate::lookup::{labels_in, modified_in, thread_in};
+use crate::own::{give_own, set_clearance_in, set_label_in};
+use crate::ranges::{check_new, check_new_owner};
 use crate::raw::{Denied, Refusal};
 use histar_base::Bytes;
 use histar_container::{link_new, remove_tree};
@@ -87,12 +89,12 @@ impl<S: LabelStore + Drop> LabelledObjects<S> {
         ensures counted { OnOk result (self.new.next_object ≡ self.old.next_object + 1) }
         ensures err { OnErr result (state_of self.new ≡ state_of self.old) }
     {
+        let number = ObjId::new(self.next_object);
         push_in(
             &mut self.store,
             &mut self.table,
-            ObjId::new(self.next_object),
-            label,
-            kind,
+            number,
+            Object { label, kind },
         )?;
         self.next_object += 1;
         Ok(())
@@ -206,132 +208,83 @@ impl<S: LabelStore + Drop> LabelledObjects<S> {
     }
 
     /// Checks that a segment of this size, or a container (of size 0), may be made.
-    pub fn check_new(
-        &mut self,
-        thread: ObjId,
-        container: ObjId,
-        label: &Label,
-        size: usize,
-    ) -> Result<(), Denied>
-        ensures answer { FailsAt (no_new (state_of self.old) thread container label.now size) result }
+    pub fn check_new(&mut self, maker: &Maker, label: &Label, size: usize) -> Result<(), Denied>
+        ensures answer { FailsAt (no_new (state_of self.old)
+            maker.now.thread maker.now.container label.now size) result }
         ensures unchanged { self.new ≡ self.old }
     {
         let next = self.next();
-        new_in(
-            &mut self.store,
-            &self.table,
-            next,
-            thread,
-            container,
-            label,
-            size,
-        )
+        let found = modified_in(&mut self.store, &self.table, maker)?;
+        let (own, own_clearance) = labels_in(&self.store, found.own, found.own_clearance);
+        check_new(own, own_clearance, label, size, next)
     }
 
     /// Checks that a thread or a gate may be made.
     pub fn check_new_owner(
         &mut self,
-        thread: ObjId,
-        container: ObjId,
+        maker: &Maker,
         label: &Label,
         clearance: &Label,
     ) -> Result<(), Denied>
-        ensures answer { FailsAt (no_new_owner (state_of self.old) thread container label.now clearance.now) result }
+        ensures answer { FailsAt (no_new_owner (state_of self.old)
+            maker.now.thread maker.now.container label.now clearance.now) result }
         ensures unchanged { self.new ≡ self.old }
     {
         let next = self.next();
-        new_owner_in(
-            &mut self.store,
-            &self.table,
-            next,
-            thread,
-            container,
-            label,
-            clearance,
-        )
+        let found = modified_in(&mut self.store, &self.table, maker)?;
+        let (own, own_clearance) = labels_in(&self.store, found.own, found.own_clearance);
+        check_new_owner(own, own_clearance, label, clearance, next)
     }
 
     /// Checks that a segment may be read.
-    pub fn check_read(
-        &mut self,
-        thread: ObjId,
-        container: ObjId,
-        segment: ObjId,
-    ) -> Result<(), Denied>
-        ensures answer { FailsAt (check (state_of self.old) thread (calls.Read container segment)) result }
+    pub fn check_read(&mut self, access: &Access) -> Result<(), Denied>
+        ensures answer { FailsAt (check (state_of self.old) access.now.thread
+            (calls.Read access.now.container access.now.object)) result }
         ensures unchanged { self.new ≡ self.old }
     {
-        match read_in(&mut self.store, &self.table, thread, container, segment) {
+        match read_in(&mut self.store, &self.table, access) {
             Ok(_) => Ok(()),
             Err(denied) => Err(denied),
         }
     }
 
     /// Checks that a segment may be read, and returns a copy of its bytes.
-    pub fn read(
-        &mut self,
-        alloc: Global,
-        thread: ObjId,
-        container: ObjId,
-        segment: ObjId,
-    ) -> Result<Bytes, Refusal>
-        ensures answer { FailsAtUnlessExhausted
-            (check (state_of self.old) thread (calls.Read container segment)) result }
-        ensures bytes { IfOk result (AreBytesOf self.old segment) }
+    pub fn read(&mut self, alloc: Global, access: &Access) -> Result<Bytes, Refusal>
+        ensures answer { FailsAtUnlessExhausted (check (state_of self.old) access.now.thread
+            (calls.Read access.now.container access.now.object)) result }
+        ensures bytes { IfOk result (AreBytesOf self.old access.now.object) }
         ensures unchanged { self.new ≡ self.old }
     {
-        let bytes = read_in(&mut self.store, &self.table, thread, container, segment)?;
+        let bytes = read_in(&mut self.store, &self.table, access)?;
         Ok(bytes.copy(alloc)?)
     }
 
     /// Checks that a segment may be written.
-    pub fn check_write(
-        &mut self,
-        thread: ObjId,
-        container: ObjId,
-        segment: ObjId,
-        keep: u32,
-        bytes: &Bytes,
-    ) -> Result<(), Denied>
-        ensures answer { FailsAt (check (state_of self.old) thread
-            (calls.Write container segment keep bytes.now)) result }
+    pub fn check_write(&mut self, access: &Access, keep: u32, bytes: &Bytes) -> Result<(), Denied>
+        ensures answer { FailsAt (check (state_of self.old) access.now.thread
+            (calls.Write access.now.container access.now.object keep bytes.now)) result }
         ensures unchanged { self.new ≡ self.old }
     {
-        write_in(
-            &mut self.store,
-            &self.table,
-            thread,
-            container,
-            segment,
-            keep,
-            bytes,
-        )
+        write_in(&mut self.store, &self.table, access, keep, bytes)
     }
 
     /// Checks that an object may be unlinked.
-    pub fn check_unlink(
-        &mut self,
-        thread: ObjId,
-        container: ObjId,
-        object: ObjId,
-    ) -> Result<(), Denied>
-        ensures answer { FailsAt (check (state_of self.old) thread (calls.Unlink container object)) result }
+    pub fn check_unlink(&mut self, access: &Access) -> Result<(), Denied>
+        ensures answer { FailsAt (check (state_of self.old) access.now.thread
+            (calls.Unlink access.now.container access.now.object)) result }
         ensures unchanged { self.new ≡ self.old }
     {
-        unlink_in(&mut self.store, &self.table, thread, container, object)
+        unlink_in(&mut self.store, &self.table, access)
     }
 
     /// Checks that the label of an object that a container links may be asked for, and returns a copy of it.
-    pub fn label_of(
-        &mut self,
-        thread: ObjId,
-        container: ObjId,
-        object: ObjId,
-    ) -> Result<Label, Refusal>
+    pub fn label_of(&mut self, access: &Access) -> Result<Label, Refusal>
         requires { AreTree (objects_of self.old.objects) }
-        ensures { Decides self.old self.new thread (calls.LabelOf container object) result (IsLabelOf self.old object) }
+        ensures { Decides self.old self.new access.now.thread
+            (calls.LabelOf access.now.container access.now.object) result
+            (IsLabelOf self.old access.now.object) }
     {
-        let Some(label) = label_in(&mut self.store, &self.table, thread, container, object)? else {
+        let Some(label) = label_in(&mut self.store, &self.table, access)? else {
             return Err(Refusal::Denied(Denied::NoEntry));
         };
         Ok(self.store.get(label).unwrap().copy()?)
@@ -350,14 +303,9 @@ impl<S: LabelStore + Drop> LabelledObjects<S> {
         ensures err { OnErr result (state_of self.new ≡ state_of self.old) }
     {
         self.forget_unused_labels();
-        add_in(
-            &mut self.store,
-            &mut self.table,
-            container,
-            ObjId::new(self.next_object),
-            label,
-            kind,
-        )?;
+        let number = ObjId::new(self.next_object);
+        let object = Object { label, kind };
+        add_in(&mut self.store, &mut self.table, container, number, object)?;
         self.next_object += 1;
         Ok(())
     }
@@ -405,31 +353,18 @@ impl<S: LabelStore + Drop> LabelledObjects<S> {
 
     /// Lets a thread enter a gate with these labels, within what the gate and its own labels allow, and
     /// returns what the gate gives. Labels that the store has are not copied.
-    pub fn enter(
-        &mut self,
-        thread: ObjId,
-        container: ObjId,
-        gate: ObjId,
-        labels: HandedLabels,
-    ) -> Result<Entry, Refusal>
-        ensures answer { FailsAtUnlessExhausted (check (state_of self.old) thread (calls.Enter container gate
+    pub fn enter(&mut self, access: &Access, labels: HandedLabels) -> Result<Entry, Refusal>
+        ensures answer { FailsAtUnlessExhausted (check (state_of self.old) access.now.thread
+            (calls.Enter access.now.container access.now.object
             labels.entry.wanted.now labels.entry.clearance.now labels.entry.verify.now)) result }
-        ensures entry { IfOk result (IsEntryOf self.old gate) }
-        ensures ok { OnOk result (state_of self.new ≡ with_own (state_of self.old) thread
+        ensures entry { IfOk result (IsEntryOf self.old access.now.object) }
+        ensures ok { OnOk result (state_of self.new ≡ with_own (state_of self.old) access.now.thread
             labels.entry.wanted.now labels.entry.clearance.now) }
         ensures err { OnErr result (state_of self.new ≡ state_of self.old) }
     {
         self.forget_unused_labels();
         let next = self.next();
-        enter_in(
-            &mut self.store,
-            &mut self.table,
-            next,
-            thread,
-            container,
-            gate,
-            labels,
-        )
+        enter_in(&mut self.store, &mut self.table, next, access, labels)
     }
 
     /// Gives a thread another label and another clearance.
@@ -495,47 +430,59 @@ fn put_kind<S: LabelStore>(store: &mut S, kind: Kind<Label>) -> Result<Kind<S::I
     }
 }
 
+// Puts the labels of an object into the store.
+fn put_object<S: LabelStore>(
+    store: &mut S,
+    object: Object<Label>,
+) -> Result<Object<S::Id>, AllocError>
+    ensures stands { IfOk result (λ o. Stands (S.labels store.new) o) }
+    ensures value { IfOk result (λ o. object_by (label_at (S.labels store.new)) o ≡ object) }
+    ensures keeps { Keeps (S.labels store.old) (S.labels store.new) }
+{
+    let kind = put_kind(store, object.kind)?;
+    let label = store.put(object.label)?;
+    Ok(Object { label, kind })
+}
+
 // Puts an object into the table, and its labels into the store.
 fn push_in<S: LabelStore>(
     store: &mut S,
     table: &mut Table<S::Id>,
     number: ObjId,
-    label: Label,
-    kind: Kind<Label>,
+    object: Object<Label>,
 ) -> Result<(), AllocError>
     requires stand { AllStand (S.labels store.old) (objects_of table.old) }
     requires is_new { objects_shown (S.labels store.old) table.old number ≡ None }
     ensures stand { AllStand (S.labels store.new) (objects_of table.new) }
     ensures ok { OnOk result (objects_shown (S.labels store.new) table.new
-        ≡ put (objects_shown (S.labels store.old) table.old) number (record { label = label; kind = kind })) }
+        ≡ put (objects_shown (S.labels store.old) table.old) number object) }
     ensures err { OnErr result (objects_shown (S.labels store.new) table.new
         ≡ objects_shown (S.labels store.old) table.old) }
 {
-    let kind = put_kind(store, kind)?;
-    let label = store.put(label)?;
-    table.add(number, Object { label, kind })
+    let object = put_object(store, object)?;
+    table.add(number, object)
 }
 
 // Puts a new object into the table and its labels into the store, and links it in a container.
+// Inlined, so that the object isn't moved.
+#[inline(always)]
 fn add_in<S: LabelStore>(
     store: &mut S,
     table: &mut Table<S::Id>,
     container: ObjId,
     number: ObjId,
-    label: Label,
-    kind: Kind<Label>,
+    object: Object<Label>,
 ) -> Result<(), AllocError>
     requires stand { AllStand (S.labels store.old) (objects_of table.old) }
     requires is_new { objects_shown (S.labels store.old) table.old number ≡ None }
     ensures stand { AllStand (S.labels store.new) (objects_of table.new) }
     ensures ok { OnOk result (objects_shown (S.labels store.new) table.new
-        ≡ with_new (objects_shown (S.labels store.old) table.old) container number (record { label = label; kind = kind })) }
+        ≡ with_new (objects_shown (S.labels store.old) table.old) container number object) }
     ensures err { OnErr result (objects_shown (S.labels store.new) table.new
         ≡ objects_shown (S.labels store.old) table.old) }
 {
-    let kind = put_kind(store, kind)?;
-    let label = store.put(label)?;
-    link_new(table, container, number, Object { label, kind })
+    let object = put_object(store, object)?;
+    link_new(table, container, number, object)
 }
 
 // Puts the new labels of a thread into the store, and then changes the thread.
@@ -556,12 +503,7 @@ fn set_own_in<S: LabelStore>(
 {
     let clearance = store.put(clearance)?;
     let label = store.put(label)?;
-    if let Some(object) = table.get_mut(thread) {
-        *object = Object {
-            label,
-            kind: Kind::Thread(clearance),
-        };
-    }
+    give_own(table, thread, (label, clearance));
     Ok(())
 }
 

@@ -2,6 +2,7 @@
 //! their labels in a store. The checks of a raw call look up each object once.
 #![tactic(auto)]
 
+mod access;
 mod checks;
 mod entering;
 mod handed;
@@ -15,6 +16,7 @@ mod own;
 mod ranges;
 mod raw;
 
+pub use access::{Access, Maker};
 pub use checks::require;
 pub use handed::{HandedLabel, HandedLabels};
 pub use kinds::ObjectKind;

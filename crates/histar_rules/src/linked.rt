@@ -11,6 +11,7 @@ ghost use Rattle.histar_rules.specs.Rules.{check, fits_segment, FailsAt};
 ghost use Rattle.histar_rules.specs.declared.raw.RawCall.TheVariants as calls;
 ghost use Rattle.histar_rules.specs.declared.raw.Denied.TheVariants.{BadKind, Modify, TooBig};
 
+use crate::access::Access;
 use crate::checks::require;
 use crate::limits::fits;
 use crate::lookup::linked_in;
@@ -37,18 +38,17 @@ fn segment_in<L: Copy>(table: &Table<L>, segment: ObjId) -> Result<(L, &Bytes), 
 pub(crate) fn read_in<'t, S: LabelStore>(
     store: &mut S,
     table: &'t Table<S::Id>,
-    thread: ObjId,
-    container: ObjId,
-    segment: ObjId,
+    access: &Access,
 ) -> Result<&'t Bytes, Denied>
     requires { AllStand (S.labels store.old) (objects_of table.now) }
-    ensures answer { FailsAt (check (state_shown (S.labels store.old) table.now) thread
-        (calls.Read container segment)) result }
-    ensures bytes { IfOk result (λ bytes. bytes_there (objects_of table.now segment) ≡ Some bytes.now) }
+    ensures answer { FailsAt (check (state_shown (S.labels store.old) table.now) access.now.thread
+        (calls.Read access.now.container access.now.object)) result }
+    ensures bytes { IfOk result (λ bytes.
+        bytes_there (objects_of table.now access.now.object) ≡ Some bytes.now) }
     ensures unchanged { S.labels store.new ≡ S.labels store.old }
 {
-    let found = linked_in(store, table, thread, container, segment)?;
-    let (label, bytes) = segment_in(table, segment)?;
+    let found = linked_in(store, table, access)?;
+    let (label, bytes) = segment_in(table, access.object)?;
     if store.below_raised(label, found.own) {
         Ok(bytes)
     } else {
@@ -76,22 +76,22 @@ fn check_change(modifies: bool, held: usize, keep: u32, more: usize) -> Result<(
 }
 
 /// Checks that a segment may be written.
+// Inlined, so that a write costs one call less.
+#[inline(always)]
 pub(crate) fn write_in<S: LabelStore>(
     store: &mut S,
     table: &Table<S::Id>,
-    thread: ObjId,
-    container: ObjId,
-    segment: ObjId,
+    access: &Access,
     keep: u32,
     bytes: &Bytes,
 ) -> Result<(), Denied>
     requires { AllStand (S.labels store.old) (objects_of table.now) }
-    ensures answer { FailsAt (check (state_shown (S.labels store.old) table.now) thread
-        (calls.Write container segment keep bytes.now)) result }
+    ensures answer { FailsAt (check (state_shown (S.labels store.old) table.now) access.now.thread
+        (calls.Write access.now.container access.now.object keep bytes.now)) result }
     ensures unchanged { S.labels store.new ≡ S.labels store.old }
 {
-    let found = linked_in(store, table, thread, container, segment)?;
-    let (label, held) = segment_in(table, segment)?;
+    let found = linked_in(store, table, access)?;
+    let (label, held) = segment_in(table, access.object)?;
     let modifies = modifies_by(store, found.own, label);
     check_change(modifies, held.len(), keep, bytes.len())
 }
@@ -100,16 +100,14 @@ pub(crate) fn write_in<S: LabelStore>(
 pub(crate) fn unlink_in<S: LabelStore>(
     store: &mut S,
     table: &Table<S::Id>,
-    thread: ObjId,
-    container: ObjId,
-    object: ObjId,
+    access: &Access,
 ) -> Result<(), Denied>
     requires { AllStand (S.labels store.old) (objects_of table.now) }
-    ensures answer { FailsAt (check (state_shown (S.labels store.old) table.now) thread
-        (calls.Unlink container object)) result }
+    ensures answer { FailsAt (check (state_shown (S.labels store.old) table.now) access.now.thread
+        (calls.Unlink access.now.container access.now.object)) result }
     ensures unchanged { S.labels store.new ≡ S.labels store.old }
 {
-    let found = linked_in(store, table, thread, container, object)?;
+    let found = linked_in(store, table, access)?;
     if store.below(found.own, found.label) {
         Ok(())
     } else {
@@ -121,18 +119,17 @@ pub(crate) fn unlink_in<S: LabelStore>(
 pub(crate) fn label_in<S: LabelStore>(
     store: &mut S,
     table: &Table<S::Id>,
-    thread: ObjId,
-    container: ObjId,
-    object: ObjId,
+    access: &Access,
 ) -> Result<Option<S::Id>, Denied>
     requires { AllStand (S.labels store.old) (objects_of table.now) }
-    ensures answer { FailsAt (check (state_shown (S.labels store.old) table.now) thread
-        (calls.LabelOf container object)) result }
-    ensures label { IfOk result (λ label. label ≡ label_there (objects_of table.now object)) }
+    ensures answer { FailsAt (check (state_shown (S.labels store.old) table.now) access.now.thread
+        (calls.LabelOf access.now.container access.now.object)) result }
+    ensures label { IfOk result (λ label.
+        label ≡ label_there (objects_of table.now access.now.object)) }
     ensures unchanged { S.labels store.new ≡ S.labels store.old }
 {
-    linked_in(store, table, thread, container, object)?;
-    label_unless_thread(table, object)
+    linked_in(store, table, access)?;
+    label_unless_thread(table, access.object)
 }
 
 // Returns the label of an object, if it is there; refuses a thread.

@@ -4,12 +4,11 @@ ghost use Rattle.histar_base.specs.Refusals.{unless, ◌orelse◌};
 ghost use Rattle.histar_label.specs.Store.{label_at};
 ghost use Rattle.histar_object.specs.Objects.{objects_of, thread_of, is_present, is_container};
 ghost use Rattle.histar_container.specs.Shown.{AllStand};
-ghost use Rattle.histar_rules.specs.Finds.{FindsThread, container_of, state_shown, state_with};
-ghost use Rattle.histar_rules.specs.Rules.{no_container, no_making, no_new, no_new_owner, no_link, FailsAt};
+ghost use Rattle.histar_rules.specs.Finds.{FindsThread, container_of, state_shown};
+ghost use Rattle.histar_rules.specs.Rules.{no_container, no_making, no_link, FailsAt};
 ghost use Rattle.histar_rules.specs.declared.raw.Denied.TheVariants.{NoEntry, BadKind};
 
-use crate::limits::Next;
-use crate::ranges::{check_new, check_new_owner};
+use crate::access::{Access, Maker};
 use crate::raw::Denied;
 use histar_label::{Label, LabelStore};
 use histar_object::{Kind, Links, ObjId, Table};
@@ -91,16 +90,16 @@ pub(crate) fn observed_in<'t, S: LabelStore>(
 pub(crate) fn modified_in<'t, S: LabelStore>(
     store: &mut S,
     table: &'t Table<S::Id>,
-    thread: ObjId,
-    container: ObjId,
+    maker: &Maker,
 ) -> Result<Observed<'t, S::Id>, Denied>
     requires { AllStand (S.labels store.old) (objects_of table.now) }
-    ensures answer { FailsAt (no_making (state_shown (S.labels store.old) table.now) thread container) result }
-    ensures thread { IfOk result (λ found. objects_of table.now thread
+    ensures answer { FailsAt (no_making (state_shown (S.labels store.old) table.now)
+        maker.now.thread maker.now.container) result }
+    ensures thread { IfOk result (λ found. objects_of table.now maker.now.thread
         ≡ Some (thread_of found.own found.own_clearance)) }
     ensures unchanged { S.labels store.new ≡ S.labels store.old }
 {
-    let found = observed_in(store, table, thread, container)?;
+    let found = observed_in(store, table, maker.thread, maker.container)?;
     if store.below(found.own, found.label) {
         Ok(found)
     } else {
@@ -108,7 +107,7 @@ pub(crate) fn modified_in<'t, S: LabelStore>(
     }
 }
 
-// Looks up the labels that two Ids stand for.
+/// Looks up the labels that two Ids stand for.
 pub(crate) fn labels_in<S: LabelStore>(store: &S, first: S::Id, second: S::Id) -> (&Label, &Label)
     requires first { IsSome (S.labels store.now first) }
     requires second { IsSome (S.labels store.now second) }
@@ -118,64 +117,23 @@ pub(crate) fn labels_in<S: LabelStore>(store: &S, first: S::Id, second: S::Id) -
     (store.get(first).unwrap(), store.get(second).unwrap())
 }
 
-/// Checks that an object that owns nothing may be made, with this many bytes.
-pub(crate) fn new_in<S: LabelStore>(
-    store: &mut S,
-    table: &Table<S::Id>,
-    next: Next,
-    thread: ObjId,
-    container: ObjId,
-    label: &Label,
-    size: usize,
-) -> Result<(), Denied>
-    requires { AllStand (S.labels store.old) (objects_of table.now) }
-    ensures answer { FailsAt (no_new (state_with (S.labels store.old) table.now next) thread
-        container label.now size) result }
-    ensures unchanged { S.labels store.new ≡ S.labels store.old }
-{
-    let found = modified_in(store, table, thread, container)?;
-    let (own, own_clearance) = labels_in(store, found.own, found.own_clearance);
-    check_new(own, own_clearance, label, size, next)
-}
-
-/// Checks that an object that may own, a thread or a gate, may be made.
-pub(crate) fn new_owner_in<S: LabelStore>(
-    store: &mut S,
-    table: &Table<S::Id>,
-    next: Next,
-    thread: ObjId,
-    container: ObjId,
-    label: &Label,
-    clearance: &Label,
-) -> Result<(), Denied>
-    requires { AllStand (S.labels store.old) (objects_of table.now) }
-    ensures answer { FailsAt (no_new_owner (state_with (S.labels store.old) table.now next) thread
-        container label.now clearance.now) result }
-    ensures unchanged { S.labels store.new ≡ S.labels store.old }
-{
-    let found = modified_in(store, table, thread, container)?;
-    let (own, own_clearance) = labels_in(store, found.own, found.own_clearance);
-    check_new_owner(own, own_clearance, label, clearance, next)
-}
-
 /// Makes the first checks of every call that names an object in a container: the container links it.
 pub(crate) fn linked_in<'t, S: LabelStore>(
     store: &mut S,
     table: &'t Table<S::Id>,
-    thread: ObjId,
-    container: ObjId,
-    object: ObjId,
+    access: &Access,
 ) -> Result<Observed<'t, S::Id>, Denied>
     requires { AllStand (S.labels store.old) (objects_of table.now) }
-    ensures answer { FailsAt (no_link (state_shown (S.labels store.old) table.now) thread container object) result }
-    ensures thread { IfOk result (λ found. objects_of table.now thread
+    ensures answer { FailsAt (no_link (state_shown (S.labels store.old) table.now)
+        access.now.thread access.now.container access.now.object) result }
+    ensures thread { IfOk result (λ found. objects_of table.now access.now.thread
         ≡ Some (thread_of found.own found.own_clearance)) }
-    ensures container { IfOk result (λ found. objects_of table.now container
+    ensures container { IfOk result (λ found. objects_of table.now access.now.container
         ≡ Some (container_of found.label found.links.now)) }
     ensures unchanged { S.labels store.new ≡ S.labels store.old }
 {
-    let found = observed_in(store, table, thread, container)?;
-    if found.links.contains(object) {
+    let found = observed_in(store, table, access.thread, access.container)?;
+    if found.links.contains(access.object) {
         Ok(found)
     } else {
         Err(Denied::NoEntry)

@@ -1,10 +1,10 @@
 //! The calls by which a thread changes its own labels. The labels are put into the store before the checks,
 //! which compare them by their Ids.
-ghost use Rattle.std.specs.Prelude.{◌≡◌, ◌&&◌, IfOk, IsSome, OnOk, OnErr, Some};
+ghost use Rattle.std.specs.Prelude.{◌≡◌, ◌&&◌, IfOk, IsSome, IsTrue, OnOk, OnErr, Some};
 ghost use Rattle.histar_base.specs.Refusals.{unless, ◌orelse◌};
 ghost use Rattle.histar_label.specs.Levels.{is_below, is_below_join_raised, is_made};
 ghost use Rattle.histar_label.specs.Store.{label_at, Keeps};
-ghost use Rattle.histar_object.specs.Objects.{objects_of, changed_at};
+ghost use Rattle.histar_object.specs.Objects.{objects_of, changed_at, is_thread, put, thread_of};
 ghost use Rattle.histar_container.specs.Shown.{objects_shown, AllStand};
 ghost use Rattle.histar_rules.specs.Finds.{state_with};
 ghost use Rattle.histar_rules.specs.Rights.{kind_with_clearance, with_clearance, with_label};
@@ -17,7 +17,7 @@ use crate::limits::Next;
 use crate::lookup::thread_in;
 use crate::raw::{Denied, Refusal};
 use histar_label::{Label, LabelStore};
-use histar_object::{Kind, ObjId, Table};
+use histar_object::{Kind, ObjId, Object, Table};
 use std::alloc::AllocError;
 
 /// Returns the Id of a label. A label that the store has is not copied.
@@ -173,6 +173,21 @@ fn set_kind_clearance<L: Copy>(kind: &mut Kind<L>, clearance: L)
         Kind::Thread(own) => *own = clearance,
         Kind::Gate(own, _) => *own = clearance,
         _ => {}
+    }
+}
+
+/// Gives a thread another label and another clearance.
+// Inlined, so that its two values stay in registers.
+#[inline(always)]
+pub(crate) fn give_own<L: Copy>(table: &mut Table<L>, thread: ObjId, own: (L, L))
+    requires { IsTrue (is_thread (objects_of table.old thread)) }
+    ensures { objects_of table.new ≡ put (objects_of table.old) thread (thread_of own.0 own.1) }
+{
+    if let Some(object) = table.get_mut(thread) {
+        *object = Object {
+            label: own.0,
+            kind: Kind::Thread(own.1),
+        };
     }
 }
 

@@ -1,10 +1,8 @@
 //! The raw calls, and the reasons to refuse them.
-ghost use Rattle.std.specs.Prelude.{◌≡◌, IfOk};
-
 use crate::handed::HandedLabel;
 use histar_base::Bytes;
 use histar_object::{Entry, ObjId};
-use std::alloc::{AllocError, AllocFailed, Global};
+use std::alloc::{AllocError, AllocFailed};
 
 /// The reason why the kernel refuses a raw call: the first of the call's checks that fails. A refused call
 /// changes nothing but the trace.
@@ -61,48 +59,6 @@ pub enum RawCall {
     Unlink(ObjId, ObjId),
     /// Asks for the label of an object that a container links and that is no thread.
     LabelOf(ObjId, ObjId),
-}
-
-impl RawCall {
-    /// Copies the call.
-    pub fn copy(&self, alloc: Global) -> Result<RawCall, AllocError>
-        ensures { IfOk result (λ call. call ≡ self.now) }
-    {
-        match self {
-            RawCall::MakeCategory => Ok(RawCall::MakeCategory),
-            RawCall::OwnLabel => Ok(RawCall::OwnLabel),
-            RawCall::SetLabel(label) => label.copy(alloc).map(RawCall::SetLabel),
-            RawCall::SetClearance(clearance) => clearance.copy(alloc).map(RawCall::SetClearance),
-            RawCall::MakeSegment(container, label, bytes) => {
-                let label = label.copy(alloc)?;
-                Ok(RawCall::MakeSegment(*container, label, bytes.copy(alloc)?))
-            }
-            RawCall::MakeContainer(container, label) => {
-                Ok(RawCall::MakeContainer(*container, label.copy(alloc)?))
-            }
-            RawCall::MakeThread(container, label, clearance) => {
-                let (label, clearance) = HandedLabel::copy_pair(alloc, label, clearance)?;
-                Ok(RawCall::MakeThread(*container, label, clearance))
-            }
-            RawCall::MakeGate(container, label, clearance, entry) => {
-                let (label, clearance) = HandedLabel::copy_pair(alloc, label, clearance)?;
-                Ok(RawCall::MakeGate(*container, label, clearance, *entry))
-            }
-            RawCall::Enter(container, gate, wanted, clearance, verify) => {
-                let (wanted, (clearance, verify)) = HandedLabel::copy_three(
-                    alloc, wanted, clearance, verify,
-                )?;
-                Ok(RawCall::Enter(*container, *gate, wanted, clearance, verify))
-            }
-            RawCall::Read(container, segment) => Ok(RawCall::Read(*container, *segment)),
-            RawCall::Write(container, segment, keep, bytes) => {
-                let bytes = bytes.copy(alloc)?;
-                Ok(RawCall::Write(*container, *segment, *keep, bytes))
-            }
-            RawCall::Unlink(container, object) => Ok(RawCall::Unlink(*container, *object)),
-            RawCall::LabelOf(container, object) => Ok(RawCall::LabelOf(*container, *object)),
-        }
-    }
 }
 
 /// The reason why a raw call has no answer.

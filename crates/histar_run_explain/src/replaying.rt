@@ -46,8 +46,7 @@ fn make_again<S: LabelStore + Drop>(
     ensures made { OnOk result (IsMade kernel.old entry.now.thread entry.now.call kernel.new) }
     ensures sound { OnOk result (IsSound (state kernel.old)) }
 {
-    let call = entry.call.copy(alloc)?;
-    match kernel.call(alloc, entry.thread, call) {
+    match kernel.make_call(alloc, entry.thread, &entry.call) {
         Ok(_) => Ok(()),
         Err(refusal) => match refusal {
             Refusal::Denied(_) => Ok(()),
@@ -88,6 +87,23 @@ fn explain_outcome<S: LabelStore + Drop, V: Wording>(
     push_explanation(alloc, text, words, entry, &explanation)
 }
 
+/// Adds the lines that explain why the call of an entry was denied, if it was, at the state of a second kernel,
+/// and brings the kernel to the state after the entry.
+fn explain_entry<S: LabelStore + Drop, V: Wording>(
+    alloc: Global,
+    kernel: &mut Kernel<S>,
+    words: &V,
+    text: &mut Vec<u8>,
+    entry: &TraceEntry,
+) -> Result<(), OutOfMemory>
+    ensures explained { OnOk result (Adds (ExplainsOutcome (V.words words.now) (state kernel.old) entry.now
+        entry.now.denied) text.old.items text.new.items) }
+    ensures ends { OnOk result (EndsAsRun (state kernel.old) (entry.now ∷ []) (state kernel.new)) }
+{
+    explain_outcome(alloc, kernel, words, text, entry)?;
+    replay(alloc, kernel, entry)
+}
+
 /// Brings a second kernel to the state after the entries of a trace from this one on, and adds the lines that
 /// explain why the denied ones were denied, each at the state before it.
 pub(crate) fn explain_entries<S: LabelStore + Drop, V: Wording>(
@@ -106,8 +122,9 @@ pub(crate) fn explain_entries<S: LabelStore + Drop, V: Wording>(
     let count = entries.trace.len().saturating_sub(entries.from);
     for behind in 0..count {
         let entry = entries.trace.entry(alloc, entries.from + behind)?;
-        explain_outcome(alloc, kernel, words, text, &entry)?;
-        replay(alloc, kernel, &entry)?;
+        let outcome = explain_entry(alloc, kernel, words, text, &entry);
+        drop(entry);
+        outcome?;
     }
     Ok(())
 }

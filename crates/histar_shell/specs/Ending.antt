@@ -1,10 +1,10 @@
 -- What is written after the replies: the tree, if it is asked for, and then the trace, if it is asked for.
-use Rattle.std.specs.Prelude.{◌≡◌, ℕ, Bool, true, false, List, [], ◌++◌, Option, if◌then◌else◌}
+use Rattle.std.specs.Prelude.{◌≡◌, ℕ, Bool, true, false, List, [], ◌++◌, Option, Some, if◌then◌else◌, slice_get}
 use Rattle.std.specs.Io.KnownBytes.{Appends}
 use Rattle.histar_io.specs.Writing.{AppendsFront}
 use Rattle.histar_trace.specs.declared.entries.TraceEntry.{TraceEntry}
 use Rattle.histar_syscall.specs.KernelModel.{state}
-use Rattle.histar_rawtext.specs.RawText.{trace_text}
+use Rattle.histar_rawtext.specs.RawText.{trace_line, trace_text}
 use Rattle.histar_readout.specs.declared.tree.TreeNode.{TreeNode}
 use Rattle.histar_readout.specs.Tree.{IsTreeOf}
 use Rattle.histar_readout.specs.TreeLines.{lines_at}
@@ -28,6 +28,10 @@ PrintsTree m text = (tree : List TreeNode) × IsTreeIn m tree × (text ≡ tree_
 abbrev pub IsAsked : Bool → (List ℕ → Type 0) → List ℕ → Type 0
 IsAsked true is text = is text
 IsAsked false is text = text ≡ []
+
+-- the line is that of the entry at this place
+abbrev pub IsEntryLine : List TraceEntry → ℕ → List ℕ → Type 0
+IsEntryLine entries at line = (entry : TraceEntry) × (slice_get entries at ≡ Some entry) × (line ≡ trace_line entry)
 
 -- the lines of a trace, if it is asked for
 abbrev pub asked_trace : Options → List TraceEntry → List ℕ

@@ -1,5 +1,5 @@
 //! Writing what follows the replies: the tree and the trace.
-ghost use Rattle.std.specs.Prelude.{◌≡◌, IfErr, OnErr, OnOk};
+ghost use Rattle.std.specs.Prelude.{◌≡◌, ◌<◌, IfErr, IfOk, OnErr, OnOk, length};
 ghost use Rattle.std.specs.Io.KnownBytes.{Appends};
 ghost use Rattle.histar_io.specs.Device.{CountsFailure};
 ghost use Rattle.histar_io.specs.Writing.{AppendsFront};
@@ -7,7 +7,8 @@ ghost use Rattle.histar_rawtext.specs.RawText.{trace_text};
 ghost use Rattle.histar_script.specs.Runs.{IsOutputFault, is_write_failed};
 ghost use Rattle.histar_syscall.specs.KernelModel.{state};
 ghost use Rattle.histar_readout.specs.TreeLines.{lines_at};
-ghost use Rattle.histar_shell.specs.Ending.{AppendsEnding, AppendsTree, BeginsTheEnding, BeginsTree, HasTree, asked_trace};
+ghost use Rattle.histar_shell.specs.Ending.{AppendsEnding, AppendsTree, BeginsTheEnding, BeginsTree, HasTree};
+ghost use Rattle.histar_shell.specs.Ending.{IsEntryLine, asked_trace};
 ghost use Rattle.histar_shell.specs.TreeText.{tree_text};
 
 use crate::machine::Machine;
@@ -19,7 +20,7 @@ use histar_rawtext::trace_line;
 use histar_readout::TreeNode;
 use histar_script::Fault;
 use histar_syscall::Trace;
-use std::alloc::Global;
+use std::alloc::{AllocError, Global};
 
 /// Writes the tree of a machine and then its trace, if they are asked for.
 pub fn write_ending<S: LabelStore + Drop, W: Sink>(
@@ -109,9 +110,19 @@ fn write_entries<W: Sink>(alloc: Global, trace: &Trace, writer: &mut W) -> Resul
     ensures count { CountsFailure (W.failures writer.old) (W.failures writer.new) (is_write_failed result) }
 {
     'lines: for at in 0..trace.len() {
-        let entry = trace.entry(alloc, at)?;
-        let line = trace_line(alloc, &entry)?;
+        let line = entry_line(alloc, trace, at)?;
         write_bytes(writer, line.as_slice())?;
     }
     Ok(())
+}
+
+/// Returns the line of the entry at a place of a trace.
+fn entry_line(alloc: Global, trace: &Trace, at: usize) -> Result<Vec<u8>, AllocError>
+    requires { at < length trace.now.entries }
+    ensures { IfOk result (λ line. IsEntryLine trace.now.entries at line.items) }
+{
+    let entry = trace.entry(alloc, at)?;
+    let line = trace_line(alloc, &entry);
+    drop(entry);
+    line
 }

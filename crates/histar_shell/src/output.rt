@@ -2,7 +2,8 @@
 ghost use Rattle.std.specs.Prelude.{◌≡◌, ◌++◌, IfOk, OnOk};
 ghost use Rattle.std.specs.List.{flat_map};
 ghost use Rattle.std.specs.Fmt.{decimal};
-ghost use Rattle.histar_flat.specs.Texts.{entry_text, file_mode_text, owner_text, names_text, path_text, process_text, reply_text, stat_text};
+ghost use Rattle.histar_flat.specs.Texts.{confined_text, entry_text, file_mode_text, owner_text, names_text};
+ghost use Rattle.histar_flat.specs.Texts.{path_text, process_text, reply_text, stat_text};
 ghost use Rattle.histar_shell.specs.Answers.{line_text};
 ghost use Rattle.histar_shell.specs.TreeText.{node_text, tree_line_text};
 
@@ -90,6 +91,15 @@ pub fn push_stat(line: &mut Vec<u8>, stat: Stat) -> Result<(), AllocError>
     push_mode(line, stat.mode)
 }
 
+/// Adds a user's name, and whether the process that acts for the user is confined.
+fn push_user(line: &mut Vec<u8>, name: &Name, confined: bool) -> Result<(), AllocError>
+    ensures { OnOk result (line.new.items ≡ line.old.items ++ name.now ++ confined_text confined) }
+{
+    line.extend_from_slice(name.as_bytes())?;
+    let after = if confined { " confined" } else { "" };
+    line.extend_from_slice(after.as_bytes())
+}
+
 /// Adds the text of a reply.
 fn push_reply(line: &mut Vec<u8>, reply: &Reply) -> Result<(), AllocError>
     ensures { OnOk result (line.new.items ≡ line.old.items ++ reply_text reply.now) }
@@ -119,9 +129,7 @@ fn push_reply(line: &mut Vec<u8>, reply: &Reply) -> Result<(), AllocError>
         }
         Reply::User(name, confined) => {
             line.extend_from_slice(b"ok ")?;
-            line.extend_from_slice(name.as_bytes())?;
-            let after = if *confined { " confined" } else { "" };
-            line.extend_from_slice(after.as_bytes())
+            push_user(line, name, *confined)
         }
         Reply::Refused(errno) => line.extend_from_slice(errno.name().as_bytes()),
         Reply::Gone => line.extend_from_slice(b"gone"),

@@ -102,8 +102,13 @@ fn run_text<S: LabelStore + Drop, W: Sink>(
     let Ok(mut machine) = Machine::boot(alloc, store, accounts) else {
         return Err(Fault::OutOfMemory);
     };
-    answer_all(alloc, &mut machine, calls, writer, options)?;
-    Ok(machine.leak_into_trace())
+    match answer_all(alloc, &mut machine, calls, writer, options) {
+        Ok(()) => Ok(machine.leak_into_trace()),
+        Err(fault) => {
+            drop(machine);
+            Err(fault)
+        }
+    }
 }
 
 /// Reads the script that a text is, and frees the text: a session's trace takes its room.
@@ -192,7 +197,9 @@ fn answer_by<S: LabelStore + Drop, W: Sink>(
     let Ok(reply) = machine.step(alloc, number, &process, call) else {
         return Err(Fault::OutOfMemory);
     };
-    set_reply_line(line, number, &reply)?;
+    let made = set_reply_line(line, number, &reply);
+    drop(reply);
+    made?;
     write_bytes(writer, line.as_slice())?;
     Ok(())
 }

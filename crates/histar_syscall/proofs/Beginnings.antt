@@ -1,10 +1,10 @@
 -- The objects of the empty kernel.
-use Rattle.std.proofs.Common.{◌≡◌, ◌==◌, Bool, true, false, None, Some, refl, ap, ◌∙◌, if◌then◌else◌}
+use Rattle.std.proofs.Common.{◌≡◌, ◌==◌, Bool, true, false, None, Some, refl, ◌∙◌, if◌then◌else◌}
 use Rattle.std.specs.Prelude.{option_map}
 use Rattle.std.specs.FinSet as set
-use Rattle.histar_label.specs.declared.levels.Level.TheVariants.{Star, L0, L1, L2, L3}
+use Rattle.histar_label.specs.declared.levels.Level.TheVariants.{L0, L1}
 use Rattle.histar_label.specs.Levels.{Levels, constant, with_level}
-use Rattle.histar_object.specs.declared.objects.Kind.TheVariants.{Container, Thread}
+use Rattle.histar_object.specs.declared.objects.Kind.TheVariants.{Container}
 use Rattle.histar_object.specs.declared.objects.Object.{Object}
 use Rattle.histar_object.specs.Objects.{no_objects, linking}
 use Rattle.histar_object.specs.State.{State, with_next, with_object, empty_state, root_object, boot_thread}

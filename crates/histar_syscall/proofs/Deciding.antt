@@ -1,5 +1,5 @@
 -- A decision of a call whose answer becomes a value of the one type of answers.
-use Rattle.std.proofs.Common.{◌≡◌, ℕ, Result, Ok, Err, sym, subst}
+use Rattle.std.proofs.Common.{ℕ, Result, Ok, Err, sym, subst}
 use Rattle.histar_container.specs.ObjectsModel.{ObjectsModel, state_of}
 use Rattle.histar_rules.specs.declared.raw.RawCall.{RawCall}
 use Rattle.histar_rules.specs.declared.raw.Refusal.{Refusal}

@@ -1,5 +1,5 @@
 -- The kernel after a raw call.
-use Rattle.std.proofs.Common.{◌≡◌, ℕ, refl, sym, subst, Result, Ok, Err, List}
+use Rattle.std.proofs.Common.{◌≡◌, ℕ, refl, sym, ap, ◌∙◌, subst, Result, Ok, Err, List}
 use Rattle.std.specs.Result.{IsErrAnd}
 use Rattle.histar_container.specs.ObjectsModel.{ObjectsModel}
 use Rattle.histar_rules.specs.declared.raw.RawCall.{RawCall}
@@ -25,3 +25,23 @@ answered old kept trace t call (Ok answer) P decided entry =
 answered old kept trace t call (Err (refusals.Denied denied)) P decided entry =
     record { outcome = decided.0; state = decided.1; trace = entry; line = refl }
 answered old kept trace t call (Err refusals.OutOfMemory) P decided entry = record { state = decided; trace = entry; line = refl }
+
+-- a call that was stored, decided on the objects and recorded is answered
+pub recorded : {A : Type 0} (old inside : KernelModel) (kept : ObjectsModel) (stored trace : List TraceEntry) (t : ℕ) (call : RawCall)
+    (decided answer : Result A Refusal) (P : KernelModel → A → Type 0) → inside ≡ old → stored ≡ inside.trace
+    → Decides inside.kept kept t call decided (P inside) → answer ≡ decided → trace ≡ logged stored inside.line t call decided
+    → Answered old (record { kept = kept; line = inside.line; trace = trace }) t call answer (P old)
+recorded {A} old inside kept stored trace t call decided answer P same entries is said entry =
+    let after : KernelModel = record { kept = kept; line = inside.line; trace = trace } in
+    subst (λ (k : KernelModel). Answered k after t call answer (P k)) same
+    (subst (λ (r : Result A Refusal). Answered inside after t call r (P inside)) (sym said)
+    (answered inside kept trace t call decided (P inside) is (entry ∙ ap (λ (es : List TraceEntry). logged es inside.line t call decided) entries)))
+
+-- a call that found no memory to be stored has changed nothing
+pub unstored : {A : Type 0} (old inside : KernelModel) (trace : List TraceEntry) (t : ℕ) (call : RawCall) (r : Result A Refusal) (P : A → Type 0)
+    → inside ≡ old → trace ≡ inside.trace → IsErrAnd r (λ e. e ≡ refusals.OutOfMemory)
+    → Answered old (record { kept = inside.kept; line = inside.line; trace = trace }) t call r P
+unstored old inside trace t call r P same entries h =
+    subst (λ (k : KernelModel). Answered k (record { kept = inside.kept; line = inside.line; trace = trace }) t call r P) same
+    (exits inside (record { kept = inside.kept; line = inside.line; trace = trace }) t call r P h
+    (record { state = refl; trace = entries; line = refl }))

@@ -8,7 +8,7 @@ use histar_base::Bytes;
 use histar_gate::make_gate;
 use histar_label::LabelStore;
 use histar_object::{Entry, ObjId};
-use histar_rules::{HandedLabel, LabelledObjects, Refusal};
+use histar_rules::{HandedLabel, LabelledObjects, Maker, Refusal};
 use histar_thread::make_thread;
 use std::alloc::Global;
 
@@ -16,62 +16,61 @@ use std::alloc::Global;
 pub(crate) fn copied_segment<S: LabelStore + Drop>(
     objects: &mut LabelledObjects<S>,
     alloc: Global,
-    thread: ObjId,
-    container: ObjId,
+    maker: &Maker,
     label: &HandedLabel,
     bytes: &Bytes,
 ) -> Result<ObjId, Refusal>
-    ensures { Decides objects.old objects.new thread
-        (calls.MakeSegment container label.now bytes.now) result (IsNextNumber objects.old) }
+    ensures { Decides objects.old objects.new maker.now.thread
+        (calls.MakeSegment maker.now.container label.now bytes.now) result
+        (IsNextNumber objects.old) }
 {
     let label = label.label().copy()?;
-    make_segment(objects, alloc, thread, container, label, bytes)
+    make_segment(objects, alloc, maker, label, bytes)
 }
 
 /// Makes a container with a copy of the label, and returns its number.
 pub(crate) fn copied_container<S: LabelStore + Drop>(
     objects: &mut LabelledObjects<S>,
     alloc: Global,
-    thread: ObjId,
-    container: ObjId,
+    maker: &Maker,
     label: &HandedLabel,
 ) -> Result<ObjId, Refusal>
-    ensures { Decides objects.old objects.new thread (calls.MakeContainer container label.now)
-        result (IsNextNumber objects.old) }
+    ensures { Decides objects.old objects.new maker.now.thread
+        (calls.MakeContainer maker.now.container label.now) result (IsNextNumber objects.old) }
 {
     let label = label.label().copy()?;
-    make_container(objects, alloc, thread, container, label)
+    make_container(objects, alloc, maker, label)
 }
 
 /// Makes a thread with copies of the label and the clearance, and returns its number.
 pub(crate) fn copied_thread<S: LabelStore + Drop>(
     objects: &mut LabelledObjects<S>,
-    thread: ObjId,
-    container: ObjId,
+    maker: &Maker,
     label: &HandedLabel,
     clearance: &HandedLabel,
 ) -> Result<ObjId, Refusal>
-    ensures { Decides objects.old objects.new thread
-        (calls.MakeThread container label.now clearance.now) result (IsNextNumber objects.old) }
+    ensures { Decides objects.old objects.new maker.now.thread
+        (calls.MakeThread maker.now.container label.now clearance.now) result
+        (IsNextNumber objects.old) }
 {
     let label = label.label().copy()?;
     let clearance = clearance.label().copy()?;
-    make_thread(objects, thread, container, label, clearance)
+    make_thread(objects, maker, label, clearance)
 }
 
 /// Makes a gate with copies of the label and the clearance, and returns its number.
 pub(crate) fn copied_gate<S: LabelStore + Drop>(
     objects: &mut LabelledObjects<S>,
-    thread: ObjId,
-    container: ObjId,
+    maker: &Maker,
     label: &HandedLabel,
     clearance: &HandedLabel,
     entry: Entry,
 ) -> Result<ObjId, Refusal>
-    ensures { Decides objects.old objects.new thread
-        (calls.MakeGate container label.now clearance.now entry) result (IsNextNumber objects.old) }
+    ensures { Decides objects.old objects.new maker.now.thread
+        (calls.MakeGate maker.now.container label.now clearance.now entry) result
+        (IsNextNumber objects.old) }
 {
     let label = label.label().copy()?;
     let clearance = clearance.label().copy()?;
-    make_gate(objects, thread, container, label, clearance, entry)
+    make_gate(objects, maker, label, clearance, entry)
 }

@@ -7,14 +7,14 @@ ghost use Rattle.histar_syscall.specs.Answers.{IsAnswerValue, IsValueOf};
 ghost use Rattle.histar_syscall.specs.declared.answers.Answer.TheVariants as answers;
 
 use crate::answers::Answer;
-use crate::containers::{label_of, unlink};
+use crate::containers::unlink;
 use crate::copied::{copied_container, copied_gate, copied_segment, copied_thread};
 use crate::segments::{read, write};
 use histar_base::Bytes;
 use histar_gate::enter;
 use histar_label::{Category, Label, LabelStore};
 use histar_object::{Entry, ObjId};
-use histar_rules::{HandedLabels, LabelledObjects, RawCall, Refusal};
+use histar_rules::{Access, HandedLabels, LabelledObjects, Maker, RawCall, Refusal};
 use histar_thread::{make_category, own_label, set_clearance, set_label};
 use std::alloc::Global;
 
@@ -37,36 +37,45 @@ pub(crate) fn decide<S: LabelStore + Drop>(
             done(set_clearance(objects, thread, clearance.label()))
         }
         RawCall::MakeSegment(container, label, bytes) => {
-            made(copied_segment(objects, alloc, thread, *container, label, bytes))
+            let maker = Maker::new(thread, *container);
+            made(copied_segment(objects, alloc, &maker, label, bytes))
         }
         RawCall::MakeContainer(container, label) => {
-            made(copied_container(objects, alloc, thread, *container, label))
+            let maker = Maker::new(thread, *container);
+            made(copied_container(objects, alloc, &maker, label))
         }
         RawCall::MakeThread(container, label, clearance) => {
-            made(copied_thread(objects, thread, *container, label, clearance))
+            let maker = Maker::new(thread, *container);
+            made(copied_thread(objects, &maker, label, clearance))
         }
         RawCall::MakeGate(container, label, clearance, entry) => {
-            made(copied_gate(objects, thread, *container, label, clearance, *entry))
+            let maker = Maker::new(thread, *container);
+            made(copied_gate(objects, &maker, label, clearance, *entry))
         }
         RawCall::Enter(container, gate, wanted, clearance, verify) => {
+            let access = Access::new(thread, *container, *gate);
             let labels = HandedLabels {
                 wanted: wanted.label(),
                 clearance: clearance.label(),
                 verify: verify.label(),
             };
-            entry(enter(objects, thread, *container, *gate, labels))
+            entry(enter(objects, &access, labels))
         }
         RawCall::Read(container, segment) => {
-            bytes(read(objects, alloc, thread, *container, *segment))
+            let access = Access::new(thread, *container, *segment);
+            bytes(read(objects, alloc, &access))
         }
         RawCall::Write(container, segment, keep, bytes) => {
-            done(write(objects, alloc, thread, *container, *segment, *keep, bytes))
+            let access = Access::new(thread, *container, *segment);
+            done(write(objects, alloc, &access, *keep, bytes))
         }
         RawCall::Unlink(container, object) => {
-            done(unlink(objects, alloc, thread, *container, *object))
+            let access = Access::new(thread, *container, *object);
+            done(unlink(objects, alloc, &access))
         }
         RawCall::LabelOf(container, object) => {
-            label(label_of(objects, thread, *container, *object))
+            let access = Access::new(thread, *container, *object);
+            label(objects.label_of(&access))
         }
     }
 }

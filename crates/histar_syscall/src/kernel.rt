@@ -11,7 +11,7 @@ ghost use Rattle.histar_syscall.specs.Answers.{IsAnswerValue};
 ghost use Rattle.histar_syscall.specs.KernelModel.{Answered, ReadsLent, EndsAs, state};
 
 use crate::answers::Answer;
-use crate::containers::{label_of, make_container, unlink};
+use crate::containers::{make_container, unlink};
 use crate::decide::decide;
 use crate::empty_objects::empty_objects;
 use crate::segments::{check_read, make_segment, read, write};
@@ -19,7 +19,7 @@ use histar_base::Bytes;
 use histar_gate::{enter, make_gate};
 use histar_label::{Category, Label, LabelStore, OutOfMemory};
 use histar_object::{Entry, ObjId};
-use histar_rules::{HandedLabels, LabelledObjects, ObjectKind, RawCall, Refusal};
+use histar_rules::{Access, HandedLabels, LabelledObjects, Maker, ObjectKind, RawCall, Refusal};
 use histar_thread::{make_category, make_thread, own_label, set_clearance, set_label};
 use histar_trace::{StoredCall, Trace};
 use std::alloc::Global;
@@ -104,8 +104,24 @@ impl<S: LabelStore + Drop> Kernel<S> {
         // The objects of every kernel are sound.
         ensures sound { IsSound (state self.old) × IsSound (state self.new) }
     {
-        let stored = self.trace.store(alloc, &call)?;
-        let answer = decide(&mut self.objects, alloc, thread, &call);
+        let answer = self.make_call(alloc, thread, &call);
+        drop(call);
+        answer
+    }
+
+    /// Makes one raw call of any kind, which stays the caller's.
+    pub fn make_call(
+        &mut self,
+        alloc: Global,
+        thread: ObjId,
+        call: &RawCall,
+    ) -> Result<Answer, Refusal>
+        ensures answered { Answered self.old self.new thread call.now result
+            (λ a. IsAnswerValue (state self.old) thread call.now a) }
+        ensures sound { IsSound (state self.old) × IsSound (state self.new) }
+    {
+        let stored = self.trace.store(alloc, call)?;
+        let answer = decide(&mut self.objects, alloc, thread, call);
         self.trace.record(self.line, thread, stored, answer)
     }
 
@@ -163,7 +179,8 @@ impl<S: LabelStore + Drop> Kernel<S> {
     {
         let (call, bytes) = self.trace.store_make_segment(container, &label, bytes)?;
         let bytes = self.trace.bytes(bytes);
-        let answer = make_segment(&mut self.objects, alloc, thread, container, label, bytes);
+        let maker = Maker::new(thread, container);
+        let answer = make_segment(&mut self.objects, alloc, &maker, label, bytes);
         self.trace.record(self.line, thread, call, answer)
     }
 
@@ -179,7 +196,8 @@ impl<S: LabelStore + Drop> Kernel<S> {
             (IsNextNumber self.old.kept) }
     {
         let call = self.trace.store_make_container(container, &label)?;
-        let answer = make_container(&mut self.objects, alloc, thread, container, label);
+        let maker = Maker::new(thread, container);
+        let answer = make_container(&mut self.objects, alloc, &maker, label);
         self.trace.record(self.line, thread, call, answer)
     }
 
@@ -196,7 +214,8 @@ impl<S: LabelStore + Drop> Kernel<S> {
             result (IsNextNumber self.old.kept) }
     {
         let call = self.trace.store_make_thread(container, &label, &clearance)?;
-        let answer = make_thread(&mut self.objects, thread, container, label, clearance);
+        let maker = Maker::new(thread, container);
+        let answer = make_thread(&mut self.objects, &maker, label, clearance);
         self.trace.record(self.line, thread, call, answer)
     }
 
@@ -216,14 +235,8 @@ impl<S: LabelStore + Drop> Kernel<S> {
         let call = self
             .trace
             .store_make_gate(container, &label, &clearance, entry)?;
-        let answer = make_gate(
-            &mut self.objects,
-            thread,
-            container,
-            label,
-            clearance,
-            entry,
-        );
+        let maker = Maker::new(thread, container);
+        let answer = make_gate(&mut self.objects, &maker, label, clearance, entry);
         self.trace.record(self.line, thread, call, answer)
     }
 
@@ -240,7 +253,8 @@ impl<S: LabelStore + Drop> Kernel<S> {
             labels.entry.clearance.now labels.entry.verify.now) result (IsEntryOf self.old.kept gate) }
     {
         let call = self.trace.store_enter(container, gate, labels)?;
-        let answer = enter(&mut self.objects, thread, container, gate, labels);
+        let access = Access::new(thread, container, gate);
+        let answer = enter(&mut self.objects, &access, labels);
         self.trace.record(self.line, thread, call, answer)
     }
 
@@ -264,7 +278,8 @@ impl<S: LabelStore + Drop> Kernel<S> {
         ensures { Answered self.old self.new thread (calls.Read container segment) result (λ _. Unit {0}) }
     {
         self.trace.make_room()?;
-        let answer = check_read(&mut self.objects, thread, container, segment);
+        let access = Access::new(thread, container, segment);
+        let answer = check_read(&mut self.objects, &access);
         let call = StoredCall::Read(container, segment);
         self.trace.record(self.line, thread, call, answer)
     }
@@ -335,7 +350,8 @@ impl<S: LabelStore + Drop> Kernel<S> {
             (AreBytesOf self.old.kept segment) }
     {
         self.trace.make_room()?;
-        let answer = read(&mut self.objects, alloc, thread, container, segment);
+        let access = Access::new(thread, container, segment);
+        let answer = read(&mut self.objects, alloc, &access);
         let call = StoredCall::Read(container, segment);
         self.trace.record(self.line, thread, call, answer)
     }
@@ -353,15 +369,9 @@ impl<S: LabelStore + Drop> Kernel<S> {
         ensures { Answered self.old self.new thread (calls.Write container segment keep bytes) result (λ _. Unit {0}) }
     {
         let (call, bytes) = self.trace.store_write(container, segment, keep, bytes)?;
-        let answer = write(
-            &mut self.objects,
-            alloc,
-            thread,
-            container,
-            segment,
-            keep,
-            self.trace.bytes(bytes),
-        );
+        let bytes = self.trace.bytes(bytes);
+        let access = Access::new(thread, container, segment);
+        let answer = write(&mut self.objects, alloc, &access, keep, bytes);
         self.trace.record(self.line, thread, call, answer)
     }
 
@@ -376,7 +386,8 @@ impl<S: LabelStore + Drop> Kernel<S> {
         ensures { Answered self.old self.new thread (calls.Unlink container object) result (λ _. Unit {0}) }
     {
         self.trace.make_room()?;
-        let answer = unlink(&mut self.objects, alloc, thread, container, object);
+        let access = Access::new(thread, container, object);
+        let answer = unlink(&mut self.objects, alloc, &access);
         let call = StoredCall::Unlink(container, object);
         self.trace.record(self.line, thread, call, answer)
     }
@@ -392,7 +403,8 @@ impl<S: LabelStore + Drop> Kernel<S> {
             (IsLabelOf self.old.kept object) }
     {
         self.trace.make_room()?;
-        let answer = label_of(&mut self.objects, thread, container, object);
+        let access = Access::new(thread, container, object);
+        let answer = self.objects.label_of(&access);
         let call = StoredCall::LabelOf(container, object);
         self.trace.record(self.line, thread, call, answer)
     }

@@ -42,8 +42,7 @@ fn make<S: LabelStore + Drop>(
     ensures unchanged { OnErr result (IsUnchanged kernel.old kernel.new) }
     ensures sound { OnOk result (IsSound (state kernel.old)) }
 {
-    let call = call.copy(alloc)?;
-    match kernel.call(alloc, thread, call) {
+    match kernel.make_call(alloc, thread, call) {
         Ok(_) => Ok(()),
         Err(refusal) => match refusal {
             Refusal::Denied(_) => Ok(()),

@@ -5,68 +5,63 @@ ghost use Rattle.histar_rules.specs.declared.raw.RawCall.TheVariants as calls;
 use histar_base::Bytes;
 use histar_label::{Label, LabelStore};
 use histar_object::{Kind, ObjId};
-use histar_rules::{LabelledObjects, Refusal};
+use histar_rules::{Access, LabelledObjects, Maker, Refusal};
 use std::alloc::Global;
 
 /// Makes a segment in a container, and returns its number.
 pub fn make_segment<S: LabelStore + Drop>(
     objects: &mut LabelledObjects<S>,
     alloc: Global,
-    thread: ObjId,
-    container: ObjId,
+    maker: &Maker,
     label: Label,
     bytes: &Bytes,
 ) -> Result<ObjId, Refusal>
-    ensures { Decides objects.old objects.new thread
-        (calls.MakeSegment container label bytes.now) result (IsNextNumber objects.old) }
+    ensures { Decides objects.old objects.new maker.now.thread
+        (calls.MakeSegment maker.now.container label bytes.now) result (IsNextNumber objects.old) }
 {
-    objects.check_new(thread, container, &label, bytes.len())?;
+    objects.check_new(maker, &label, bytes.len())?;
     let number = objects.next_object();
     let content = bytes.copy(alloc)?;
-    objects.add(container, label, Kind::Segment(content))?;
+    objects.add(maker.container, label, Kind::Segment(content))?;
     Ok(number)
 }
 
 /// Checks that a segment that the container links may be read. Its bytes are lent afterwards.
 pub fn check_read<S: LabelStore + Drop>(
     objects: &mut LabelledObjects<S>,
-    thread: ObjId,
-    container: ObjId,
-    segment: ObjId,
+    access: &Access,
 ) -> Result<(), Refusal>
-    ensures { Decides objects.old objects.new thread (calls.Read container segment) result (λ _. Unit {0}) }
+    ensures { Decides objects.old objects.new access.now.thread
+        (calls.Read access.now.container access.now.object) result (λ _. Unit {0}) }
 {
-    Ok(objects.check_read(thread, container, segment)?)
+    Ok(objects.check_read(access)?)
 }
 
 /// Reads a segment that the container links, and returns a copy of its bytes.
 pub fn read<S: LabelStore + Drop>(
     objects: &mut LabelledObjects<S>,
     alloc: Global,
-    thread: ObjId,
-    container: ObjId,
-    segment: ObjId,
+    access: &Access,
 ) -> Result<Bytes, Refusal>
-    ensures { Decides objects.old objects.new thread (calls.Read container segment) result
-        (AreBytesOf objects.old segment) }
+    ensures { Decides objects.old objects.new access.now.thread
+        (calls.Read access.now.container access.now.object) result
+        (AreBytesOf objects.old access.now.object) }
 {
-    objects.read(alloc, thread, container, segment)
+    objects.read(alloc, access)
 }
 
 /// Keeps the first bytes of a segment that the container links, at most `keep`, and appends new ones.
 pub fn write<S: LabelStore + Drop>(
     objects: &mut LabelledObjects<S>,
     alloc: Global,
-    thread: ObjId,
-    container: ObjId,
-    segment: ObjId,
+    access: &Access,
     keep: u32,
     bytes: &Bytes,
 ) -> Result<(), Refusal>
-    ensures { Decides objects.old objects.new thread (calls.Write container segment keep bytes.now)
-        result (λ _. Unit {0}) }
+    ensures { Decides objects.old objects.new access.now.thread
+        (calls.Write access.now.container access.now.object keep bytes.now) result (λ _. Unit {0}) }
 {
-    objects.check_write(thread, container, segment, keep, bytes)?;
-    objects.splice(alloc, segment, keep, bytes)?;
+    objects.check_write(access, keep, bytes)?;
+    objects.splice(alloc, access.object, keep, bytes)?;
     Ok(())
 }

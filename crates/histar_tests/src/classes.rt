@@ -11,14 +11,20 @@ const READ: u64 = 4;
 
 const WRITE: u64 = 5;
 
-/// Returns the mode of what has a label with these levels and else 1, and the number of its jobs.
-fn class_at(alloc: Global, levels: &[(u64, Level)]) -> Result<Option<(FileMode, usize)>, Fail> {
-    let accounts = accounts(alloc)?;
-    let users = UserTable::of(alloc, &accounts)?;
+/// Returns the label with these levels and else 1.
+fn label_with(alloc: Global, levels: &[(u64, Level)]) -> Result<Label, Fail> {
     let mut label = Label::new(alloc, Level::L1);
     for &(category, level) in levels {
         label.set(Category::new(category), level)?;
     }
+    Ok(label)
+}
+
+/// Returns the mode of what has a label with these levels and else 1, and the number of its jobs.
+fn class_at(alloc: Global, levels: &[(u64, Level)]) -> Result<Option<(FileMode, usize)>, Fail> {
+    let accounts = accounts(alloc)?;
+    let users = UserTable::of(alloc, &accounts)?;
+    let label = label_with(alloc, levels)?;
     let Some(class) = class_of(alloc, &label, &users)? else {
         return Ok(None);
     };

@@ -106,11 +106,16 @@ fn listed(
 fn check_processes(rt: &impl Abort, processes: &[ProcessNode], rows: &[Row]) {
     assert_eq!(rt; processes.len(), rows.len());
     for (node, row) in processes.iter().zip(rows.iter()) {
-        assert_eq!(rt; node.name.numbers(), row.numbers);
-        assert!(rt; are_jobs(&node.chain, row.chain));
-        assert!(rt; is_life(&node.life, &row.life));
-        assert_eq!(rt; node.born, row.born);
+        check_process(rt, node, row);
     }
+}
+
+/// Checks that this is the expected process.
+fn check_process(rt: &impl Abort, node: &ProcessNode, row: &Row) {
+    assert_eq!(rt; node.name.numbers(), row.numbers);
+    assert!(rt; are_jobs(&node.chain, row.chain));
+    assert!(rt; is_life(&node.life, &row.life));
+    assert_eq!(rt; node.born, row.born);
 }
 
 /// Checks whether the jobs have these categories.
@@ -131,6 +136,21 @@ fn is_life(life: &Life, expected: &Expected) -> bool {
     }
 }
 
+/// Makes a child of process 0 be born and exit.
+fn bear_child(alloc: Global, kernel: &mut Kernel<PlainStore>, unix: &Unix) -> Result<(), Fail> {
+    spawn::spawn(alloc, kernel, unix)?;
+    let one = ProcName::zero().child(1);
+    let child = find_caller(kernel, unix.roots.home, &one).ok_or("child 1")?;
+    let childs = Unix {
+        roots: unix.roots,
+        users: unix.users,
+        process: &one,
+        caller: &child,
+    };
+    exit::exit(alloc, kernel, &childs, 5)?;
+    Ok(())
+}
+
 /// Makes a child be born and exit, then makes process 0 log in and begin a job.
 fn make_calls(
     alloc: Global,
@@ -146,16 +166,7 @@ fn make_calls(
         process: &zero,
         caller: &caller,
     };
-    spawn::spawn(alloc, kernel, &unix)?;
-    let one = zero.child(1);
-    let child = find_caller(kernel, roots.home, &one).ok_or("child 1")?;
-    let childs = Unix {
-        roots,
-        users,
-        process: &one,
-        caller: &child,
-    };
-    exit::exit(alloc, kernel, &childs, 5)?;
+    bear_child(alloc, kernel, &unix)?;
     let (name, password) = root()?;
     login::login(alloc, kernel, users, &caller, name, password)?;
     let scratch = [read_name(b"scratch").ok_or("a name")?];
@@ -170,7 +181,9 @@ fn slash_and_the_processes_are_found(rt: HostRuntime) -> Result<(), Fail> {
     assert!(rt; !accounts.users().is_empty());
     let users = UserTable::of(alloc, &accounts)?;
     let (mut kernel, roots) = boot(alloc, PlainStore::new(alloc), &accounts)?;
-    check_session(&rt, alloc, &mut kernel, &roots, &users)
+    let checked = check_session(&rt, alloc, &mut kernel, &roots, &users);
+    drop(kernel);
+    checked
 }
 
 /// Checks what is found after boot, and after the calls.

@@ -4,7 +4,9 @@
 use histar_base::Bytes;
 use histar_label::{Category, Label, LabelStore, Level, OutOfMemory};
 use histar_object::{Entry, ObjId};
-use histar_syscall::{Answer, Denied, HandedLabel, Kernel, RawCall, Refusal, Trace, run_raw};
+use histar_syscall::{
+    Answer, Denied, HandedLabel, Kernel, RawCall, Refusal, Trace, TraceEntry, run_raw,
+};
 use std::alloc::Global;
 use std::process::Abort;
 
@@ -230,12 +232,27 @@ fn is_traced(
     assert_eq!(rt; trace.len(), rows.len());
     for (at, row) in rows.iter().enumerate() {
         let entry = trace.entry(alloc, at)?;
-        let (line, thread, _, expected) = *row;
-        assert_eq!(rt; entry.thread.number(), thread, "on line {line}");
-        assert_eq!(rt; entry.denied, denial(expected), "on line {line}");
-        assert_eq!(rt; entry.line, if is_begun { line } else { 0 });
+        check_entry(rt, &entry, *row, is_begun);
+        drop(entry);
     }
     Ok(())
+}
+
+/// Checks that an entry of the trace has a row, on its line if that was begun.
+fn check_entry(rt: &impl Abort, entry: &TraceEntry, row: Row, is_begun: bool) {
+    let (line, thread, _, expected) = row;
+    assert_eq!(rt; entry.thread.number(), thread, "on line {line}");
+    assert_eq!(rt; entry.denied, denial(expected), "on line {line}");
+    assert_eq!(rt; entry.line, if is_begun { line } else { 0 });
+}
+
+/// Returns the raw calls of rows in the form in which the kernel takes a list of them.
+fn raw_calls(alloc: Global, rows: &[Row]) -> Result<Vec<(ObjId, RawCall)>, OutOfMemory> {
+    let mut calls = Vec::new(alloc);
+    for &(_, thread, asked, _) in rows {
+        calls.push((ObjId::new(thread), raw_call(alloc, asked)?))?;
+    }
+    Ok(calls)
 }
 
 /// Makes all calls at once, whatever each of them answers.
@@ -245,12 +262,21 @@ fn run_at_once<S: LabelStore + Drop>(
     store: S,
     rows: &[Row],
 ) -> Result<(), OutOfMemory> {
-    let mut calls = Vec::new(alloc);
-    for &(_, thread, asked, _) in rows {
-        calls.push((ObjId::new(thread), raw_call(alloc, asked)?))?;
-    }
     let mut kernel = Kernel::new(alloc, store)?;
-    run_raw(alloc, &mut kernel, calls.as_slice())?;
+    let made = make_at_once(rt, alloc, &mut kernel, rows);
+    drop(kernel);
+    made
+}
+
+/// Makes all calls at once on a new kernel.
+fn make_at_once<S: LabelStore + Drop>(
+    rt: &impl Abort,
+    alloc: Global,
+    kernel: &mut Kernel<S>,
+    rows: &[Row],
+) -> Result<(), OutOfMemory> {
+    let calls = raw_calls(alloc, rows)?;
+    run_raw(alloc, kernel, calls.as_slice())?;
     is_traced(rt, alloc, kernel.trace(), rows, false)
 }
 
@@ -262,8 +288,20 @@ fn run_by_call<S: LabelStore + Drop>(
     rows: &[Row],
 ) -> Result<(), Refusal> {
     let mut kernel = Kernel::new(alloc, store)?;
+    let made = make_by_call(rt, alloc, &mut kernel, rows);
+    drop(kernel);
+    made
+}
+
+/// Makes one call after another on a new kernel, and checks each answer against the table.
+fn make_by_call<S: LabelStore + Drop>(
+    rt: &impl Abort,
+    alloc: Global,
+    kernel: &mut Kernel<S>,
+    rows: &[Row],
+) -> Result<(), Refusal> {
     for &row in rows {
-        check_call(rt, alloc, &mut kernel, row)?;
+        check_call(rt, alloc, kernel, row)?;
     }
     is_traced(rt, alloc, kernel.trace(), rows, true)?;
     Ok(())
@@ -293,8 +331,9 @@ fn check_outcome(
     let (line, thread, _, expected) = row;
     match outcome {
         Ok(answer) => {
-            let is_expected = is_answer(alloc, &answer, expected)?;
-            assert!(rt; is_expected, "thread {thread} on line {line}");
+            let is_expected = is_answer(alloc, &answer, expected);
+            drop(answer);
+            assert!(rt; is_expected?, "thread {thread} on line {line}");
         }
         Err(Refusal::Denied(denied)) => {
             assert_eq!(rt;

@@ -1,5 +1,7 @@
 //! Machines that stop where memory runs out, and what they have done by then. With ample memory none stops:
 //! `.ci/failing-calls` has each allocation of these tests fail in turn.
+ghost use Rattle.std.specs.Prelude.{◌<◌, length};
+
 use histar_flat::CallLine;
 use histar_label::PlainStore;
 use histar_rawtext::trace_line;
@@ -68,6 +70,16 @@ fn machine_after(
     Ok((machine, is_stopped))
 }
 
+/// Returns the line of the entry at a place of a trace.
+fn line_at(alloc: Global, trace: &Trace, at: usize) -> Result<Vec<u8>, AllocError>
+    requires { at < length trace.now.entries }
+{
+    let entry = trace.entry(alloc, at)?;
+    let line = trace_line(alloc, &entry);
+    drop(entry);
+    line
+}
+
 /// Compares each entry of a trace with the one at its place in another, which has at least as many.
 fn check_beginning(
     rt: &impl Abort,
@@ -77,8 +89,8 @@ fn check_beginning(
 ) -> Result<(), Fail> {
     assert!(rt; trace.len() <= ample.len());
     for at in 0..trace.len() {
-        let line = trace_line(alloc, &trace.entry(alloc, at)?)?;
-        let other = trace_line(alloc, &ample.entry(alloc, at)?)?;
+        let line = line_at(alloc, trace, at)?;
+        let other = line_at(alloc, ample, at)?;
         assert_eq!(rt; line.as_slice(), other.as_slice());
     }
     Ok(())
@@ -103,11 +115,25 @@ fn compare(
     check_beginning(rt, alloc, trace, other)
 }
 
+/// Compares the trace of a machine, which stopped or didn't, with that of another one after the same script.
+fn compare_with_another(
+    rt: &impl Abort,
+    alloc: Global,
+    is_stopped: bool,
+    trace: &Trace,
+) -> Result<(), Fail> {
+    let (other, is_other_stopped) = machine_after(rt, alloc, SCRIPT)?;
+    let stopped = (is_stopped, is_other_stopped);
+    let compared = compare(rt, alloc, stopped, trace, other.trace());
+    drop(other);
+    compared
+}
+
 #[test]
 fn a_stopped_machine_has_a_beginning_of_the_ample_trace(rt: HostRuntime) -> Result<(), Fail> {
     let alloc = rt.alloc();
     let (machine, is_stopped) = machine_after(&rt, alloc, SCRIPT)?;
-    let (other, is_other_stopped) = machine_after(&rt, alloc, SCRIPT)?;
-    let stopped = (is_stopped, is_other_stopped);
-    compare(&rt, alloc, stopped, machine.trace(), other.trace())
+    let compared = compare_with_another(&rt, alloc, is_stopped, machine.trace());
+    drop(machine);
+    compared
 }

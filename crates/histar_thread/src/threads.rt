@@ -7,7 +7,7 @@ ghost use Rattle.histar_rules.specs.declared.raw.RawCall.TheVariants as calls;
 
 use histar_label::{Category, Label, LabelStore, Level};
 use histar_object::{Kind, ObjId};
-use histar_rules::{Denied, LabelledObjects, Refusal, require};
+use histar_rules::{Denied, LabelledObjects, Maker, Refusal, require};
 
 /// Returns the thread's own label and clearance.
 pub fn own_label<S: LabelStore + Drop>(
@@ -84,16 +84,15 @@ pub fn set_clearance<S: LabelStore + Drop>(
 /// clearance is at most the maker's.
 pub fn make_thread<S: LabelStore + Drop>(
     objects: &mut LabelledObjects<S>,
-    thread: ObjId,
-    container: ObjId,
+    maker: &Maker,
     label: Label,
     clearance: Label,
 ) -> Result<ObjId, Refusal>
-    ensures { Decides objects.old objects.new thread
-        (calls.MakeThread container label clearance) result (IsNextNumber objects.old) }
+    ensures { Decides objects.old objects.new maker.now.thread
+        (calls.MakeThread maker.now.container label clearance) result (IsNextNumber objects.old) }
 {
-    objects.check_new_owner(thread, container, &label, &clearance)?;
+    objects.check_new_owner(maker, &label, &clearance)?;
     let number = objects.next_object();
-    objects.add(container, label, Kind::Thread(clearance))?;
+    objects.add(maker.container, label, Kind::Thread(clearance))?;
     Ok(number)
 }

@@ -9,7 +9,6 @@ use Rattle.histar_label.specs.Store.{Keeps}
 use Rattle.histar_label.proofs.Stands.{label_at-Keeps}
 use Rattle.histar_rules.specs.declared.raw.RawCall.{RawCall}
 use Rattle.histar_rules.specs.declared.raw.RawCall.TheVariants as calls
-use Rattle.histar_trace.specs.declared.entries.TraceEntry.{TraceEntry}
 use Rattle.histar_trace.specs.declared.stored.StoredCall.{StoredCall}
 use Rattle.histar_trace.specs.declared.stored.StoredCall.TheVariants.{MakeCategory, OwnLabel, SetLabel, SetClearance, MakeSegment}
 use Rattle.histar_trace.specs.declared.stored.StoredCall.TheVariants.{MakeContainer, MakeThread, MakeGate, Enter, Read, Write, Unlink, LabelOf}

@@ -1,14 +1,16 @@
 //! The labels of a trace.
 ghost use Rattle.std.specs.Prelude.{◌≡◌, IfOk, IfSome, IsSome, OnErr, Some, [], slice_get};
-ghost use Rattle.std.specs.Option.{option_copied};
 ghost use Rattle.histar_label.specs.Store.{Keeps};
 
-use histar_label::{Label, OutOfMemory};
+use histar_label::{Category, Label, Level, OutOfMemory};
 use std::alloc::Global;
 use std::marker::Model;
 
 /// How many places at hand there are for labels.
 const AT_HAND: usize = 1_024;
+
+/// The number of exceptions for which a trace has room from the start. Memory that holds none yet isn't touched.
+const FIRST_EXCEPTIONS: usize = 131_072;
 
 /// The Id of a label in a trace: its place in the list of labels.
 #[derive(Clone, Copy)]
@@ -24,25 +26,38 @@ impl Model for LabelId {
     ghost inverse = { λ n. record { 0 = n } };
 }
 
+/// A label as a trace keeps it: its default, and where its exceptions lie in the list of those of all labels.
+#[derive(Clone, Copy)]
+pub(crate) struct KeptLabel {
+    default: Level,
+    first: usize,
+    end: usize,
+}
+
 /// The labels that the calls of a trace were given. Of equal labels one is kept, as long as no other label
-/// took its place at hand in between.
+/// took its place at hand in between. The exceptions of all labels are in one list, so that most labels need
+/// no allocation of their own.
 #[derive(Drop)]
 pub(crate) struct TraceLabels {
-    labels: Vec<Label>,
+    labels: Vec<KeptLabel>,
+    exceptions: Vec<(Category, Level)>,
     // The places of labels in the list. Which place at hand a label has is computed from its exceptions.
     at_hand: Vec<u32>,
 }
 
 impl Model for TraceLabels {
-    ghost use Rattle.std.specs.Prelude.{List};
+    ghost use Rattle.std.specs.Prelude.{List, All, map};
     ghost use Rattle.std.specs.Coded.{coded_list};
     ghost use Rattle.histar_label.specs.Levels.{Levels, coded_levels};
+    ghost use Rattle.histar_trace.specs.Labels.{HasExceptions, label_kept};
 
     ghost Value = { List Levels };
 
     ghost coded = { coded_list coded_levels };
 
-    ghost view = { λ t. t.labels.items };
+    ghost view = { λ t. map (label_kept t.exceptions.items) t.labels.items };
+
+    ghost invariant = { λ t. All (HasExceptions t.exceptions.items) t.labels.items };
 }
 
 impl TraceLabels {
@@ -56,15 +71,19 @@ impl TraceLabels {
         }
         Ok(TraceLabels {
             labels: Vec::new(alloc),
+            exceptions: Vec::with_capacity(alloc, FIRST_EXCEPTIONS)?,
             at_hand,
         })
     }
 
-    /// Returns the label of an Id.
-    pub(crate) fn get(&self, id: LabelId) -> Option<&Label>
-        ensures { option_copied result ≡ slice_get self.now id }
+    /// Copies the label of an Id.
+    pub(crate) fn copy(&self, alloc: Global, id: LabelId) -> Result<Label, OutOfMemory>
+        requires { IsSome (slice_get self.now id) }
+        ensures { IfOk result (λ label. slice_get self.now id ≡ Some label) }
     {
-        self.labels.get(id.0 as usize)
+        let kept = &self.labels[id.0 as usize];
+        let exceptions = &self.exceptions[kept.first..kept.end];
+        Label::from_exceptions(alloc, kept.default, exceptions)
     }
 
     /// Keeps a label, and returns its Id. A label that is found at hand is not copied.
@@ -76,7 +95,7 @@ impl TraceLabels {
         let place = label.place_among(AT_HAND);
         match self.found(place, label) {
             Some(id) => Ok(id),
-            None => self.push(place, label.copy()?),
+            None => self.add(place, label),
         }
     }
 
@@ -84,24 +103,43 @@ impl TraceLabels {
     fn found(&self, place: usize, label: &Label) -> Option<LabelId>
         ensures { IfSome result (λ id. slice_get self.now id ≡ Some label.now) }
     {
-        let id = LabelId(*self.at_hand.get(place)?);
-        let kept = self.get(id)?;
-        if kept == label { Some(id) } else { None }
+        let id = *self.at_hand.get(place)?;
+        let kept = self.labels.get(id as usize)?;
+        let exceptions = &self.exceptions[kept.first..kept.end];
+        if kept.default == label.default_level() && exceptions == label.exceptions() {
+            Some(LabelId(id))
+        } else {
+            None
+        }
     }
 
-    // Adds a label to the list, and keeps it at hand.
-    fn push(&mut self, place: usize, label: Label) -> Result<LabelId, OutOfMemory>
-        ensures kept { IfOk result (λ id. slice_get self.new id ≡ Some label) }
+    // Adds a copy of a label to the list, and keeps it at hand.
+    // Not inlined, so that a label at hand is found in few steps.
+    #[inline(never)]
+    fn add(&mut self, place: usize, label: &Label) -> Result<LabelId, OutOfMemory>
+        ensures kept { IfOk result (λ id. slice_get self.new id ≡ Some label.now) }
         ensures keeps { Keeps (slice_get self.old) (slice_get self.new) }
         ensures unchanged { OnErr result (self.new ≡ self.old) }
     {
         let Ok(id) = u32::try_from(self.labels.len()) else {
             return Err(OutOfMemory);
         };
-        self.labels.push(label)?;
-        if let Some(latest) = self.at_hand.get_mut(place) {
-            *latest = id;
-        }
+        self.labels.reserve(1)?;
+        let first = self.exceptions.len();
+        self.exceptions.extend_from_slice(label.exceptions())?;
+        self.labels.push_reserved(KeptLabel {
+            default: label.default_level(),
+            first,
+            end: self.exceptions.len(),
+        });
+        set_at_hand(&mut self.at_hand, place, id);
         Ok(LabelId(id))
+    }
+}
+
+// Notes the Id of a label at its place at hand.
+fn set_at_hand(at_hand: &mut Vec<u32>, place: usize, id: u32) {
+    if let Some(latest) = at_hand.get_mut(place) {
+        *latest = id;
     }
 }

@@ -139,7 +139,7 @@ impl Trace {
         requires { IsKept self.now.labels id }
         ensures { IfOk result (λ label. label ≡ label_of self.now.labels id) }
     {
-        HandedLabel::new(alloc, self.labels.get(id).unwrap().copy()?)
+        HandedLabel::new(alloc, self.labels.copy(alloc, id)?)
     }
 
     // Copies the labels of two Ids.

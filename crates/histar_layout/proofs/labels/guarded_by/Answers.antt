@@ -6,5 +6,5 @@ use Rattle.histar_layout.proofs.labels.guarded_by.Goals as goal
 
 pub returns : goal.returns
 returns c =
-    made_by_both c.with_each-2.result c.in_ok-label.label c.in_ok-empty.empty L1 (each_at L3 c.args.secret.now)
-    (each_at L0 c.args.written.now) c.in_ok-empty.ensures c.in_ok-label.ensures c.with_each-2.ensures
+    made_by_both c.in_ok-label.label c.set_each.new.label c.set_each-2.new.label L1 (each_at L3 c.args.secret.now)
+    (each_at L0 c.args.written.now) c.in_ok-label.ensures c.in_ok-set_each.ensures c.in_ok-set_each-2.ensures

@@ -71,11 +71,11 @@ returns-in_err-entry-clause-answer g c =
     let three = g.S.LabelStore.labels c.put_copy-2.new.store in
     let keeps = trans one two three c.put_copy.ensures.keeps c.put_copy-2.ensures.keeps in
     refused_at_denial _ _ c.from_residual-in_err-entry.result c.from_residual-in_err-entry.ensures.1
-    (check_put_both one three keeps c.args.table.now c.args.thread c.requires c.in_ok-label.label c.in_ok-clearance.clearance
+    (check_put_both one three keeps c.args.table.now c.args.access.now.thread c.requires c.in_ok-label.label c.in_ok-clearance.clearance
     c.args.labels.wanted.now c.args.labels.clearance.now c.in_ok-label.ensures.stands
     (c.put_copy-2.ensures.keeps c.in_ok-clearance.clearance c.args.labels.clearance.now
     c.in_ok-clearance.ensures.stands)
-    c.args.next c.args.container c.args.gate c.args.labels.verify.now
+    c.args.next c.args.access.now.container c.args.access.now.object c.args.labels.verify.now
     ∙ c.in_err-entry.ensures.answer)
 
 pub returns-in_err-entry-clause-err : goal.returns-in_err-entry-clause-err
@@ -96,7 +96,7 @@ returns-clause-stand g c =
     let keeps = trans one two three c.put_copy.ensures.keeps c.put_copy-2.ensures.keeps in
     let four = g.S.LabelStore.labels c.check_enter_in.new.store in
     let kept = keeps_same one three keeps four c.check_enter_in.ensures.unchanged in
-    own_stand one four kept c.args.table.now c.args.thread c.requires c.in_ok-label.label c.in_ok-clearance.clearance
+    own_stand one four kept c.args.table.now c.args.access.now.thread c.requires c.in_ok-label.label c.in_ok-clearance.clearance
     c.args.labels.wanted.now c.args.labels.clearance.now
     (ap (λ (labels : g.row.S-Id.Denot → Option Levels). labels c.in_ok-label.label) c.check_enter_in.ensures.unchanged
     ∙ c.in_ok-label.ensures.stands)
@@ -111,11 +111,11 @@ returns-clause-answer g c =
     let two = g.S.LabelStore.labels c.put_copy.new.store in
     let three = g.S.LabelStore.labels c.put_copy-2.new.store in
     let keeps = trans one two three c.put_copy.ensures.keeps c.put_copy-2.ensures.keeps in
-    check_put_both one three keeps c.args.table.now c.args.thread c.requires c.in_ok-label.label c.in_ok-clearance.clearance
+    check_put_both one three keeps c.args.table.now c.args.access.now.thread c.requires c.in_ok-label.label c.in_ok-clearance.clearance
     c.args.labels.wanted.now c.args.labels.clearance.now c.in_ok-label.ensures.stands
     (c.put_copy-2.ensures.keeps c.in_ok-clearance.clearance c.args.labels.clearance.now
     c.in_ok-clearance.ensures.stands)
-    c.args.next c.args.container c.args.gate c.args.labels.verify.now
+    c.args.next c.args.access.now.container c.args.access.now.object c.args.labels.verify.now
     ∙ c.in_ok-entry.ensures.answer
 
 pub returns-clause-ok : goal.returns-clause-ok
@@ -126,7 +126,7 @@ returns-clause-ok g c =
     let keeps = trans one two three c.put_copy.ensures.keeps c.put_copy-2.ensures.keeps in
     let four = g.S.LabelStore.labels c.check_enter_in.new.store in
     let kept = keeps_same one three keeps four c.check_enter_in.ensures.unchanged in
-    own_shown one four kept c.args.table.now c.args.thread c.requires c.in_ok-label.label c.in_ok-clearance.clearance
+    own_shown one four kept c.args.table.now c.args.access.now.thread c.requires c.in_ok-label.label c.in_ok-clearance.clearance
     c.args.labels.wanted.now c.args.labels.clearance.now
     (ap (λ (labels : g.row.S-Id.Denot → Option Levels). labels c.in_ok-label.label) c.check_enter_in.ensures.unchanged
     ∙ c.in_ok-label.ensures.stands)
@@ -141,4 +141,5 @@ returns-clause-entry g c =
     let two = g.S.LabelStore.labels c.put_copy.new.store in
     let three = g.S.LabelStore.labels c.put_copy-2.new.store in
     let keeps = trans one two three c.put_copy.ensures.keeps c.put_copy-2.ensures.keeps in
-    c.in_ok-entry.ensures.entry ∙ ap (λ (objects : Objects Levels). entry_there (objects c.args.gate)) (shown_on one three keeps c.args.table.now c.requires)
+    c.in_ok-entry.ensures.entry ∙ ap (λ (objects : Objects Levels). entry_there (objects c.args.access.now.object)) (shown_on one three keeps
+    c.args.table.now c.requires)

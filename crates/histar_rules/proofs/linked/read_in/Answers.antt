@@ -13,26 +13,26 @@ use Rattle.histar_rules.proofs.linked.read_in.Goals as goal
 pub returns-in_err-label-clause-answer : goal.returns-in_err-label-clause-answer
 returns-in_err-label-clause-answer g c =
     fails_at_denial _ _ c.from_residual-in_err-label.result c.from_residual-in_err-label.ensures.1
-    (segment_missing (g.S.LabelStore.labels c.args.store.now) c.args.table.now c.args.thread c.args.container
-    c.args.segment c.in_ok-found.ensures.answer _ _ c.in_err-label.ensures.answer)
+    (segment_missing (g.S.LabelStore.labels c.args.store.now) c.args.table.now c.args.access.now.thread c.args.access.now.container
+    c.args.access.now.object c.in_ok-found.ensures.answer _ _ c.in_err-label.ensures.answer)
 
 pub below_raised-requires-clause-lower_stands : goal.below_raised-requires-clause-lower_stands
 below_raised-requires-clause-lower_stands g c =
     subst (λ (labels : g.row.S-Id.Denot → Option Levels). IsSome (labels c.in_ok-label.label)) (sym c.in_ok-found.ensures.unchanged)
-    (label_stands (g.S.LabelStore.labels c.args.store.now) c.args.table.now c.requires c.args.segment
+    (label_stands (g.S.LabelStore.labels c.args.store.now) c.args.table.now c.requires c.args.access.now.object
     (segment_of c.in_ok-label.label c.in_ok-label.bytes.now) c.in_ok-label.ensures.found)
 
 pub below_raised-requires-clause-upper_stands : goal.below_raised-requires-clause-upper_stands
 below_raised-requires-clause-upper_stands g c =
     subst (λ (labels : g.row.S-Id.Denot → Option Levels). IsSome (labels c.in_ok-found.found.own)) (sym c.in_ok-found.ensures.unchanged)
-    (label_stands (g.S.LabelStore.labels c.args.store.now) c.args.table.now c.requires c.args.thread
+    (label_stands (g.S.LabelStore.labels c.args.store.now) c.args.table.now c.requires c.args.access.now.thread
     (thread_of c.in_ok-found.found.own c.in_ok-found.found.own_clearance) c.in_ok-found.ensures.thread)
 
 pub returns-then-below_raised-clause-answer : goal.returns-then-below_raised-clause-answer
 returns-then-below_raised-clause-answer g c =
     let found = c.in_ok-found.found in
     let label = c.in_ok-label.label in
-    read_found (g.S.LabelStore.labels c.args.store.now) c.args.table.now c.args.thread c.args.container c.args.segment
+    read_found (g.S.LabelStore.labels c.args.store.now) c.args.table.now c.args.access.now.thread c.args.access.now.container c.args.access.now.object
     c.in_ok-found.ensures.answer found.own found.own_clearance c.in_ok-found.ensures.thread label
     c.in_ok-label.bytes.now c.below_raised.result c.in_ok-label.ensures.found
     (c.below_raised.ensures.answer
@@ -44,7 +44,7 @@ pub returns-else-below_raised-clause-answer : goal.returns-else-below_raised-cla
 returns-else-below_raised-clause-answer g c =
     let found = c.in_ok-found.found in
     let label = c.in_ok-label.label in
-    read_found (g.S.LabelStore.labels c.args.store.now) c.args.table.now c.args.thread c.args.container c.args.segment
+    read_found (g.S.LabelStore.labels c.args.store.now) c.args.table.now c.args.access.now.thread c.args.access.now.container c.args.access.now.object
     c.in_ok-found.ensures.answer found.own found.own_clearance c.in_ok-found.ensures.thread label
     c.in_ok-label.bytes.now c.below_raised.result c.in_ok-label.ensures.found
     (c.below_raised.ensures.answer

@@ -16,20 +16,20 @@ pub below-requires-clause-lower_stands : goal.below-requires-clause-lower_stands
 below-requires-clause-lower_stands g c =
     let found = c.in_ok-found.found in
     subst (λ (labels : g.row.S-Id.Denot → Option Levels). IsSome (labels found.own)) (sym c.in_ok-found.ensures.unchanged)
-    (label_stands (g.S.LabelStore.labels c.args.store.now) c.args.table.now c.requires c.args.thread
+    (label_stands (g.S.LabelStore.labels c.args.store.now) c.args.table.now c.requires c.args.maker.now.thread
     (thread_of found.own found.own_clearance) c.in_ok-found.ensures.thread)
 
 pub below-requires-clause-upper_stands : goal.below-requires-clause-upper_stands
 below-requires-clause-upper_stands g c =
     let found = c.in_ok-found.found in
     subst (λ (labels : g.row.S-Id.Denot → Option Levels). IsSome (labels found.label)) (sym c.in_ok-found.ensures.unchanged)
-    (label_stands (g.S.LabelStore.labels c.args.store.now) c.args.table.now c.requires c.args.container
+    (label_stands (g.S.LabelStore.labels c.args.store.now) c.args.table.now c.requires c.args.maker.now.container
     (container_of found.label found.links.now) c.in_ok-found.ensures.container)
 
 pub returns-then-below-clause-answer : goal.returns-then-below-clause-answer
 returns-then-below-clause-answer g c =
     let found = c.in_ok-found.found in
-    making_found (g.S.LabelStore.labels c.args.store.now) c.args.table.now c.args.thread c.args.container found.own
+    making_found (g.S.LabelStore.labels c.args.store.now) c.args.table.now c.args.maker.now.thread c.args.maker.now.container found.own
     found.own_clearance found.label found.links.now c.below.result c.in_ok-found.ensures.answer
     c.in_ok-found.ensures.thread c.in_ok-found.ensures.container
     (c.below.ensures.answer
@@ -40,7 +40,7 @@ returns-then-below-clause-answer g c =
 pub returns-else-below-clause-answer : goal.returns-else-below-clause-answer
 returns-else-below-clause-answer g c =
     let found = c.in_ok-found.found in
-    making_found (g.S.LabelStore.labels c.args.store.now) c.args.table.now c.args.thread c.args.container found.own
+    making_found (g.S.LabelStore.labels c.args.store.now) c.args.table.now c.args.maker.now.thread c.args.maker.now.container found.own
     found.own_clearance found.label found.links.now c.below.result c.in_ok-found.ensures.answer
     c.in_ok-found.ensures.thread c.in_ok-found.ensures.container
     (c.below.ensures.answer

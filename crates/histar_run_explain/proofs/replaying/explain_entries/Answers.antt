@@ -21,8 +21,10 @@ loop-behind-preserved g c =
     replayed_more (g.V.Wording.words c.args.words.now) (state c.args.kernel.now) c.requires.0 es
     c.requires.1 c.loop-behind.behind e within is
     (state c.loop-behind.kernel)
-    (state c.replay.new.kernel) c.args.text.now.items c.loop-behind.text.items c.explain_outcome.new.text.items
-    c.loop-behind.invariant c.in_ok-replay.ensures c.in_ok-explain_outcome.ensures
+    (state c.explain_entry-outcome.new.kernel) c.args.text.now.items c.loop-behind.text.items
+    c.explain_entry-outcome.new.text.items
+    c.loop-behind.invariant (rw c.in_ok-outcome.was at c.explain_entry-outcome.ensures.ends)
+    (rw c.in_ok-outcome.was at c.explain_entry-outcome.ensures.explained)
 
 pub returns-clause-explained : goal.returns-clause-explained
 returns-clause-explained g c =

@@ -6,14 +6,9 @@ use Rattle.histar_rawtext.specs.RawText.{trace_line}
 use Rattle.histar_shell.proofs.EachLine.{line_begun, line_more, rest_unwritten}
 use Rattle.histar_shell.proofs.ending.write_entries.Goals as goal
 
-pub returns-in_err-entry-clause-err : goal.returns-in_err-entry-clause-err
-returns-in_err-entry-clause-err g c =
-    let p = err_from_is_err_and c.from_residual.result c.from_residual.ensures.1 in
-    rw p.1 (rest_unwritten trace_line c.args.trace.now.entries c.lines.at _ _ c.lines.invariant.written)
-
 pub returns-in_err-line-clause-err : goal.returns-in_err-line-clause-err
 returns-in_err-line-clause-err g c =
-    let p = err_from_is_err_and c.from_residual-in_err-line.result c.from_residual-in_err-line.ensures.1 in
+    let p = err_from_is_err_and c.from_residual.result c.from_residual.ensures.1 in
     rw p.1 (rest_unwritten trace_line c.args.trace.now.entries c.lines.at _ _ c.lines.invariant.written)
 
 pub returns-in_err-write_bytes-clause-err : goal.returns-in_err-write_bytes-clause-err
@@ -21,22 +16,22 @@ returns-in_err-write_bytes-clause-err g c =
     let p = err_from_is_err_and c.from_residual-in_err-write_bytes.result c.from_residual-in_err-write_bytes.ensures.1 in
     let entries = c.args.trace.now.entries in
     let at = c.lines.at in
-    let entry = c.in_ok-entry.entry in
-    rw p.1 (line_begun trace_line entries at entry (slice_get_within entries at entry c.in_ok-entry.ensures)
-    (get_or_from_slice_get entries at entry entry c.in_ok-entry.ensures)
-    _ _ _ c.in_ok-line.line.items c.as_slice.result.now c.lines.invariant.written c.in_ok-line.ensures
+    let is = c.in_ok-line.ensures in
+    rw p.1 (line_begun trace_line entries at is.0 (slice_get_within entries at is.0 is.1)
+    (get_or_from_slice_get entries at is.0 is.0 is.1)
+    _ _ _ c.in_ok-line.line.items c.as_slice.result.now c.lines.invariant.written is.2
     c.as_slice.ensures.value c.in_err-write_bytes.ensures.err)
 
 pub lines-preserved : goal.lines-preserved
 lines-preserved g c =
     let entries = c.args.trace.now.entries in
     let at = c.lines.at in
-    let entry = c.in_ok-entry.entry in
+    let is = c.in_ok-line.ensures in
     record {
       written =
-          line_more trace_line entries at entry (slice_get_within entries at entry c.in_ok-entry.ensures)
-          (get_or_from_slice_get entries at entry entry c.in_ok-entry.ensures) _ _
-          _ c.in_ok-line.line.items c.as_slice.result.now c.lines.invariant.written c.in_ok-line.ensures
+          line_more trace_line entries at is.0 (slice_get_within entries at is.0 is.1)
+          (get_or_from_slice_get entries at is.0 is.0 is.1) _ _
+          _ c.in_ok-line.line.items c.as_slice.result.now c.lines.invariant.written is.2
           c.as_slice.ensures.value c.in_ok-write_bytes.ensures.ok;
       count = search rules;
     }

@@ -13,8 +13,8 @@ returns-clause-ok g c =
     subst (λ (r : Result Reply Stopped).
     AnswersLine c.args.machine.now c.step.new.self c.args.call.line c.args.call.process c.args.call.call r)
     c.in-Ok.is c.step.ensures.answers in
-    answers_written _ _ _ _ c.args.call c.in-Ok.reply c.set_reply_line.new.line.items c.as_slice.result.now answered
-    c.in_ok-set_reply_line.ensures c.as_slice.ensures.value c.in_ok-write_bytes.ensures.ok
+    answers_written _ _ _ _ c.args.call c.in-Ok.reply c.set_reply_line-made.new.line.items c.as_slice.result.now answered
+    (rw c.in_ok-made.was at c.set_reply_line-made.ensures) c.as_slice.ensures.value c.in_ok-write_bytes.ensures.ok
 
 pub returns-in_err-write_bytes-clause-err : goal.returns-in_err-write_bytes-clause-err
 returns-in_err-write_bytes-clause-err g c =
@@ -23,8 +23,8 @@ returns-in_err-write_bytes-clause-err g c =
     subst (λ (r : Result Reply Stopped).
     AnswersLine c.args.machine.now c.step.new.self c.args.call.line c.args.call.process c.args.call.call r)
     c.in-Ok.is c.step.ensures.answers in
-    rw p.1 (begins_written _ _ _ _ c.args.call c.in-Ok.reply c.set_reply_line.new.line.items c.as_slice.result.now answered
-    c.in_ok-set_reply_line.ensures c.as_slice.ensures.value c.in_err-write_bytes.ensures.err)
+    rw p.1 (begins_written _ _ _ _ c.args.call c.in-Ok.reply c.set_reply_line-made.new.line.items c.as_slice.result.now answered
+    (rw c.in_ok-made.was at c.set_reply_line-made.ensures) c.as_slice.ensures.value c.in_err-write_bytes.ensures.err)
 
 pub returns-in_default-clause-err : goal.returns-in_default-clause-err
 returns-in_default-clause-err g c =
@@ -34,8 +34,8 @@ returns-in_default-clause-err g c =
     c.in_default.is c.step.ensures.answers in
     begins_unanswered _ _ _ c.args.call c.in_default.field-0 answered
 
-pub returns-in_err-set_reply_line-clause-err : goal.returns-in_err-set_reply_line-clause-err
-returns-in_err-set_reply_line-clause-err g c =
+pub returns-in_err-made-clause-err : goal.returns-in_err-made-clause-err
+returns-in_err-made-clause-err g c =
     let p = err_from_is_err_and c.from_residual.result c.from_residual.ensures.1 in
     let answered =
     subst (λ (r : Result Reply Stopped).

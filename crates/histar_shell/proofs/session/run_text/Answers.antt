@@ -26,37 +26,28 @@ answer_all-requires g c =
     λ end. tree_at_last calls_refine c.args.text.items c.in_ok-script.script c.in_ok-script.ensures.exact c.in-Ok.machine end starts _
     c.into_parts-accounts.ensures.calls
 
-pub returns-in_err-answer_all-clause-nothing : goal.returns-in_err-answer_all-clause-nothing
-returns-in_err-answer_all-clause-nothing g c =
-    let p = err_from_is_err_and c.from_residual-in_err-answer_all.result c.from_residual-in_err-answer_all.ensures.1 in
-    rw (p.1, p.2) (sink_called c.args.writer.now c.answer_all.new.writer c.in_err-answer_all.field-0.0 c.in_err-answer_all.ensures.faults)
+pub returns-in-Err-clause-nothing : goal.returns-in-Err-clause-nothing
+returns-in-Err-clause-nothing g c =
+    sink_called c.args.writer.now c.answer_all.new.writer c.in-Err.fault c.in-Err.ensures.faults
 
-pub returns-in_err-answer_all-clause-reads : goal.returns-in_err-answer_all-clause-reads
-returns-in_err-answer_all-clause-reads g c =
-    let p = err_from_is_err_and c.from_residual-in_err-answer_all.result c.from_residual-in_err-answer_all.ensures.1 in
-    rw (p.1, p.2) (no_read_failed c.in_err-answer_all.field-0.0 c.in_err-answer_all.ensures.faults)
+pub returns-in-Err-clause-reads : goal.returns-in-Err-clause-reads
+returns-in-Err-clause-reads g c = no_read_failed c.in-Err.fault c.in-Err.ensures.faults
 
-pub returns-in_err-answer_all-clause-writes : goal.returns-in_err-answer_all-clause-writes
-returns-in_err-answer_all-clause-writes g c =
-    let p = err_from_is_err_and c.from_residual-in_err-answer_all.result c.from_residual-in_err-answer_all.ensures.1 in
-    rw (p.1, p.2) c.in_err-answer_all.ensures.count
-
-pub returns-in_err-answer_all-clause-runs : goal.returns-in_err-answer_all-clause-runs
-returns-in_err-answer_all-clause-runs g c =
-    let p = err_from_is_err_and c.from_residual-in_err-answer_all.result c.from_residual-in_err-answer_all.ensures.1 in
+pub returns-in-Err-clause-runs : goal.returns-in-Err-clause-runs
+returns-in-Err-clause-runs g c =
     let given = c.in_ok-script.ensures.exact in
     let starts = starts_with c.args.options c.in-Ok.machine c.in_ok-script.script _ c.into_parts-accounts.ensures.accounts c.in-Ok.ensures.starts in
     let begun =
     begins_script c.args.options _ _ c.in_ok-script.script c.in-Ok.machine _ starts
-    c.into_parts-accounts.ensures.calls c.in_err-answer_all.ensures.err _ given in
-    rw (p.1, p.2) (begun_text c.args.options calls_refine c.args.text.items _ _ c.in_err-answer_all.field-0.0
-    c.in_ok-script.script given c.in_err-answer_all.ensures.faults begun)
+    c.into_parts-accounts.ensures.calls c.in-Err.ensures.err _ given in
+    begun_text c.args.options calls_refine c.args.text.items _ _ c.in-Err.fault
+    c.in_ok-script.script given c.in-Err.ensures.faults begun
 
-pub returns-clause-runs : goal.returns-clause-runs
-returns-clause-runs g c =
+pub returns-in-Ok-answer_all-clause-runs : goal.returns-in-Ok-answer_all-clause-runs
+returns-in-Ok-answer_all-clause-runs g c =
     let given = c.in_ok-script.ensures.exact in
     let starts = starts_with c.args.options c.in-Ok.machine c.in_ok-script.script _ c.into_parts-accounts.ensures.accounts c.in-Ok.ensures.starts in
     let answers =
     answers_script c.args.options _ _ c.in_ok-script.script c.in-Ok.machine c.answer_all.new.machine _ _ starts
-    c.into_parts-accounts.ensures.calls c.in_ok-answer_all.ensures.ok c.leak_into_trace.ensures.trace _ given in
+    c.into_parts-accounts.ensures.calls c.in-Ok-answer_all.ensures.ok c.leak_into_trace.ensures.trace _ given in
     answered_text c.args.options calls_refine c.args.text.items _ _ _ c.in_ok-script.script given answers

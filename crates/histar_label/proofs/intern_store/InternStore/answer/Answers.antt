@@ -1,5 +1,5 @@
 -- Proves the goals of `InternStore::answer` of src/intern_store.rt that the search leaves open.
-use Rattle.std.proofs.Common.{◌≡◌, Some, sym, ◌∙◌, arith}
+use Rattle.std.proofs.Common.{◌≡◌, Some, sym, arith}
 use mathlib.Core.Bool.{false≢true}
 use Rattle.std.specs.List.{slice_get}
 use Rattle.std.proofs.lemmas.Bool.Decides.{nat_tests}
@@ -7,7 +7,7 @@ use Rattle.histar_label.specs.Store.{label_at}
 use Rattle.histar_label.specs.declared.comparisons.Question.TheVariants.{Floor}
 use Rattle.histar_label.proofs.Interned.{is_below_own_join}
 use Rattle.std.specs.Prelude.{IfSome}
-use Rattle.std.proofs.lemmas.List.Elements.{All-contains, All-set}
+use Rattle.std.proofs.lemmas.List.Elements.{All-contains}
 use Rattle.histar_label.specs.InternStore.{IsRight}
 use Rattle.histar_label.proofs.intern_store.InternStore.answer.Goals as goal
 
@@ -25,23 +25,3 @@ returns-in-Some-clause-answer c =
     All-contains (λ o. IfSome o (λ e. IsRight c.self.inside.labels.keys e.0 e.1)) c.self.inside.at_hand.items
     (Some (c.args.comparison, c.in-Some.answer)) c.self.invariant.right_at_hand there in
     rw (← c.self.view_is) right.right
-
-pub invariant_of-self : goal.invariant_of-self
-invariant_of-self c =
-    let labels = c.self-2.inside.labels.keys in
-    let same : labels ≡ c.args.self.now = c.self-2.view_is ∙ c.compare_or_recall-answer.ensures.unchanged in
-    record {
-      one_id = c.self-2.invariant.one_id;
-      right = c.self-2.invariant.right;
-      right_at_hand = rw c.keep_at.ensures (
-          All-set (λ o. IfSome o (λ e. IsRight labels e.0 e.1)) c.self-2.inside.at_hand.items c.place-place.result
-          (Some (c.args.comparison, c.compare_or_recall-answer.result))
-          (rw same (record {
-            own = c.requires.own;
-            first = c.requires.first;
-            second = c.requires.second;
-            right = c.compare_or_recall-answer.ensures.answer;
-          }))
-          c.self-2.invariant.right_at_hand
-          );
-    }

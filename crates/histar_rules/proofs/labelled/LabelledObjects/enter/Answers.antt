@@ -12,7 +12,7 @@ use Rattle.histar_rules.proofs.labelled.LabelledObjects.enter.Goals as goal
 pub invariant_of-self : goal.invariant_of-self
 invariant_of-self g c =
     kept_entered (g.S.LabelStore.labels c.self.inside.store) (g.S.LabelStore.labels c.enter_in.new.store) c.self.inside.table
-    c.enter_in.new.table c.next-next.result c.self.inside.next_object c.args.thread c.args.container c.args.gate
+    c.enter_in.new.table c.next-next.result c.self.inside.next_object c.args.access.now.thread c.args.access.now.container c.args.access.now.object
     c.args.labels.wanted.now c.args.labels.clearance.now c.args.labels.verify.now c.enter_in.result
     c.enter_in.ensures.stand c.self.invariant.unused c.self.invariant.positive
     c.enter_in.ensures.answer c.enter_in.ensures.ok c.enter_in.ensures.err
@@ -26,10 +26,11 @@ returns-clause-answer g c =
       next_category = c.next-next.ensures.category i;
     })
     ∙ c.forget_unused_labels.ensures in
-    subst (λ (s : State). FailsAtUnlessExhausted (check s c.args.thread (Enter c.args.container c.args.gate c.args.labels.wanted.now c.args.labels.clearance.now c.args.labels.verify.now)) c.enter_in.result) same
+    subst (λ (s : State). FailsAtUnlessExhausted (check s c.args.access.now.thread (Enter c.args.access.now.container c.args.access.now.object
+    c.args.labels.wanted.now c.args.labels.clearance.now c.args.labels.verify.now)) c.enter_in.result) same
     c.enter_in.ensures.answer
 
 pub returns-clause-entry : goal.returns-clause-entry
 returns-clause-entry g c =
-    subst (λ (s : State). IfOk c.enter_in.result (λ entry. Some entry ≡ entry_there (s.objects c.args.gate)))
+    subst (λ (s : State). IfOk c.enter_in.result (λ entry. Some entry ≡ entry_there (s.objects c.args.access.now.object)))
     (ap state_of c.self.view_is ∙ c.forget_unused_labels.ensures) c.enter_in.ensures.entry

@@ -11,8 +11,8 @@ pub invariant_of-self-2 : goal.invariant_of-self-2
 invariant_of-self-2 g c =
     let before = objects_of (shown (g.S.LabelStore.labels c.self.inside.store) c.self.inside.table) in
     let o : Object Levels = record { label = c.args.label; kind = c.args.kind } in
-    let unused : IsUnusedFrom before c.new.result = rw c.new.ensures c.self.invariant.unused in
+    let unused : IsUnusedFrom before c.new-number.result = rw c.new-number.ensures c.self.invariant.unused in
     let kept =
-    kept_next (g.S.LabelStore.labels c.push_in.new.store) before c.push_in.new.table c.new.result o
+    kept_next (g.S.LabelStore.labels c.push_in.new.store) before c.push_in.new.table c.new-number.result o
     c.in_ok-push_in.ensures.stand unused c.in_ok-push_in.ensures.ok in
-    subst (λ (n : ℕ). IsKept (g.S.LabelStore.labels c.push_in.new.store) c.push_in.new.table (n + 1)) c.new.ensures kept
+    subst (λ (n : ℕ). IsKept (g.S.LabelStore.labels c.push_in.new.store) c.push_in.new.table (n + 1)) c.new-number.ensures kept

@@ -1,7 +1,7 @@
 -- Proves the goals of `Trace::keep_bytes` of src/trace.rt that the search leaves open.
 use Rattle.std.proofs.Common.{ap, ◌∙◌}
 use Rattle.histar_trace.specs.Traces.{TraceModel}
-use Rattle.histar_trace.proofs.Staying.{all_stay, more_bytes, same_entries}
+use Rattle.histar_trace.proofs.Staying.{more_bytes, same_entries}
 use Rattle.histar_trace.proofs.trace.Trace.keep_bytes.Goals as goal
 
 pub returns-clause-entries : goal.returns-clause-entries

@@ -1,0 +1,12 @@
+-- Proves the goals of `guarding_label` of src/birth.rt that the search leaves open.
+use Rattle.std.proofs.Common.{◌∙◌}
+use Rattle.histar_label.specs.declared.levels.Level.TheVariants.{L0, L1, L3}
+use Rattle.histar_layout.proofs.LabellingLemmas.{guarding}
+use Rattle.histar_process.proofs.birth.guarding_label.Goals as goal
+
+pub returns : goal.returns
+returns c =
+    let guard = c.args.guard.now in
+    c.in_ok-set.ensures.ok
+    ∙ guarding c.in_ok-label.label c.set_each.new.label c.set_each-2.new.label L1 L3 L0 guard.own.now guard.jobs.now c.in_ok-label.ensures
+    c.in_ok-set_each.ensures guard.write c.in_ok-set_each-2.ensures

@@ -1,0 +1,16 @@
+-- Proves the goals of `label_at` of src/birth.rt that the search leaves open.
+use Rattle.std.proofs.Common.{ap, ◌∙◌}
+use Rattle.histar_label.specs.declared.levels.Level.TheVariants.{L3}
+use Rattle.histar_label.specs.Levels.{Levels, with_level}
+use Rattle.histar_layout.specs.Labelling.{each_at, with_levels}
+use Rattle.histar_layout.proofs.LabellingLemmas.{owning}
+use Rattle.histar_process.proofs.birth.label_at.Goals as goal
+
+pub returns : goal.returns
+returns c =
+    let child = c.args.newborn.now in
+    let level = c.args.level in
+    let both = c.in_ok-set-2.ensures.ok ∙ ap (λ (K : Levels). with_level K child.write level) c.in_ok-set.ensures.ok in
+    owning c.in_ok-label.label c.set_each.new.label c.set_each-2.new.label c.args.default level L3 child.owned.now child.jobs.now
+    c.in_ok-label.ensures c.in_ok-set_each.ensures child.read child.write
+    (c.in_ok-set_each-2.ensures ∙ ap (λ (K : Levels). with_levels K (each_at L3 child.jobs.now)) both)
