@@ -7,8 +7,8 @@ ghost use Rattle.histar_access.specs.Cells.{row_below, shown_text};
 use histar_cells::Cell;
 use histar_label::LabelStore;
 use histar_object::ObjId;
-use histar_shell::push_process;
 use histar_syscall::Kernel;
+use histar_texts::push_process;
 use std::alloc::{AllocError, Global};
 
 /// Returns the rights of processes at an entry of a directory, given those at the directory.

@@ -17,7 +17,8 @@ use histar_label::LabelStore;
 use histar_prefix::processes;
 use histar_readout::{ProcessNode, TreeNode};
 use histar_script::Fault;
-use histar_shell::{Machine, push_path, push_stat};
+use histar_shell::{Machine, push_stat};
+use histar_texts::push_path;
 use std::alloc::{AllocError, Global};
 
 /// Writes a line for each file and directory of a machine, by rising paths, with the rights of each running

@@ -46,8 +46,8 @@ fn make_directory<S: LabelStore + Drop>(
         unix.now.caller.now.thread result }
 {
     let thread = unix.caller.thread;
-    let (own, _) = kernel.own_label(thread)?;
-    let label = label_made(alloc, &own, unix.users, mode)?;
+    let own = kernel.lend_own_label(thread)?;
+    let label = label_made(alloc, own, unix.users, mode)?;
     add_directory(alloc, kernel, thread, room, label)
 }
 

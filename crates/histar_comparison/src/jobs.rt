@@ -12,7 +12,8 @@ use crate::explained::{Explained, explain_comparison};
 use histar_flat::{CallLine, ProcName, Reply, UnixCall};
 use histar_label::{LabelStore, PlainStore};
 use histar_script::{Fault, Script, read_script};
-use histar_shell::{Machine, push_process};
+use histar_shell::Machine;
+use histar_texts::push_process;
 use std::alloc::{AllocError, Global};
 
 /// A job, by its first process, and the verdict on the script without it.

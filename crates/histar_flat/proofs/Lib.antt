@@ -6,6 +6,7 @@ pub mod SplitLemmas
 pub mod Options
 pub mod PathLemmas
 pub mod Numbers
+pub mod ChildNumbers
 pub mod ProcessLemmas
 pub mod Refusals
 pub mod Finding

@@ -82,6 +82,14 @@ narrowed narrow wide text wider = let m : ℕ = digits_value 10 text in by (narr
     by false true false m is h = refl
     by false false same m is h = refl
 
+-- a text that is not the text of a number that passes is read as none
+pub none_of : (test : ℕ → Bool) (text : List ℕ) → ((n : ℕ) → test n ≡ true → text ≡ decimal n → ⊥) → number_of test text ≡ None
+none_of test text none = by (number_of test text) refl
+  where
+    by : (o : Option ℕ) → number_of test text ≡ o → number_of test text ≡ None
+    by None e = e
+    by (Some n) e = let is = number_takes test text n e in absurd (none n is.1 is.0)
+
 -- ---- the numbers of 64 bits
 
 -- the number that the bytes spell, if it has 64 bits
@@ -90,11 +98,7 @@ number_of_64_bits = number_of (λ n. ltb n (2 ^ 64))
 
 -- a text that is no number of 64 bits is read as none
 no_number : (text : List ℕ) → ((n : ℕ) → n < 2 ^ 64 → text ≡ decimal n → ⊥) → number_of_64_bits text ≡ None
-no_number text none = by (number_of_64_bits text) refl
-  where
-    by : (o : Option ℕ) → number_of_64_bits text ≡ o → number_of_64_bits text ≡ None
-    by None e = e
-    by (Some n) e = let is = number_takes (λ n. ltb n (2 ^ 64)) text n e in absurd (none n (ltb-true n (2 ^ 64) is.1) is.0)
+no_number text none = none_of (λ n. ltb n (2 ^ 64)) text (λ n passes is. none n (ltb-true n (2 ^ 64) passes) is)
 
 -- a text that begins with a plus, or with a zero before other digits, is no number
 pub none_unless_plain : (text : List ℕ) → (BeginsPlainly text → ⊥) → number_of_64_bits text ≡ None
@@ -127,11 +131,6 @@ pub number_within : (greatest : ℕ) (text : List ℕ) → greatest < 2 ^ 64
     → number_of (λ n. leb n greatest) text ≡ if_passes (λ n. leb n greatest) (number_of_64_bits text)
 number_within greatest text fits =
     narrowed (λ n. leb n greatest) (λ n. ltb n (2 ^ 64)) text (λ n h. lt-ltb n (2 ^ 64) (omega (arith, leb-true n greatest h)))
-
--- a child's number is read among those up to the greatest
-pub child_number_within : (text : List ℕ)
-    → number_of is_child_number text ≡ if_passes is_child_number (number_of (λ n. leb n most_children) text)
-child_number_within text = narrowed is_child_number (λ n. leb n most_children) text (λ n h. (and_parts (leb 1 n) (leb n most_children) h).1)
 
 -- a child's number is one of 64 bits
 pub child_number_small : (n : ℕ) → is_child_number n ≡ true → n < 2 ^ 64

@@ -1,8 +1,11 @@
 -- Texts that are split at their first separator: where the part before it ends, and texts that lack it.
-use Rattle.std.proofs.Common.{rules, ◌≡◌, ℕ, zero, suc, ◌<◌, Bool, true, false, not, eqb, List, [], ◌∷◌, ◌++◌, length, take, drop, Some, None, refl}
+use Rattle.std.proofs.Common.{rules, ◌≡◌, ℕ, zero, suc, ◌<◌, ◌≤◌, Bool, true, false, not, cond, eqb, ltb, List, [], ◌∷◌, ◌++◌, length, take, drop, Some, None, refl}
 use Rattle.std.proofs.Common.{arith}
-use Rattle.std.specs.List.{list_all}
-use Rattle.std.proofs.lemmas.Bool.{false_from_ne_true, and_parts, not-true}
+use Rattle.std.specs.List.{list_all, position_or_len, slice_index}
+use Rattle.std.specs.Prelude.{position}
+use Rattle.std.proofs.lemmas.Bool.{false_from_ne_true, and_parts, not-true, both_ways, ltb-false}
+use Rattle.std.proofs.lemmas.List.Sums.{fails_before_first}
+use Rattle.std.proofs.lemmas.List.Quantifiers.{position-Some}
 use Rattle.memchr.specs.Find.{Nowhere, Passes, is_byte}
 use Rattle.histar_flat.specs.Words.{split_at_first}
 
@@ -29,6 +32,28 @@ unfolding split_at_first
 split_whole a [] none = refl
 split_whole a (b ∷ bs) none =
     rw (head_fails a b bs (suc (length bs)) (omega arith) none, split_whole a bs (tail_nowhere a b bs (length bs) none)) refl
+
+-- where the separator is at its first place, the first part ends there
+pub split_at_position : (a : ℕ) (text : List ℕ) (k : ℕ) → position (is_byte a) text ≡ Some k
+    → split_at_first a text ≡ (take k text, Some (drop (suc k) text))
+split_at_position a text k is =
+    let found = position-Some (is_byte a) text k 0 is in
+    split_found a text k found.0 (λ i low high h. both_ways (is_byte a (slice_index text i)) (found.2 i high) h) found.1
+
+-- where the separator has no place, the text is one part
+pub split_nowhere : (a : ℕ) (text : List ℕ) → position (is_byte a) text ≡ None → split_at_first a text ≡ (text, None)
+split_nowhere a text is =
+    split_whole a text (λ i low high h. both_ways (is_byte a (slice_index text i)) (fails_before_first (is_byte a) text i 0 (omega (arith, beyond))) h)
+  where
+    place : ℕ
+    place = position_or_len (is_byte a) text
+
+    by : (b : Bool) → ltb place (length text) ≡ b → cond b (Some place) None ≡ None → length text ≤ place
+    by true e never = absurd cc
+    by false e none = ltb-false place (length text) e
+
+    beyond : length text ≤ place
+    beyond = by (ltb place (length text)) refl is
 
 -- no byte is the separator
 abbrev pub lacks : ℕ → List ℕ → Bool

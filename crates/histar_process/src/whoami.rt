@@ -15,7 +15,7 @@ pub fn whoami<S: LabelStore + Drop>(kernel: &mut Kernel<S>, unix: &Unix) -> Resu
     ensures { Runs (whoami_program unix.now.users.now) kernel.old kernel.new
         unix.now.caller.now.thread (settled result) }
 {
-    let (own, _most) = kernel.own_label(unix.caller.thread)?;
-    let number = user_of(&own, unix.users);
-    Ok(Reply::User(user_name(unix.users, number), is_in_job(&own)))
+    let own = kernel.lend_own_label(unix.caller.thread)?;
+    let number = user_of(own, unix.users);
+    Ok(Reply::User(user_name(unix.users, number), is_in_job(own)))
 }

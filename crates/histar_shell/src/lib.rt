@@ -10,5 +10,5 @@ mod session;
 pub use ending::write_ending;
 pub use histar_io::{Counted, Sink, Source};
 pub use machine::{Machine, Trace};
-pub use output::{node_text, push_path, push_process, push_stat, reply_text};
+pub use output::{node_text, push_stat, reply_text};
 pub use session::{Options, answer_call, run, run_with};

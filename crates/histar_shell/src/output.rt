@@ -1,36 +1,13 @@
 //! Printing replies, and the files and directories of a tree.
 ghost use Rattle.std.specs.Prelude.{◌≡◌, ◌++◌, IfOk, OnOk};
 ghost use Rattle.std.specs.List.{flat_map};
-ghost use Rattle.std.specs.Fmt.{decimal};
-ghost use Rattle.histar_flat.specs.Texts.{confined_text, entry_text, file_mode_text, owner_text, names_text};
-ghost use Rattle.histar_flat.specs.Texts.{path_text, process_text, reply_text, stat_text};
+ghost use Rattle.histar_flat.specs.Texts.{confined_text, entry_text, file_mode_text, owner_text, reply_text, stat_text};
 ghost use Rattle.histar_shell.specs.Answers.{line_text};
 ghost use Rattle.histar_shell.specs.TreeText.{node_text, tree_line_text};
 
-use histar_flat::{FileMode, Name, Path, ProcName, Reply, Stat};
-use itoa::Buffer;
+use histar_flat::{FileMode, Name, Path, Reply, Stat};
+use histar_texts::{push_number, push_path, push_process};
 use std::alloc::{AllocError, Global};
-
-/// Adds a number, in decimal digits.
-fn push_number(line: &mut Vec<u8>, number: u32) -> Result<(), AllocError>
-    ensures { OnOk result (line.new.items ≡ line.old.items ++ decimal number) }
-{
-    let mut digits = Buffer::new();
-    line.extend_from_slice(digits.format(number).as_bytes())
-}
-
-/// Adds a process's name: 0, and a dot before each further number.
-pub fn push_process(line: &mut Vec<u8>, process: &ProcName) -> Result<(), AllocError>
-    ensures { OnOk result (line.new.items ≡ line.old.items ++ process_text process.now) }
-{
-    let numbers = process.numbers();
-    line.extend_from_slice(b"0")?;
-    for i in 0..numbers.len() {
-        line.extend_from_slice(b".")?;
-        push_number(line, u32::from(numbers[numbers.len() - 1 - i]))?;
-    }
-    Ok(())
-}
 
 /// Adds an entry of a directory: a space and its name, and a slash after a directory's.
 fn push_entry(line: &mut Vec<u8>, name: &Name, is_directory: bool) -> Result<(), AllocError>
@@ -154,27 +131,6 @@ pub fn set_reply_line(line: &mut Vec<u8>, number: u32, reply: &Reply) -> Result<
     line.extend_from_slice(b" ")?;
     push_reply(line, reply)?;
     line.extend_from_slice(b"\n")
-}
-
-/// Adds the names of a path, the last name first in the list, each after a slash.
-fn push_names(line: &mut Vec<u8>, names: &[Name]) -> Result<(), AllocError>
-    ensures { OnOk result (line.new.items ≡ line.old.items ++ names_text names.now) }
-{
-    for i in 0..names.len() {
-        line.extend_from_slice(b"/")?;
-        line.extend_from_slice(names[names.len() - 1 - i].as_bytes())?;
-    }
-    Ok(())
-}
-
-/// Adds a path, each name after a slash.
-pub fn push_path(line: &mut Vec<u8>, path: &Path) -> Result<(), AllocError>
-    ensures { OnOk result (line.new.items ≡ line.old.items ++ path_text path.now) }
-{
-    match path.names() {
-        [] => line.extend_from_slice(b"/"),
-        names => push_names(line, names),
-    }
 }
 
 /// Returns the text of a file or a directory: its path, its kind, its owner and its mode, and of a file

@@ -3,16 +3,17 @@ use Rattle.std.specs.Prelude.{◌≡◌, ℕ, List, [], ◌∷◌, ◌++◌, Opt
 use Rattle.std.specs.Borrow.{RattleType, Bor, MutBor, Fml, follows_so}
 use mathlib.Core.Option.{none}
 use Rattle.std.specs.Coded.{Coded, code_by, coded×, coded_ℕ, coded_list}
+use Rattle.histar_label.specs.Levels.{Levels}
 use Rattle.histar_container.specs.ObjectsModel.{ObjectsModel, coded_objects_model, state_of}
 use Rattle.histar_object.specs.State.{State}
 use Rattle.histar_rules.specs.declared.raw.Denied.{Denied}
 use Rattle.histar_rules.specs.declared.raw.RawCall.{RawCall}
-use Rattle.histar_rules.specs.declared.raw.RawCall.TheVariants.{Read}
+use Rattle.histar_rules.specs.declared.raw.RawCall.TheVariants.{OwnLabel, Read}
 use Rattle.histar_rules.specs.declared.raw.Refusal.{Refusal}
 use Rattle.histar_rules.specs.declared.raw.Refusal.TheVariants as refusals
 use Rattle.histar_trace.specs.declared.entries.TraceEntry.{TraceEntry}
 use Rattle.histar_trace.specs.contracts.entries.TraceEntry as entry
-use Rattle.histar_rules.specs.Rules.{check, Leaves, AreBytesOf}
+use Rattle.histar_rules.specs.Rules.{check, Leaves, AreBytesOf, AreLabelsOf}
 
 -- the content of a kernel: its objects, the line that was begun last, and the trace of its calls
 pub record KernelModel : Type 0 where
@@ -51,6 +52,10 @@ Answered old new t call (Err refusals.OutOfMemory) IsRight = IsUnchanged old new
 abbrev pub ReadsLent : KernelModel → ℕ → ℕ → ℕ → Result (Bor (List ℕ)) Refusal → KernelModel → Type 0
 ReadsLent old t container segment result new = Answered old new t (Read container segment) result (λ bytes. AreBytesOf old.kept segment bytes.now)
 
--- a kernel whose call lends bytes ends as the call left it
+-- a thread asked for its own label, which is lent to it
+abbrev pub OwnLent : KernelModel → ℕ → Result (Bor Levels) Refusal → KernelModel → Type 0
+OwnLent old t result new = Answered old new t OwnLabel result (λ own. (clearance : Levels) × AreLabelsOf old.kept t (own.now, clearance))
+
+-- a kernel whose call lends something of it ends as the call left it
 abbrev pub EndsAs : (R : RattleType) → MutBor R.Denot → (R.Denot → Type 0) → Fml
 EndsAs R kernel IsLeft = follows_so R R kernel.ghost_name none (λ _ _. ⊤) IsLeft

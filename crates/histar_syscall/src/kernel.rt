@@ -1,5 +1,6 @@
 //! The kernel and its raw calls.
 ghost use Rattle.std.specs.Prelude.{◌≡◌, [], Some, IfOk};
+ghost use Rattle.histar_label.specs.Levels.{Levels};
 ghost use Rattle.std.specs.Option.{option_copied};
 ghost use Rattle.histar_object.specs.Objects.{objects_of, bytes_in, clearance_there, is_container, is_thread, label_there};
 ghost use Rattle.histar_object.specs.State.{empty_state};
@@ -8,7 +9,7 @@ ghost use Rattle.histar_rules.specs.Rules.{IsNextNumber, AreBytesOf, AreLabelsOf
 ghost use Rattle.histar_rules.specs.Sound.{IsSound};
 ghost use Rattle.histar_rules.specs.declared.raw.RawCall.TheVariants as calls;
 ghost use Rattle.histar_syscall.specs.Answers.{IsAnswerValue};
-ghost use Rattle.histar_syscall.specs.KernelModel.{Answered, ReadsLent, EndsAs, state};
+ghost use Rattle.histar_syscall.specs.KernelModel.{Answered, ReadsLent, OwnLent, EndsAs, state};
 
 use crate::answers::Answer;
 use crate::containers::{make_container, unlink};
@@ -20,7 +21,9 @@ use histar_gate::{enter, make_gate};
 use histar_label::{Category, Label, LabelStore, OutOfMemory};
 use histar_object::{Entry, ObjId};
 use histar_rules::{Access, HandedLabels, LabelledObjects, Maker, ObjectKind, RawCall, Refusal};
-use histar_thread::{make_category, make_thread, own_label, set_clearance, set_label};
+use histar_thread::{
+    check_own_label, make_category, make_thread, own_label, set_clearance, set_label,
+};
 use histar_trace::{StoredCall, Trace};
 use std::alloc::Global;
 use std::marker::Model;
@@ -142,6 +145,26 @@ impl<S: LabelStore + Drop> Kernel<S> {
     {
         self.trace.make_room()?;
         let answer = own_label(&self.objects, thread);
+        let call = StoredCall::OwnLabel;
+        self.trace.record(self.line, thread, call, answer)
+    }
+
+    /// Lends the thread's own label. The kernel is free again when it is no longer used.
+    pub fn lend_own_label(&mut self, thread: ObjId) -> Result<&Label, Refusal>
+        ensures* { sem 𝓛 (EndsAs (the_row S.row S.Id.row S.LabelStore S.Id.PartialEq) self.entry
+            (OwnLent self.old thread result)) }
+    {
+        self.ask_own_label(thread)?;
+        Ok(self.label(thread).unwrap())
+    }
+
+    // Makes the call by which a thread learns its own label, without the label: it is lent once it is recorded.
+    fn ask_own_label(&mut self, thread: ObjId) -> Result<(), Refusal>
+        ensures { Answered self.old self.new thread calls.OwnLabel result
+            (λ _. (own : Levels × Levels) × AreLabelsOf self.old.kept thread own) }
+    {
+        self.trace.make_room()?;
+        let answer = check_own_label(&self.objects, thread);
         let call = StoredCall::OwnLabel;
         self.trace.record(self.line, thread, call, answer)
     }

@@ -1,5 +1,5 @@
 //! Numbers, paths and the names of processes as texts.
-ghost use Rattle.std.specs.Prelude.{◌≡◌, ◌++◌, OnOk};
+ghost use Rattle.std.specs.Prelude.{◌≡◌, ◌<◌, ◌+◌, ◌++◌, ◌∷◌, [], OnOk};
 ghost use Rattle.std.specs.Fmt.{decimal};
 ghost use Rattle.histar_flat.specs.Texts.{names_text, path_text, process_text};
 
@@ -7,12 +7,30 @@ use histar_flat::{Name, Path, ProcName};
 use itoa::Buffer;
 use std::alloc::AllocError;
 
-/// Adds a number, in decimal digits.
+/// Adds a number, in decimal digits. Those of processes have one digit or two, and are added without `itoa`.
 pub fn push_number(text: &mut Vec<u8>, number: u32) -> Result<(), AllocError>
     ensures { OnOk result (text.new.items ≡ text.old.items ++ decimal number) }
 {
-    let mut digits = Buffer::new();
-    text.extend_from_slice(digits.format(number).as_bytes())
+    match number {
+        0..=9 => push_digit(text, number),
+        10..=99 => {
+            push_digit(text, number / 10)?;
+            push_digit(text, number % 10)
+        }
+        _ => {
+            let mut digits = Buffer::new();
+            text.extend_from_slice(digits.format(number).as_bytes())
+        }
+    }
+}
+
+/// Adds one digit.
+fn push_digit(text: &mut Vec<u8>, digit: u32) -> Result<(), AllocError>
+    requires { digit < 10 }
+    ensures { OnOk result (text.new.items ≡ text.old.items ++ (48 + digit) ∷ []) }
+{
+    text.push(b'0' + digit as u8)?;
+    Ok(())
 }
 
 /// Adds a process's name: 0, and a dot before each further number.
@@ -22,7 +40,7 @@ pub fn push_process(text: &mut Vec<u8>, process: &ProcName) -> Result<(), AllocE
     let numbers = process.numbers();
     text.extend_from_slice(b"0")?;
     for i in 0..numbers.len() {
-        text.extend_from_slice(b".")?;
+        text.push(b'.')?;
         push_number(text, u32::from(numbers[numbers.len() - 1 - i]))?;
     }
     Ok(())

@@ -3,4 +3,6 @@
 
 mod threads;
 
-pub use threads::{make_category, make_thread, own_label, set_clearance, set_label};
+pub use threads::{
+    check_own_label, make_category, make_thread, own_label, set_clearance, set_label,
+};

@@ -1,5 +1,6 @@
 //! The calls of a thread on itself, and the call that makes a thread.
 ghost use Rattle.std.specs.Prelude.{◌≡◌, ◌<◌, IfOk, Some};
+ghost use Rattle.histar_label.specs.Levels.{Levels};
 ghost use Rattle.histar_object.specs.Objects.{objects_of, thread_of};
 ghost use Rattle.histar_container.specs.ObjectsModel.{state_of};
 ghost use Rattle.histar_rules.specs.Rules.{check, FailsAt, Decides, IsNextNumber, AreLabelsOf};
@@ -22,6 +23,20 @@ pub fn own_label<S: LabelStore + Drop>(
     let label = label.copy()?;
     let clearance = clearance.copy()?;
     Ok((label, clearance))
+}
+
+/// Checks that a thread is there, so that it has a label and a clearance, which may be lent to it.
+pub fn check_own_label<S: LabelStore + Drop>(
+    objects: &LabelledObjects<S>,
+    thread: ObjId,
+) -> Result<(), Refusal>
+    ensures { Decides objects.now objects.now thread calls.OwnLabel result
+        (λ _. (own : Levels × Levels) × AreLabelsOf objects.now thread own) }
+{
+    match objects.own(thread) {
+        Some(_) => Ok(()),
+        None => Err(Refusal::Denied(Denied::NoThread)),
+    }
 }
 
 /// Checks that a category may be made, and returns the thread's label and clearance.

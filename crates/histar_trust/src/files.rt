@@ -16,7 +16,8 @@ use histar_layout::UserTable;
 use histar_prefix::processes;
 use histar_readout::TreeNode;
 use histar_secrecy::{FileClass, Member, Role, login_readers, with_role};
-use histar_shell::{Machine, push_path, push_process};
+use histar_shell::Machine;
+use histar_texts::{push_path, push_process};
 use std::alloc::{AllocError, Global};
 
 /// Returns a line with the processes that run on a machine, and then one for each file that not every process

@@ -17,7 +17,8 @@ use histar_readout::TreeNode;
 use histar_secrecy::{
     FileClass, Member, Role, changers_of, login_changers, login_readers, with_role,
 };
-use histar_shell::{Machine, push_path, push_process, push_stat};
+use histar_shell::{Machine, push_stat};
+use histar_texts::{push_path, push_process};
 use std::alloc::{AllocError, Global};
 
 /// Returns the lines on what is at a path of a machine.

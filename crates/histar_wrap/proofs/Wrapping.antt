@@ -10,7 +10,7 @@ use Rattle.histar_syscall.specs.KernelModel.{KernelModel}
 use Rattle.histar_syscall.proofs.Runs.{same_kernel}
 use Rattle.histar_layout.specs.Status.{ProcessStatus}
 use Rattle.histar_layout.specs.Categories.{IsUserOf, scratch_label}
-use Rattle.histar_programs.specs.Parts.{ask, find_room}
+use Rattle.histar_programs.specs.Parts.{ask}
 use Rattle.histar_programs.specs.Programs.{Part, Program, RunsPart}
 use Rattle.histar_programs.specs.Programs.Program.{Answers}
 use Rattle.histar_programs.specs.declared.call_error.CallError.{CallError}
@@ -24,7 +24,7 @@ use Rattle.histar_layout.proofs.UserOf.{user_is}
 use Rattle.histar_process.specs.Birth.{birth}
 use Rattle.histar_programs.specs.Kin.{owned_by}
 use Rattle.histar_process.specs.SpawnCall.{room_for_child}
-use Rattle.histar_wrap.specs.Filling.{JobPlan, fill_job, plan_for, start_job}
+use Rattle.histar_wrap.specs.Filling.{JobPlan, fill_job, make_job, plan_for}
 use Rattle.histar_wrap.specs.Scratch.{ask_or_give_back, directory_label, hold_job, jobs_with, kin_in, make_scratch}
 use Rattle.histar_wrap.specs.WrapCall.{wrap_program}
 use Rattle.histar_wrap.proofs.Scratching.{without_container}
@@ -112,13 +112,9 @@ module _ (accounts : Accounts) (roots : Roots) (name : ProcName) (me : Home) (pa
   abbrev pub after_start : ProcessStatus → Program
   after_start status = Answers (Child ((status.born + 1) ∷ name))
 
-  -- what is still to do once there is room for an entry
-  abbrev pub after_room : ProcessStatus → Room → Program
-  after_room status room = start_job accounts me status room (λ (done : Unit {0}). after_start status)
-
   -- what is still to do once there is room for a child
   abbrev pub after_status : ProcessStatus → Program
-  after_status status = find_room roots path (after_room status)
+  after_status status = make_job accounts roots me path status (λ (done : Unit {0}). after_start status)
 
   -- at first the whole program is left
   pub begun : (t : ℕ) (old : KernelModel) → Leaves t (wrap_program accounts roots name me path) old (room_for_child name me after_status) old

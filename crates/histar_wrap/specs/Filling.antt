@@ -1,6 +1,7 @@
 -- A job, once its category is made: what it is made of, and the part of the program that makes it.
 use Rattle.std.specs.Prelude.{◌≡◌, ℕ, List, Some, Result}
 use Rattle.histar_flat.specs.Accounts.{Accounts}
+use Rattle.histar_flat.specs.Words.{Path}
 use Rattle.histar_label.specs.Levels.{Levels}
 use Rattle.histar_rules.specs.declared.raw.RawCall.TheVariants.{MakeCategory, OwnLabel}
 use Rattle.histar_syscall.specs.KernelModel.{KernelModel}
@@ -8,7 +9,9 @@ use Rattle.histar_layout.specs.Status.{ProcessStatus, status_in}
 use Rattle.histar_programs.specs.declared.call_error.CallError.{CallError}
 use Rattle.histar_programs.specs.declared.find.Room.{Room}
 use Rattle.histar_programs.specs.declared.roots.Home.{Home}
-use Rattle.histar_programs.specs.Parts.{◌>>=◌, ◌>>◌, ask}
+use Rattle.histar_programs.specs.declared.roots.Roots.{Roots}
+use Rattle.histar_programs.specs.declared.unix.Unix.{Unix}
+use Rattle.histar_programs.specs.Parts.{◌>>=◌, ◌>>◌, ask, find_room}
 use Rattle.histar_programs.specs.Programs.{Part, RunsPart}
 use Rattle.histar_process.specs.Birth.{birth}
 use Rattle.histar_programs.specs.Kin.{Kin}
@@ -55,3 +58,17 @@ start_job accounts me status room rest = do
 abbrev pub StartsJob : Accounts → Home → List ℕ → Room → KernelModel → KernelModel → ℕ → Result (Unit {0}) CallError → Type 0
 StartsJob accounts home bytes room old new thread result =
     (status : ProcessStatus) → status_in bytes ≡ Some status → RunsPart (start_job accounts home status room) old new thread result
+
+-- There is room for an entry, and the job is started there.
+abbrev pub make_job : Accounts → Roots → Home → Path → ProcessStatus → Part (Unit {0})
+make_job accounts roots me path status rest = do
+  room ← find_room roots path
+  start_job accounts me status room
+  rest tt
+
+-- a job was made at a path by the caller, whose segment has these bytes, whatever status they show
+abbrev pub MakesJob : Unix → Path → List ℕ → KernelModel → KernelModel → Result (Unit {0}) CallError → Type 0
+MakesJob unix path bytes old new result =
+    let caller = unix.caller.now in
+    (status : ProcessStatus) → status_in bytes ≡ Some status
+    → RunsPart (make_job unix.users.now unix.roots.now caller.home path status) old new caller.thread result

@@ -5,7 +5,7 @@ ghost use Rattle.histar_flat.specs.FlatCalls.{most_entries};
 ghost use Rattle.histar_programs.specs.Programs.{Runs};
 ghost use Rattle.histar_programs.specs.Refusals.{settled};
 ghost use Rattle.histar_layout.specs.StatusParts.{HasRoomForChild};
-ghost use Rattle.histar_wrap.specs.Filling.{FillsJob, StartsJob, plan_for, planned};
+ghost use Rattle.histar_wrap.specs.Filling.{FillsJob, MakesJob, StartsJob, plan_for, planned};
 ghost use Rattle.histar_wrap.specs.Scratch.{jobs_with};
 ghost use Rattle.histar_wrap.specs.WrapCall.{wrap_program};
 
@@ -54,9 +54,24 @@ pub fn wrap<S: LabelStore + Drop>(
 {
     let (name, home, thread) = (unix.process, &unix.caller.home, unix.caller.thread);
     let Segment { head, bytes } = room_for_child(alloc, kernel, thread, name, home)?;
-    let room = find_room(alloc, kernel, unix.roots, thread, path)?;
-    start_job(alloc, kernel, unix, bytes.as_slice(), room)?;
+    make_job(alloc, kernel, unix, path, bytes.as_slice())?;
     Ok(Reply::Child(name.child(head.born + 1)))
+}
+
+/// Makes a job of a caller whose segment has these bytes, with its scratch directory at a path. It is refused as
+/// `mkdir` is where the path has no room for an entry.
+fn make_job<S: LabelStore + Drop>(
+    alloc: Global,
+    kernel: &mut Kernel<S>,
+    unix: &Unix,
+    path: &[Name],
+    bytes: &[u8],
+) -> Result<(), CallError>
+    requires { HasRoomForChild bytes.now }
+    ensures { MakesJob unix.now path.now bytes.now kernel.old kernel.new result }
+{
+    let room = find_room(alloc, kernel, unix.roots, unix.caller.thread, path)?;
+    start_job(alloc, kernel, unix, bytes, room)
 }
 
 /// Makes a new job of a caller whose segment has these bytes, with its scratch directory in a directory that

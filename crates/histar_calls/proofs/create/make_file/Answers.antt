@@ -1,7 +1,8 @@
 -- Proves the goals of `make_file` of src/create.rt that the search leaves open.
-use Rattle.std.proofs.Common.{Err}
+use Rattle.std.proofs.Common.{Err, Result, subst}
 use Rattle.histar_label.specs.Levels.{Levels}
 use Rattle.histar_rules.specs.declared.raw.RawCall.TheVariants.{OwnLabel}
+use Rattle.histar_syscall.specs.KernelModel.{OwnLent}
 use Rattle.histar_layout.specs.Categories.{label_made}
 use Rattle.histar_programs.specs.declared.call_error.CallError.TheVariants.{Stopped}
 use Rattle.histar_programs.specs.Parts.{ask}
@@ -17,9 +18,10 @@ returns-in_err-own g c =
     let accounts = c.args.unix.now.users.now in
     let room = c.args.room in
     let old = c.args.kernel.now in
-    let k1 = c.own_label.new.self in
+    let k1 = c.lend_own_label.follows.lender-at-none in
+    let left = subst (λ (r : Result _ _). OwnLent old t r k1) c.in_err-own.was c.lend_own_label.follows.holds-at-none in
     ends_in_so (ask OwnLabel) (after_own accounts c.args.mode room) (whole_part t (make_file accounts c.args.mode room) old) k1 _ _
-    c.from_residual.ensures.1 (refuses t OwnLabel old k1 _ c.in_err-own.field-0.0 c.in_err-own.ensures)
+    c.from_residual.ensures.1 (refuses t OwnLabel old k1 _ c.in_err-own.field-0.0 left)
 
 pub returns-in_err-label : goal.returns-in_err-label
 returns-in_err-label g c =
@@ -27,11 +29,12 @@ returns-in_err-label g c =
     let accounts = c.args.unix.now.users.now in
     let room = c.args.room in
     let old = c.args.kernel.now in
-    let k1 = c.own_label.new.self in
-    let own : Levels × Levels = (c.in_ok-own.own, c.in_ok-own.field-0-1) in
+    let k1 = c.lend_own_label.follows.lender-at-none in
+    let left = subst (λ (r : Result _ _). OwnLent old t r k1) c.in_ok-own.was c.lend_own_label.follows.holds-at-none in
+    let own : Levels × Levels = (c.in_ok-own.own.now, left.1.0) in
     let whole = make_file accounts c.args.mode room in
     let adding = further_in (ask OwnLabel) (after_own accounts c.args.mode room) (whole_part t whole old) k1 own
-    (grants t OwnLabel old k1 own c.in_ok-own.ensures.0 c.in_ok-own.ensures.1) in
+    (grants t OwnLabel old k1 own left.0 left.1.1) in
     fails_so t whole old k1 Stopped _ c.from_residual-in_err-label.ensures.1
     (adding.leads k1 (Err Stopped) (before_adding t (label_made accounts own.0 c.args.mode) room k1))
 
@@ -41,11 +44,12 @@ returns g c =
     let accounts = c.args.unix.now.users.now in
     let room = c.args.room in
     let old = c.args.kernel.now in
-    let k1 = c.own_label.new.self in
-    let own : Levels × Levels = (c.in_ok-own.own, c.in_ok-own.field-0-1) in
+    let k1 = c.lend_own_label.follows.lender-at-none in
+    let left = subst (λ (r : Result _ _). OwnLent old t r k1) c.in_ok-own.was c.lend_own_label.follows.holds-at-none in
+    let own : Levels × Levels = (c.in_ok-own.own.now, left.1.0) in
     let whole = make_file accounts c.args.mode room in
     let adding = further_in (ask OwnLabel) (after_own accounts c.args.mode room) (whole_part t whole old) k1 own
-    (grants t OwnLabel old k1 own c.in_ok-own.ensures.0 c.in_ok-own.ensures.1) in
+    (grants t OwnLabel old k1 own left.0 left.1.1) in
     let end = c.add_file.new.kernel in
     adding.leads end c.add_file.result
     (adds_so t k1 end c.in_ok-label.label (label_made accounts own.0 c.args.mode) room c.in_ok-label.ensures c.add_file.result c.add_file.ensures)

@@ -1,7 +1,9 @@
 -- Proves the goals of `whoami` of src/whoami.rt that the search leaves open.
-use Rattle.std.proofs.Common.{length, not, sym, ap, ◌∙◌}
+use Rattle.std.proofs.Common.{Result, length, not, sym, ap, subst, ◌∙◌}
 use Rattle.histar_flat.specs.declared.replies.Reply.TheVariants.{User}
+use Rattle.histar_label.specs.Levels.{Levels}
 use Rattle.histar_rules.specs.declared.raw.RawCall.TheVariants.{OwnLabel}
+use Rattle.histar_syscall.specs.KernelModel.{OwnLent}
 use Rattle.histar_layout.specs.Categories.{user_of}
 use Rattle.histar_programs.specs.Parts.{ask}
 use Rattle.histar_programs.proofs.Running.{grants, refuses, then_call, call_fails, call_fails_so, replies_so}
@@ -16,23 +18,25 @@ unfolding whoami_program
 returns-in_err-own g c =
     let t = c.args.unix.now.caller.now.thread in
     let old = c.args.kernel.now in
-    let end = c.own_label.new.self in
+    let end = c.lend_own_label.follows.lender-at-none in
+    let left = subst (λ (r : Result _ _). OwnLent old t r end) c.in_err-own.was c.lend_own_label.follows.holds-at-none in
     call_fails_so t (whoami_program c.args.unix.now.users.now) old end _ _ c.from_residual.ensures.1
-    (call_fails t (ask OwnLabel) old end _ _ (refuses t OwnLabel old end _ c.in_err-own.field-0.0 c.in_err-own.ensures))
+    (call_fails t (ask OwnLabel) old end _ _ (refuses t OwnLabel old end _ c.in_err-own.field-0.0 left))
 
 pub returns : goal.returns
 unfolding whoami_program
 returns g c =
     let t = c.args.unix.now.caller.now.thread in
     let old = c.args.kernel.now in
-    let end = c.own_label.new.self in
+    let end = c.lend_own_label.follows.lender-at-none in
+    let left = subst (λ (r : Result _ _). OwnLent old t r end) c.in_ok-own.was c.lend_own_label.follows.holds-at-none in
     let accounts = c.args.unix.now.users.now in
     let users = accounts.users in
-    let own = c.in_ok-own.own in
+    let own = c.in_ok-own.own.now in
+    let labels : Levels × Levels = (own, left.1.0) in
     let number = c.user_of-number.result in
     let number_is = sym (user_is own (length users) number c.user_of-number.ensures) in
     let name_is = c.user_name.ensures ∙ ap (user_name users) number_is in
-    then_call t (ask OwnLabel) old end _ end (own, c.in_ok-own._most)
-    (grants t OwnLabel old end (own, c.in_ok-own._most) c.in_ok-own.ensures.0 c.in_ok-own.ensures.1) _
+    then_call t (ask OwnLabel) old end _ end labels (grants t OwnLabel old end labels left.0 left.1.1) _
     (replies_so t end (User (user_name users (user_of own (length users))) (not (is_empty (jobs_in own))))
     (User c.user_name.result c.is_in_job.result) (λ i. User (name_is i) (c.is_in_job.ensures i)))

@@ -1,7 +1,0 @@
--- The invariants and measures of `push_process` of src/output.rt.
-use Rattle.std.proofs.Common.{◌≡◌, ◌++◌, ◌-◌, drop, length}
-use Rattle.histar_flat.specs.Texts.{process_text}
-use Rattle.histar_shell.proofs.output.push_process.Given as goal
-
-abbrev pub invariant-loop-i : goal.invariant-loop-i
-invariant-loop-i l = l.line.items ≡ l.fn.line.items ++ process_text (drop (length l.numbers - l.i) l.numbers)
