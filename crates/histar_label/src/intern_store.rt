@@ -149,6 +149,20 @@ impl InternStore {
         Some(InternId(place))
     }
 
+    // Looks a label up among all, and keeps it at hand if it is there.
+    // Not inlined, so that a label at hand is found in few steps.
+    #[inline(never)]
+    fn search_and_cache(&mut self, label: &Label) -> Option<InternId>
+        ensures value { IfSome result (λ id. slice_get self.old id ≡ Some label.now) }
+        ensures found { (id : ℕ) → slice_get self.old id ≡ Some label.now → IsSome result }
+        ensures unchanged { self.new ≡ self.old }
+    {
+        let id = self.searched(label)?;
+        let hand = label.place_among(LABELS_AT_HAND);
+        set_at_hand(&mut self.labels_at_hand, hand, id.0);
+        Some(id)
+    }
+
     // Answers a comparison: compares anew where the labels have few exceptions, and otherwise looks up the
     // remembered answer, or compares anew and remembers the answer.
     fn compare_or_recall(&mut self, comparison: Comparison) -> bool
@@ -203,6 +217,13 @@ impl LabelStore for InternStore {
         match self.found_at_hand(label) {
             Some(id) => Some(id),
             None => self.searched(label),
+        }
+    }
+
+    fn find_and_cache(&mut self, label: &Label) -> Option<InternId> {
+        match self.found_at_hand(label) {
+            Some(id) => Some(id),
+            None => self.search_and_cache(label),
         }
     }
 

@@ -25,7 +25,7 @@ pub(crate) fn put_copy<S: LabelStore>(store: &mut S, label: &Label) -> Result<S:
     ensures stands { IfOk result (λ id. S.labels store.new id ≡ Some label.now) }
     ensures keeps { Keeps (S.labels store.old) (S.labels store.new) }
 {
-    match store.find(label) {
+    match store.find_and_cache(label) {
         Some(id) => Ok(id),
         None => store.put(label.copy()?),
     }
