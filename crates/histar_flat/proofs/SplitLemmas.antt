@@ -1,6 +1,6 @@
 -- Texts that are split at their first separator: where the part before it ends, and texts that lack it.
-use Rattle.std.proofs.Common.{rules, ◌≡◌, ℕ, zero, suc, ◌<◌, ◌≤◌, Bool, true, false, not, cond, eqb, ltb, List, [], ◌∷◌, ◌++◌, length, take, drop, Some, None, refl}
-use Rattle.std.proofs.Common.{arith}
+use Rattle.std.proofs.Common.{rules, ◌≡◌, ℕ, zero, suc, ◌<◌, ◌≤◌, Bool, true, false, not, cond, eqb, ltb, List}
+use Rattle.std.proofs.Common.{[], ◌∷◌, ◌++◌, length, take, drop, Some, None, refl, arith}
 use Rattle.std.specs.List.{list_all, position_or_len, slice_index}
 use Rattle.std.specs.Prelude.{position}
 use Rattle.std.proofs.lemmas.Bool.{false_from_ne_true, and_parts, not-true, both_ways, ltb-false}
@@ -43,7 +43,8 @@ split_at_position a text k is =
 -- where the separator has no place, the text is one part
 pub split_nowhere : (a : ℕ) (text : List ℕ) → position (is_byte a) text ≡ None → split_at_first a text ≡ (text, None)
 split_nowhere a text is =
-    split_whole a text (λ i low high h. both_ways (is_byte a (slice_index text i)) (fails_before_first (is_byte a) text i 0 (omega (arith, beyond))) h)
+    split_whole a text (λ i low high h.
+    both_ways (is_byte a (slice_index text i)) (fails_before_first (is_byte a) text i 0 (omega (arith, beyond))) h)
   where
     place : ℕ
     place = position_or_len (is_byte a) text

@@ -135,7 +135,8 @@ fn writing_call(alloc: Global, word: &[u8], rest: &[u8]) -> Result<Option<UnixCa
 // the room for the arguments of each of them.
 #[inline(never)]
 fn create_call(alloc: Global, rest: &[u8]) -> Result<Option<UnixCall>, AllocError>
-    ensures { IfOk result (λ call. call ≡ option_map (λ values. UnixCall.Create values.0 values.1) (two_values_of a_path a_mode rest.now)) }
+    ensures { IfOk result (λ call. call ≡
+        option_map (λ values. UnixCall.Create values.0 values.1) (two_values_of a_path a_mode rest.now)) }
 {
     let values = read_path_and_mode(alloc, rest)?;
     Ok(values.map(|(path, mode)| UnixCall::Create(path, mode)))
@@ -144,7 +145,8 @@ fn create_call(alloc: Global, rest: &[u8]) -> Result<Option<UnixCall>, AllocErro
 // Reads the arguments of `mkdir`.
 #[inline(never)]
 fn mkdir_call(alloc: Global, rest: &[u8]) -> Result<Option<UnixCall>, AllocError>
-    ensures { IfOk result (λ call. call ≡ option_map (λ values. UnixCall.Mkdir values.0 values.1) (two_values_of a_path a_mode rest.now)) }
+    ensures { IfOk result (λ call. call ≡
+        option_map (λ values. UnixCall.Mkdir values.0 values.1) (two_values_of a_path a_mode rest.now)) }
 {
     let values = read_path_and_mode(alloc, rest)?;
     Ok(values.map(|(path, mode)| UnixCall::Mkdir(path, mode)))
@@ -153,7 +155,8 @@ fn mkdir_call(alloc: Global, rest: &[u8]) -> Result<Option<UnixCall>, AllocError
 // Reads the arguments of `write`.
 #[inline(never)]
 fn write_call(alloc: Global, rest: &[u8]) -> Result<Option<UnixCall>, AllocError>
-    ensures { IfOk result (λ call. call ≡ option_map (λ values. UnixCall.Write values.0 values.1) (two_values_of a_path any_bytes rest.now)) }
+    ensures { IfOk result (λ call. call ≡
+        option_map (λ values. UnixCall.Write values.0 values.1) (two_values_of a_path any_bytes rest.now)) }
 {
     let values = read_path_and_bytes(alloc, rest)?;
     Ok(values.map(|(path, bytes)| UnixCall::Write(path, bytes)))
@@ -162,7 +165,8 @@ fn write_call(alloc: Global, rest: &[u8]) -> Result<Option<UnixCall>, AllocError
 // Reads the arguments of `append`.
 #[inline(never)]
 fn append_call(alloc: Global, rest: &[u8]) -> Result<Option<UnixCall>, AllocError>
-    ensures { IfOk result (λ call. call ≡ option_map (λ values. UnixCall.Append values.0 values.1) (two_values_of a_path any_bytes rest.now)) }
+    ensures { IfOk result (λ call. call ≡
+        option_map (λ values. UnixCall.Append values.0 values.1) (two_values_of a_path any_bytes rest.now)) }
 {
     let values = read_path_and_bytes(alloc, rest)?;
     Ok(values.map(|(path, bytes)| UnixCall::Append(path, bytes)))

@@ -16,5 +16,5 @@ returns-in-Some-clause-before c = rw (split_at_position dot c.args.text.now c.in
 
 pub returns-in-Some-clause-after : goal.returns-in-Some-clause-after
 returns-in-Some-clause-after c =
-    rw (split_at_position dot c.args.text.now c.in-Some.at (sym c.dot_in.ensures ∙ c.in-Some.is), take_rest c.args.text.now (c.in-Some.at + 1), add-one)
-    refl
+    let text = c.args.text.now in
+    rw (split_at_position dot text c.in-Some.at (sym c.dot_in.ensures ∙ c.in-Some.is), take_rest text (c.in-Some.at + 1), add-one) refl
