@@ -9,7 +9,7 @@ ghost use Rattle.histar_page.specs.Drawing.{cell_edge, edge_kind, is_narrow, row
 use crate::drawing::line_cells;
 use crate::jobs::{has_letter, process_of};
 use crate::kind::Kind;
-use crate::piece::{Piece, count, show};
+use crate::piece::{Piece, add};
 use crate::places::{HALF_HEIGHT, MOST_DRAWN_FILES, MOST_DRAWN_PROCESSES, file_top, process_top};
 use histar_script::split_word;
 use std::alloc::{AllocError, Global};
@@ -74,10 +74,15 @@ fn push_edge<'a>(
     let Some(kind) = edge_kind(has_letter(b'r', cell), has_letter(b'w', cell)) else {
         return Ok(());
     };
-    count(pieces, kind, process_top(process) + HALF_HEIGHT)?;
-    count(pieces, Kind::EdgeEnd, file_top(file) + HALF_HEIGHT)?;
-    show(pieces, Kind::EdgeProcess, process_of(cell))?;
-    show(pieces, Kind::EdgeFile, path)
+    add(
+        pieces,
+        &[
+            Piece::Counted(kind, process_top(process) + HALF_HEIGHT),
+            Piece::Counted(Kind::EdgeEnd, file_top(file) + HALF_HEIGHT),
+            Piece::Shown(Kind::EdgeProcess, process_of(cell)),
+            Piece::Shown(Kind::EdgeFile, path),
+        ],
+    )
 }
 
 /// Returns the kind of the edge between a file and a process that may read it or not, and write it or not.

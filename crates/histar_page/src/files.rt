@@ -14,7 +14,7 @@ use crate::jobs::{is_in_a_job, process_of};
 use crate::kind::Kind;
 use crate::lines::{lines_in, or_nothing, without_first, words_in};
 use crate::markup::Markup;
-use crate::piece::{Piece, fix, show, spell};
+use crate::piece::{Piece, add, fix, show, spell};
 use histar_flat::split_at_first;
 use std::alloc::{AllocError, Global};
 
@@ -38,13 +38,20 @@ pub(crate) fn files_pieces<'a>(
         (runners_of (lines_of secrets.entry.now)) (lines_of table.entry.now)) }
 {
     let lines = lines_in(alloc, table)?;
+    let mut pieces = user_pieces(alloc, secrets)?;
+    push_table(alloc, &mut pieces, jobs, lines.as_slice())?;
+    Ok(pieces)
+}
+
+/// Returns the pieces of the users above the columns, as the first line of the secrets has them.
+fn user_pieces<'a>(alloc: Global, secrets: &'a [u8]) -> Result<Vec<Piece<'a>>, AllocError>
+    ensures { IfOk result (λ pieces.
+        items_of pieces.items ≡ map user_item (runners_of (lines_of secrets.entry.now))) }
+{
     let runners = runners_in(alloc, secrets)?;
     let mut pieces = Vec::new(alloc);
     fix(&mut pieces, Markup::BeginFiles)?;
     push_users(&mut pieces, runners.as_slice())?;
-    fix(&mut pieces, Markup::EndUsers)?;
-    push_table(alloc, &mut pieces, jobs, lines.as_slice())?;
-    fix(&mut pieces, Markup::EndFiles)?;
     Ok(pieces)
 }
 
@@ -61,7 +68,6 @@ fn push_table<'a>(
     let cells = first_cells(alloc, lines)?;
     let flags = job_flags(alloc, jobs, cells.as_slice())?;
     push_columns(pieces, flags.as_slice(), cells.as_slice())?;
-    fix(pieces, Markup::EndColumns)?;
     push_rows(alloc, pieces, flags.as_slice(), lines)
 }
 
@@ -106,7 +112,7 @@ fn runners_in<'a>(alloc: Global, secrets: &'a [u8]) -> Result<Vec<&'a [u8]>, All
     Vec::from_slice(alloc, without_first(words.as_slice()))
 }
 
-/// Adds the user of each of these words.
+/// Adds the user of each of these words, and the end of their row.
 fn push_users<'a>(pieces: &mut Vec<Piece<'a>>, runners: &[&'a [u8]]) -> Result<(), AllocError>
     ensures { OnOk result (items_of pieces.new.items
         ≡ items_of pieces.old.items ++ map user_item (texts runners.now)) }
@@ -120,10 +126,10 @@ fn push_users<'a>(pieces: &mut Vec<Piece<'a>>, runners: &[&'a [u8]]) -> Result<(
         )?;
         rest = more;
     }
-    Ok(())
+    fix(pieces, Markup::EndUsers)
 }
 
-/// Adds the process of each column.
+/// Adds the process of each column, and the end of their row.
 fn push_columns<'a>(
     pieces: &mut Vec<Piece<'a>>,
     flags: &[bool],
@@ -139,7 +145,7 @@ fn push_columns<'a>(
         rest = more;
         later = later_flags(later);
     }
-    Ok(())
+    fix(pieces, Markup::EndColumns)
 }
 
 /// Returns whether the first column is that of a process in a job.
@@ -173,7 +179,7 @@ fn column_kind(in_job: bool) -> Kind
     }
 }
 
-/// Adds the rows of the table.
+/// Adds the rows of the table, and its end.
 fn push_rows<'a>(
     alloc: Global,
     pieces: &mut Vec<Piece<'a>>,
@@ -188,7 +194,7 @@ fn push_rows<'a>(
         push_row(alloc, pieces, flags, line)?;
         rest = more;
     }
-    Ok(())
+    fix(pieces, Markup::EndFiles)
 }
 
 /// Adds a row of the table.
@@ -219,10 +225,15 @@ fn push_words<'a>(
     let [path, kind, owner, mode, cells @ ..] = words else {
         return push_short(pieces, words);
     };
-    show(pieces, Kind::Path, path)?;
-    show(pieces, Kind::Stat, kind)?;
-    show(pieces, Kind::Stat, owner)?;
-    show(pieces, Kind::Stat, mode)?;
+    add(
+        pieces,
+        &[
+            Piece::Shown(Kind::Path, path),
+            Piece::Shown(Kind::Stat, kind),
+            Piece::Shown(Kind::Stat, owner),
+            Piece::Shown(Kind::Stat, mode),
+        ],
+    )?;
     push_cells(pieces, flags, cells)
 }
 

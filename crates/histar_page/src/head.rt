@@ -10,7 +10,7 @@ ghost use Rattle.histar_page.specs.declared.kind.Kind.TheVariants.{FileName, Tit
 use crate::kind::Kind;
 use crate::lines::{after_word, is_denied, lines_in, marked_among, replies_among};
 use crate::markup::Markup;
-use crate::piece::{Piece, count, fix, show};
+use crate::piece::{Piece, add};
 use std::alloc::{AllocError, Global};
 
 /// The mark of a raw call in the output of a run.
@@ -33,8 +33,13 @@ pub(crate) fn head_pieces<'a>(
     let mut pieces = Vec::new(alloc);
     push_names(&mut pieces, name)?;
     push_counts(alloc, &mut pieces, lines.as_slice())?;
-    show(&mut pieces, Kind::Version, version)?;
-    fix(&mut pieces, Markup::EndHead)?;
+    add(
+        &mut pieces,
+        &[
+            Piece::Shown(Kind::Version, version),
+            Piece::Fixed(Markup::EndHead),
+        ],
+    )?;
     Ok(pieces)
 }
 
@@ -43,10 +48,15 @@ fn push_names<'a>(pieces: &mut Vec<Piece<'a>>, name: &'a [u8]) -> Result<(), All
     ensures { OnOk result (items_of pieces.new.items
         ≡ items_of pieces.old.items ++ (Title, name.now) ∷ (FileName, name.now) ∷ []) }
 {
-    fix(pieces, Markup::Begin)?;
-    show(pieces, Kind::Title, name)?;
-    fix(pieces, Markup::Style)?;
-    show(pieces, Kind::FileName, name)
+    add(
+        pieces,
+        &[
+            Piece::Fixed(Markup::Begin),
+            Piece::Shown(Kind::Title, name),
+            Piece::Fixed(Markup::Style),
+            Piece::Shown(Kind::FileName, name),
+        ],
+    )
 }
 
 /// Adds the numbers of calls, of refusals and of denials in these lines of output.
@@ -56,10 +66,15 @@ fn push_counts(alloc: Global, pieces: &mut Vec<Piece>, lines: &[&[u8]]) -> Resul
 {
     let replies = replies_among(alloc, lines)?;
     let raw_calls = marked_among(alloc, lines, RAW_MARK)?;
-    fix(pieces, Markup::BeginCounts)?;
-    count(pieces, Kind::Calls, replies.len() as u64)?;
-    count(pieces, Kind::Refusals, refusals(replies.as_slice()))?;
-    count(pieces, Kind::Denials, denials(raw_calls.as_slice()))
+    add(
+        pieces,
+        &[
+            Piece::Fixed(Markup::BeginCounts),
+            Piece::Counted(Kind::Calls, replies.len() as u64),
+            Piece::Counted(Kind::Refusals, refusals(replies.as_slice())),
+            Piece::Counted(Kind::Denials, denials(raw_calls.as_slice())),
+        ],
+    )
 }
 
 /// Checks whether a reply is a refusal: it is neither `ok`, with or without more, nor bytes that were read.

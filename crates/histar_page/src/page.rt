@@ -1,7 +1,8 @@
 //! The whole page.
 ghost use Rattle.std.specs.Prelude.{◌≡◌, IfOk, OnOk};
 ghost use Rattle.histar_page.specs.Items.{items_of};
-ghost use Rattle.histar_page.specs.Page.{AddsItems, IsPage, files_shown, rights_shown, sources_of};
+ghost use Rattle.histar_page.specs.Page.{AddsItems, IsPage, drawing_shown, files_shown, head_shown};
+ghost use Rattle.histar_page.specs.Page.{rights_shown, secrets_shown, sources_of};
 
 use crate::drawing::drawing_pieces;
 use crate::files::files_pieces;
@@ -36,10 +37,7 @@ pub fn page_text(alloc: Global, texts: &Texts) -> Result<Vec<u8>, AllocError>
     ensures { IfOk result (λ page. IsPage (sources_of texts.now) page.items) }
 {
     let mut page = Vec::new(alloc);
-    render(
-        &mut page,
-        head_pieces(alloc, texts.name, texts.version, texts.output)?.as_slice(),
-    )?;
+    render_head(alloc, &mut page, texts)?;
     render(
         &mut page,
         session_pieces(alloc, texts.script, texts.output)?.as_slice(),
@@ -48,17 +46,50 @@ pub fn page_text(alloc: Global, texts: &Texts) -> Result<Vec<u8>, AllocError>
     Ok(page)
 }
 
+/// Adds the head.
+fn render_head(alloc: Global, page: &mut Vec<u8>, texts: &Texts) -> Result<(), AllocError>
+    ensures { OnOk result (AddsItems page.old.items page.new.items
+        (head_shown (sources_of texts.now))) }
+{
+    let pieces = head_pieces(alloc, texts.name, texts.version, texts.output)?;
+    render(page, pieces.as_slice())
+}
+
 /// Adds the parts that show rights: the files, the secrets and the drawing.
 fn render_rights(alloc: Global, page: &mut Vec<u8>, texts: &Texts) -> Result<(), AllocError>
-    ensures { OnOk result (AddsItems page.old.items page.new.items (rights_shown (sources_of texts.now))) }
+    ensures { OnOk result (AddsItems page.old.items page.new.items
+        (rights_shown (sources_of texts.now))) }
 {
-    render(page, files_of(alloc, texts)?.as_slice())?;
-    render(page, secrets_pieces(alloc, texts.secrets)?.as_slice())?;
-    render(
-        page,
-        drawing_pieces(alloc, texts.script, texts.output, texts.table)?.as_slice(),
-    )?;
-    Ok(())
+    render_files(alloc, page, texts)?;
+    render_secrets(alloc, page, texts)?;
+    render_drawing(alloc, page, texts)
+}
+
+/// Adds the part that shows files.
+fn render_files(alloc: Global, page: &mut Vec<u8>, texts: &Texts) -> Result<(), AllocError>
+    ensures { OnOk result (AddsItems page.old.items page.new.items
+        (files_shown (sources_of texts.now))) }
+{
+    let pieces = files_of(alloc, texts)?;
+    render(page, pieces.as_slice())
+}
+
+/// Adds the part that shows secrets.
+fn render_secrets(alloc: Global, page: &mut Vec<u8>, texts: &Texts) -> Result<(), AllocError>
+    ensures { OnOk result (AddsItems page.old.items page.new.items
+        (secrets_shown (sources_of texts.now))) }
+{
+    let pieces = secrets_pieces(alloc, texts.secrets)?;
+    render(page, pieces.as_slice())
+}
+
+/// Adds the part that shows the drawing.
+fn render_drawing(alloc: Global, page: &mut Vec<u8>, texts: &Texts) -> Result<(), AllocError>
+    ensures { OnOk result (AddsItems page.old.items page.new.items
+        (drawing_shown (sources_of texts.now))) }
+{
+    let pieces = drawing_pieces(alloc, texts.script, texts.output, texts.table)?;
+    render(page, pieces.as_slice())
 }
 
 /// Returns the pieces of the part that shows files.

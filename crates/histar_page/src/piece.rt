@@ -7,7 +7,7 @@ use crate::kind::Kind;
 use crate::markup::Markup;
 use histar_html::push_escaped;
 use itoa::Buffer;
-use std::alloc::AllocError;
+use std::alloc::{AllocError, Global};
 
 /// A piece of a page: markup, which doesn't depend on the session, or a text.
 #[derive(Clone, Copy)]
@@ -16,6 +16,25 @@ pub enum Piece<'a> {
     Shown(Kind, &'a [u8]),
     Counted(Kind, u64),
     Letter(Kind, u8),
+}
+
+/// Returns pieces that begin with these two fixed texts.
+pub(crate) fn begun<'a>(
+    alloc: Global,
+    first: Markup,
+    second: Markup,
+) -> Result<Vec<Piece<'a>>, AllocError>
+    ensures { IfOk result (λ pieces. items_of pieces.items ≡ []) }
+{
+    Vec::from_slice(alloc, &[Piece::Fixed(first), Piece::Fixed(second)])
+}
+
+/// Adds these pieces.
+pub(crate) fn add<'a>(pieces: &mut Vec<Piece<'a>>, more: &[Piece<'a>]) -> Result<(), AllocError>
+    ensures { OnOk result (items_of pieces.new.items
+        ≡ items_of pieces.old.items ++ items_of more.now) }
+{
+    pieces.extend_from_slice(more)
 }
 
 /// Adds a fixed text.

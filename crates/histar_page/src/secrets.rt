@@ -11,7 +11,7 @@ use crate::files::COLON;
 use crate::kind::Kind;
 use crate::lines::{lines_in, or_nothing, without_first, words_in};
 use crate::markup::Markup;
-use crate::piece::{Piece, fix, show};
+use crate::piece::{Piece, begun, fix, show};
 use histar_flat::split_at_first;
 use std::alloc::{AllocError, Global};
 
@@ -31,11 +31,8 @@ pub(crate) fn secrets_pieces<'a>(
 {
     let lines = lines_in(alloc, secrets)?;
     let files = without_first(lines.as_slice());
-    let mut pieces = Vec::new(alloc);
-    fix(&mut pieces, Markup::BeginSecrets)?;
-    fix(&mut pieces, note_on(files))?;
+    let mut pieces = begun(alloc, Markup::BeginSecrets, note_on(files))?;
     push_secrets(alloc, &mut pieces, files)?;
-    fix(&mut pieces, Markup::EndSecrets)?;
     Ok(pieces)
 }
 
@@ -48,7 +45,7 @@ fn note_on(lines: &[&[u8]]) -> Markup {
     }
 }
 
-/// Adds the lines of the secrets.
+/// Adds the lines of the secrets, and their end.
 fn push_secrets<'a>(
     alloc: Global,
     pieces: &mut Vec<Piece<'a>>,
@@ -62,7 +59,7 @@ fn push_secrets<'a>(
         push_secret(alloc, pieces, line)?;
         rest = more;
     }
-    Ok(())
+    fix(pieces, Markup::EndSecrets)
 }
 
 /// Adds a line of the secrets.

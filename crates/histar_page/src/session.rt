@@ -17,7 +17,7 @@ use crate::lines::{
     replies_among,
 };
 use crate::markup::Markup;
-use crate::piece::{Piece, fix, show};
+use crate::piece::{Piece, add, fix, show};
 use histar_script::split_word;
 use std::alloc::{AllocError, Global};
 
@@ -32,13 +32,25 @@ pub(crate) fn session_pieces<'a>(
 {
     let script = lines_in(alloc, script)?;
     let output = lines_in(alloc, output)?;
-    let replies = replies_among(alloc, output.as_slice())?;
-    let raw_calls = marked_among(alloc, output.as_slice(), RAW_MARK)?;
-    let explanations = marked_among(alloc, output.as_slice(), WHY_MARK)?;
+    line_pieces(alloc, script.as_slice(), output.as_slice())
+}
+
+/// Returns the pieces of the session of these lines of a script and of its output.
+fn line_pieces<'a>(
+    alloc: Global,
+    script: &[&'a [u8]],
+    output: &[&'a [u8]],
+) -> Result<Vec<Piece<'a>>, AllocError>
+    ensures { IfOk result (λ pieces.
+        IsSession (texts script.now) (texts output.now) (items_of pieces.items)) }
+{
+    let replies = replies_among(alloc, output)?;
+    let raw_calls = marked_among(alloc, output, RAW_MARK)?;
+    let explanations = marked_among(alloc, output, WHY_MARK)?;
     let mut pieces = Vec::new(alloc);
     push_session(
         &mut pieces,
-        script.as_slice(),
+        script,
         replies.as_slice(),
         raw_calls.as_slice(),
         explanations.as_slice(),
@@ -61,7 +73,6 @@ fn push_session<'a>(
 {
     let boot = own_lines(raw_calls, 0, b"0");
     let (_, later) = raw_calls.split_at(boot.len());
-    fix(pieces, Markup::BeginSession)?;
     push_boot(pieces, boot)?;
     push_calls(pieces, script, replies, later, explanations)?;
     fix(pieces, Markup::EndSession)
@@ -112,14 +123,20 @@ fn own_lines<'b, 'a>(lines: &'b [&'a [u8]], from: usize, word: &[u8]) -> &'b [&'
     own
 }
 
-/// Adds the raw calls of boot.
+/// Adds the heading and the raw calls of boot.
 fn push_boot<'a>(pieces: &mut Vec<Piece<'a>>, boot: &[&'a [u8]]) -> Result<(), AllocError>
     ensures { OnOk result (items_of pieces.new.items
         ≡ items_of pieces.old.items ++ boot_items (texts boot.now)) }
 {
-    fix(pieces, Markup::BeginBoot)?;
-    show(pieces, Kind::OtherLine, b"0")?;
-    fix(pieces, Markup::BeginBehind)?;
+    add(
+        pieces,
+        &[
+            Piece::Fixed(Markup::BeginSession),
+            Piece::Fixed(Markup::BeginBoot),
+            Piece::Shown(Kind::OtherLine, b"0"),
+            Piece::Fixed(Markup::BeginBehind),
+        ],
+    )?;
     push_raw_calls(pieces, boot)?;
     fix(pieces, Markup::EndCall)
 }
@@ -136,30 +153,41 @@ fn push_call<'a>(
         ++ call_items (texts script.now) reply.now (texts raw_calls.now) (texts explanations.now)) }
 {
     if raw_calls.is_empty() && explanations.is_empty() {
-        fix(pieces, Markup::BeginBare)?;
-        push_answer(pieces, script, reply)?;
-        return fix(pieces, Markup::EndBare);
+        return push_answer(pieces, Markup::BeginBare, script, reply, Markup::EndBare);
     }
-    fix(pieces, Markup::BeginCall)?;
-    push_answer(pieces, script, reply)?;
-    fix(pieces, Markup::BeginBehind)?;
+    push_answer(
+        pieces,
+        Markup::BeginCall,
+        script,
+        reply,
+        Markup::BeginBehind,
+    )?;
     push_raw_calls(pieces, raw_calls)?;
     push_explanations(pieces, explanations)?;
     fix(pieces, Markup::EndCall)
 }
 
-/// Adds the number of a line, its call and the reply.
+/// Adds the number of a line, its call and the reply, between two fixed texts.
 fn push_answer<'a>(
     pieces: &mut Vec<Piece<'a>>,
+    before: Markup,
     script: &[&'a [u8]],
     line: &'a [u8],
+    after: Markup,
 ) -> Result<(), AllocError>
     ensures { OnOk result (items_of pieces.new.items
         ≡ items_of pieces.old.items ++ answer_items (texts script.now) line.now) }
 {
-    show(pieces, Kind::LineNumber, split_word(line).0)?;
-    show(pieces, Kind::Call, call_on(script, line))?;
-    show(pieces, reply_kind(line), after_word(line))
+    add(
+        pieces,
+        &[
+            Piece::Fixed(before),
+            Piece::Shown(Kind::LineNumber, split_word(line).0),
+            Piece::Shown(Kind::Call, call_on(script, line)),
+            Piece::Shown(reply_kind(line), after_word(line)),
+            Piece::Fixed(after),
+        ],
+    )
 }
 
 /// Returns the kind of a reply: that of a call that was made, or a refusal.
@@ -257,9 +285,14 @@ fn push_other<'a>(pieces: &mut Vec<Piece<'a>>, line: &'a [u8], kind: Kind) -> Re
     ensures { OnOk result (items_of pieces.new.items ≡ items_of pieces.old.items
         ++ (OtherLine, mark_number line.now) ∷ (kind, line.now) ∷ []) }
 {
-    fix(pieces, Markup::BeginOther)?;
-    show(pieces, Kind::OtherLine, mark_number(line))?;
-    fix(pieces, Markup::BeginBehind)?;
-    show(pieces, kind, line)?;
-    fix(pieces, Markup::EndCall)
+    add(
+        pieces,
+        &[
+            Piece::Fixed(Markup::BeginOther),
+            Piece::Shown(Kind::OtherLine, mark_number(line)),
+            Piece::Fixed(Markup::BeginBehind),
+            Piece::Shown(kind, line),
+            Piece::Fixed(Markup::EndCall),
+        ],
+    )
 }

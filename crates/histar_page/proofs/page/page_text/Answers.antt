@@ -5,7 +5,6 @@ use Rattle.histar_page.proofs.page.page_text.Goals as goal
 
 pub returns : goal.returns
 returns c =
-    let head = part_added _ _ c.in_ok-render.ensures c.as_slice.ensures.value c.in_ok-head_pieces.ensures in
-    let session = part_added _ _ c.in_ok-render-2.ensures c.as_slice-2.ensures.value refl in
-    page_is c.new-page.ensures.items (parts_added (parts_added head session) c.in_ok-render_rights.ensures)
+    let session = part_added _ _ c.in_ok-render.ensures c.as_slice.ensures.value refl in
+    page_is c.new-page.ensures.items (parts_added (parts_added c.in_ok-render_head.ensures session) c.in_ok-render_rights.ensures)
     (record { session = _; parts = refl; is_session = c.in_ok-session_pieces.ensures })
