@@ -29,18 +29,6 @@ abbrev pub files_shown : Sources → List Item
 files_shown sources =
     files_items (jobs_of (lines_of sources.script) (lines_of sources.output)) (runners_of (lines_of sources.secrets)) (lines_of sources.table)
 
--- the head
-abbrev pub head_shown : Sources → List Item
-head_shown sources = head_items sources.name sources.version (lines_of sources.output)
-
--- the secrets
-abbrev pub secrets_shown : Sources → List Item
-secrets_shown sources = secrets_items (lines_of sources.secrets)
-
--- the drawing
-abbrev pub drawing_shown : Sources → List Item
-drawing_shown sources = drawing_items (lines_of sources.script) (lines_of sources.output) (lines_of sources.table)
-
 -- the files, the secrets and the drawing
 abbrev pub rights_shown : Sources → List Item
 rights_shown sources =

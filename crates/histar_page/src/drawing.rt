@@ -1,11 +1,13 @@
 //! The drawing on a page: which process may read and write which file, and the jobs.
-ghost use Rattle.std.specs.Prelude.{◌≡◌, ◌≤◌, ◌++◌, ◌∷◌, [], decimal, true, length, IfOk, OnOk};
+ghost use Rattle.std.specs.Prelude.{◌≡◌, ◌≤◌, ◌+◌, ◌-◌, ◌++◌, ◌∷◌, [], decimal, true, length, IfOk, OnOk};
 ghost use Rattle.std.specs.List.{list_all};
 ghost use Rattle.histar_script.specs.Lines.{lines_of};
 ghost use Rattle.histar_page.specs.Texts.{texts};
 ghost use Rattle.histar_page.specs.Items.{items_of};
 ghost use Rattle.histar_page.specs.Drawing.{drawing_items, drawn_items, file_nodes, first_cells, is_drawn, is_narrow};
-ghost use Rattle.histar_page.specs.Drawing.{graph_items, line_cells, process_nodes};
+ghost use Rattle.histar_page.specs.Drawing.{graph_items, process_nodes, row_cells};
+ghost use Rattle.histar_page.specs.Files.{runners_of};
+ghost use Rattle.histar_page.specs.Lines.{without_first};
 ghost use Rattle.histar_page.specs.declared.kind.Kind.TheVariants.{DrawnHeight, NodeName};
 
 use crate::bands::push_jobs;
@@ -92,10 +94,11 @@ fn drawn_pieces<'a>(
     ensures { IfOk result (λ pieces.
         items_of pieces.items ≡ drawn_items (texts jobs.now) (texts lines.now)) }
 {
-    let cells = first_cells(alloc, lines)?;
+    let words = first_words(alloc, lines)?;
+    let cells = row_cells(words.as_slice());
     let mut pieces = begun_drawing(alloc, drawn_height(cells.len(), lines.len()))?;
-    push_jobs(alloc, &mut pieces, jobs, cells.as_slice(), lines)?;
-    push_graph(alloc, &mut pieces, cells.as_slice(), lines)?;
+    push_jobs(alloc, &mut pieces, jobs, cells, lines)?;
+    push_graph(alloc, &mut pieces, cells, lines)?;
     Ok(pieces)
 }
 
@@ -137,29 +140,33 @@ fn push_graph<'a>(
     )
 }
 
-/// Returns the cells of the first line, one for each process.
-fn first_cells<'a>(alloc: Global, lines: &[&'a [u8]]) -> Result<Vec<&'a [u8]>, AllocError>
-    requires { list_all is_narrow (texts lines.now) ≡ true }
-    ensures cells { IfOk result (λ cells. texts cells.items ≡ first_cells (texts lines.now)) }
-    ensures few { IfOk result (λ cells. length cells.items ≤ MOST_DRAWN_PROCESSES) }
+/// Returns the words of the first line, or none if there is no line.
+pub(crate) fn first_words<'a>(
+    alloc: Global,
+    lines: &[&'a [u8]],
+) -> Result<Vec<&'a [u8]>, AllocError>
+    ensures cells { IfOk result (λ words.
+        row_cells (texts words.items) ≡ first_cells (texts lines.now)) }
+    ensures runners { IfOk result (λ words.
+        without_first (texts words.items) ≡ runners_of (texts lines.now)) }
+    ensures few { IfOk result (λ words. list_all is_narrow (texts lines.now) ≡ true
+        → length words.items ≤ WORDS_BEFORE_CELLS + MOST_DRAWN_PROCESSES) }
 {
-    let [first, ..] = lines else {
-        return Ok(Vec::new(alloc));
-    };
-    line_cells(alloc, first)
+    match lines {
+        [] => Ok(Vec::new(alloc)),
+        [first, ..] => words_in(alloc, first),
+    }
 }
 
-/// Returns the cells of a line.
-pub(crate) fn line_cells<'a>(alloc: Global, line: &'a [u8]) -> Result<Vec<&'a [u8]>, AllocError>
-    requires { is_narrow line.now ≡ true }
-    ensures cells { IfOk result (λ cells. texts cells.items ≡ line_cells line.entry.now) }
-    ensures few { IfOk result (λ cells. length cells.items ≤ MOST_DRAWN_PROCESSES) }
+/// Returns the cells among the words of a line.
+pub(crate) fn row_cells<'s, 'a>(words: &'s [&'a [u8]]) -> &'s [&'a [u8]]
+    ensures cells { texts result.now ≡ row_cells (texts words.entry.now) }
+    ensures few { length result.now ≤ length words.entry.now - WORDS_BEFORE_CELLS }
 {
-    let words = words_in(alloc, line)?;
-    let [_, _, _, _, cells @ ..] = words.as_slice() else {
-        return Ok(Vec::new(alloc));
-    };
-    Vec::from_slice(alloc, cells)
+    match words {
+        [_, _, _, _, cells @ ..] => cells,
+        _ => &[],
+    }
 }
 
 /// Adds a node for each process.

@@ -6,9 +6,10 @@ ghost use Rattle.histar_page.specs.Texts.{texts};
 ghost use Rattle.histar_page.specs.Items.{items_of};
 ghost use Rattle.histar_page.specs.Drawing.{cell_edge, edge_kind, is_narrow, row_edges, table_edges};
 
-use crate::drawing::line_cells;
+use crate::drawing::row_cells;
 use crate::jobs::{has_letter, process_of};
 use crate::kind::Kind;
+use crate::lines::words_in;
 use crate::piece::{Piece, add};
 use crate::places::{HALF_HEIGHT, MOST_DRAWN_FILES, MOST_DRAWN_PROCESSES, file_top, process_top};
 use histar_script::split_word;
@@ -28,8 +29,9 @@ pub(crate) fn push_edges<'a>(
     let mut rest = lines;
     let mut index = 0;
     'lines: while let [line, more @ ..] = rest {
-        let cells = line_cells(alloc, line)?;
-        push_row(pieces, split_word(line).0, index, cells.as_slice())?;
+        let words = words_in(alloc, line)?;
+        let cells = row_cells(words.as_slice());
+        push_row(pieces, split_word(line).0, index, cells)?;
         index += 1;
         rest = more;
     }

@@ -4,12 +4,12 @@ ghost use Rattle.std.specs.List.{flat_map};
 ghost use Rattle.histar_script.specs.Lines.{lines_of};
 ghost use Rattle.histar_page.specs.Texts.{texts};
 ghost use Rattle.histar_page.specs.Items.{items_of};
-ghost use Rattle.histar_page.specs.Drawing.{first_cells};
 ghost use Rattle.histar_page.specs.Files.{cell_items, cells_items, column_items, column_kind, files_items, first_flag};
 ghost use Rattle.histar_page.specs.Files.{is_job_cell, job_columns, later_flags, line_items, process_kind, right_item, right_kind};
 ghost use Rattle.histar_page.specs.Files.{row_items, runners_of, stat_item, table_items, user_item};
 ghost use Rattle.histar_page.specs.Lines.{words_of};
 
+use crate::drawing::{first_words, row_cells};
 use crate::jobs::{is_in_a_job, process_of};
 use crate::kind::Kind;
 use crate::lines::{lines_in, or_nothing, without_first, words_in};
@@ -48,10 +48,10 @@ fn user_pieces<'a>(alloc: Global, secrets: &'a [u8]) -> Result<Vec<Piece<'a>>, A
     ensures { IfOk result (λ pieces.
         items_of pieces.items ≡ map user_item (runners_of (lines_of secrets.entry.now))) }
 {
-    let runners = runners_in(alloc, secrets)?;
+    let lines = lines_in(alloc, secrets)?;
+    let words = first_words(alloc, lines.as_slice())?;
     let mut pieces = Vec::new(alloc);
-    fix(&mut pieces, Markup::BeginFiles)?;
-    push_users(&mut pieces, runners.as_slice())?;
+    push_users(&mut pieces, without_first(words.as_slice()))?;
     Ok(pieces)
 }
 
@@ -65,24 +65,11 @@ fn push_table<'a>(
     ensures { OnOk result (items_of pieces.new.items ≡ items_of pieces.old.items
         ++ table_items (job_columns (texts jobs.now) (texts lines.now)) (texts lines.now)) }
 {
-    let cells = first_cells(alloc, lines)?;
-    let flags = job_flags(alloc, jobs, cells.as_slice())?;
-    push_columns(pieces, flags.as_slice(), cells.as_slice())?;
+    let words = first_words(alloc, lines)?;
+    let cells = row_cells(words.as_slice());
+    let flags = job_flags(alloc, jobs, cells)?;
+    push_columns(pieces, flags.as_slice(), cells)?;
     push_rows(alloc, pieces, flags.as_slice(), lines)
-}
-
-/// Returns the cells of the first line.
-fn first_cells<'a>(alloc: Global, lines: &[&'a [u8]]) -> Result<Vec<&'a [u8]>, AllocError>
-    ensures { IfOk result (λ cells. texts cells.items ≡ first_cells (texts lines.now)) }
-{
-    let [first, ..] = lines else {
-        return Ok(Vec::new(alloc));
-    };
-    let words = words_in(alloc, first)?;
-    let [_, _, _, _, cells @ ..] = words.as_slice() else {
-        return Ok(Vec::new(alloc));
-    };
-    Vec::from_slice(alloc, cells)
 }
 
 /// Returns for each cell whether its process is in one of these jobs.
@@ -99,24 +86,12 @@ fn job_flags(alloc: Global, jobs: &[&[u8]], cells: &[&[u8]]) -> Result<Vec<bool>
     Ok(flags)
 }
 
-/// Returns the processes with their users, as the first line of the secrets has them.
-fn runners_in<'a>(alloc: Global, secrets: &'a [u8]) -> Result<Vec<&'a [u8]>, AllocError>
-    ensures { IfOk result (λ runners.
-        texts runners.items ≡ runners_of (lines_of secrets.entry.now)) }
-{
-    let lines = lines_in(alloc, secrets)?;
-    let [first, ..] = lines.as_slice() else {
-        return Ok(Vec::new(alloc));
-    };
-    let words = words_in(alloc, first)?;
-    Vec::from_slice(alloc, without_first(words.as_slice()))
-}
-
-/// Adds the user of each of these words, and the end of their row.
+/// Adds the row of the users of these words.
 fn push_users<'a>(pieces: &mut Vec<Piece<'a>>, runners: &[&'a [u8]]) -> Result<(), AllocError>
     ensures { OnOk result (items_of pieces.new.items
         ≡ items_of pieces.old.items ++ map user_item (texts runners.now)) }
 {
+    fix(pieces, Markup::BeginFiles)?;
     let mut rest = runners;
     'runners: while let [runner, more @ ..] = rest {
         show(
@@ -208,12 +183,10 @@ fn push_row<'a>(
         ≡ items_of pieces.old.items ++ row_items flags.now (words_of line.now)) }
 {
     let words = words_in(alloc, line)?;
-    fix(pieces, Markup::BeginRow)?;
-    push_words(pieces, flags, words.as_slice())?;
-    fix(pieces, Markup::EndRow)
+    push_words(pieces, flags, words.as_slice())
 }
 
-/// Adds the words of a row of the table.
+/// Adds a row of the table with these words.
 fn push_words<'a>(
     pieces: &mut Vec<Piece<'a>>,
     flags: &[bool],
@@ -228,6 +201,7 @@ fn push_words<'a>(
     add(
         pieces,
         &[
+            Piece::Fixed(Markup::BeginRow),
             Piece::Shown(Kind::Path, path),
             Piece::Shown(Kind::Stat, kind),
             Piece::Shown(Kind::Stat, owner),
@@ -237,20 +211,21 @@ fn push_words<'a>(
     push_cells(pieces, flags, cells)
 }
 
-/// Adds the words of a row that has too few.
+/// Adds a row that has too few words.
 fn push_short<'a>(pieces: &mut Vec<Piece<'a>>, words: &[&'a [u8]]) -> Result<(), AllocError>
     ensures { OnOk result (items_of pieces.new.items
         ≡ items_of pieces.old.items ++ map stat_item (texts words.now)) }
 {
+    fix(pieces, Markup::BeginRow)?;
     let mut rest = words;
     'words: while let [word, more @ ..] = rest {
         show(pieces, Kind::Stat, word)?;
         rest = more;
     }
-    Ok(())
+    fix(pieces, Markup::EndRow)
 }
 
-/// Adds processes with their rights.
+/// Adds processes with their rights, and the end of their row.
 fn push_cells<'a>(
     pieces: &mut Vec<Piece<'a>>,
     flags: &[bool],
@@ -266,7 +241,7 @@ fn push_cells<'a>(
         rest = more;
         later = later_flags(later);
     }
-    Ok(())
+    fix(pieces, Markup::EndRow)
 }
 
 /// Adds a process and its rights.
@@ -280,8 +255,7 @@ fn push_cell<'a>(
 {
     let (process, rights) = split_at_first(cell, COLON);
     show(pieces, process_kind(in_job), process)?;
-    push_rights(pieces, or_nothing(rights))?;
-    fix(pieces, Markup::EndCell)
+    push_rights(pieces, or_nothing(rights))
 }
 
 /// Returns the kind of the process of a cell.
@@ -295,7 +269,7 @@ fn process_kind(in_job: bool) -> Kind
     }
 }
 
-/// Adds the letters of rights.
+/// Adds the letters of rights, and the end of their cell.
 fn push_rights(pieces: &mut Vec<Piece>, rights: &[u8]) -> Result<(), AllocError>
     ensures { OnOk result (items_of pieces.new.items
         ≡ items_of pieces.old.items ++ map right_item rights.now) }
@@ -305,7 +279,7 @@ fn push_rights(pieces: &mut Vec<Piece>, rights: &[u8]) -> Result<(), AllocError>
         spell(pieces, right_kind(*letter), *letter)?;
         rest = more;
     }
-    Ok(())
+    fix(pieces, Markup::EndCell)
 }
 
 /// Returns whether the letter of a right is given or withheld.

@@ -60,28 +60,20 @@ fn push_job<'a>(
 {
     let call = words_in(alloc, call)?;
     let reply = words_in(alloc, reply)?;
-    push_begun(jobs, call.as_slice(), reply.as_slice())
+    jobs.extend_from_slice(job_begun(call.as_slice(), reply.as_slice()))
 }
 
-/// Adds the first process of a job, if the words of a call and of its reply say that one has begun.
-fn push_begun<'a>(
-    jobs: &mut Vec<&'a [u8]>,
-    call: &[&'a [u8]],
-    reply: &[&'a [u8]],
-) -> Result<(), AllocError>
-    ensures { OnOk result (texts jobs.new.items
-        ≡ texts jobs.old.items ++ job_begun (texts call.now) (texts reply.now)) }
+/// Returns the first process of a job, if the words of a call and of its reply say that one has begun.
+fn job_begun<'s, 'a>(call: &[&[u8]], reply: &'s [&'a [u8]]) -> &'s [&'a [u8]]
+    ensures { texts result.now ≡ job_begun (texts call.now) (texts reply.entry.now) }
 {
     let [_, word, ..] = call else {
-        return Ok(());
+        return &[];
     };
-    let [_, job] = reply else {
-        return Ok(());
+    let [_, _] = reply else {
+        return &[];
     };
-    if *word == WRAP {
-        jobs.push(*job)?;
-    }
-    Ok(())
+    if *word == WRAP { &reply[1..] } else { &[] }
 }
 
 /// Checks whether a process is the first of a job or below it.

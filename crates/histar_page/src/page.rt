@@ -1,8 +1,8 @@
 //! The whole page.
-ghost use Rattle.std.specs.Prelude.{◌≡◌, IfOk, OnOk};
+ghost use Rattle.std.specs.Prelude.{◌≡◌, ◌++◌, true, IfOk, is_ok, OnOk};
 ghost use Rattle.histar_page.specs.Items.{items_of};
-ghost use Rattle.histar_page.specs.Page.{AddsItems, IsPage, drawing_shown, files_shown, head_shown};
-ghost use Rattle.histar_page.specs.Page.{rights_shown, secrets_shown, sources_of};
+ghost use Rattle.histar_page.specs.Rendering.{rendered};
+ghost use Rattle.histar_page.specs.Page.{AddsItems, IsPage, files_shown, rights_shown, sources_of};
 
 use crate::drawing::drawing_pieces;
 use crate::files::files_pieces;
@@ -37,22 +37,13 @@ pub fn page_text(alloc: Global, texts: &Texts) -> Result<Vec<u8>, AllocError>
     ensures { IfOk result (λ page. IsPage (sources_of texts.now) page.items) }
 {
     let mut page = Vec::new(alloc);
-    render_head(alloc, &mut page, texts)?;
-    render(
+    render_part(
         &mut page,
-        session_pieces(alloc, texts.script, texts.output)?.as_slice(),
+        head_pieces(alloc, texts.name, texts.version, texts.output),
     )?;
+    render_part(&mut page, session_pieces(alloc, texts.script, texts.output))?;
     render_rights(alloc, &mut page, texts)?;
     Ok(page)
-}
-
-/// Adds the head.
-fn render_head(alloc: Global, page: &mut Vec<u8>, texts: &Texts) -> Result<(), AllocError>
-    ensures { OnOk result (AddsItems page.old.items page.new.items
-        (head_shown (sources_of texts.now))) }
-{
-    let pieces = head_pieces(alloc, texts.name, texts.version, texts.output)?;
-    render(page, pieces.as_slice())
 }
 
 /// Adds the parts that show rights: the files, the secrets and the drawing.
@@ -60,35 +51,20 @@ fn render_rights(alloc: Global, page: &mut Vec<u8>, texts: &Texts) -> Result<(),
     ensures { OnOk result (AddsItems page.old.items page.new.items
         (rights_shown (sources_of texts.now))) }
 {
-    render_files(alloc, page, texts)?;
-    render_secrets(alloc, page, texts)?;
-    render_drawing(alloc, page, texts)
+    render_part(page, files_of(alloc, texts))?;
+    render_part(page, secrets_pieces(alloc, texts.secrets))?;
+    render_part(
+        page,
+        drawing_pieces(alloc, texts.script, texts.output, texts.table),
+    )
 }
 
-/// Adds the part that shows files.
-fn render_files(alloc: Global, page: &mut Vec<u8>, texts: &Texts) -> Result<(), AllocError>
-    ensures { OnOk result (AddsItems page.old.items page.new.items
-        (files_shown (sources_of texts.now))) }
+/// Adds the HTML of a part, if there was memory for its pieces.
+fn render_part(page: &mut Vec<u8>, part: Result<Vec<Piece>, AllocError>) -> Result<(), AllocError>
+    ensures { OnOk result ((is_ok part.entry ≡ true) × IfOk part.entry (λ pieces.
+        page.new.items ≡ page.old.items ++ rendered pieces.items)) }
 {
-    let pieces = files_of(alloc, texts)?;
-    render(page, pieces.as_slice())
-}
-
-/// Adds the part that shows secrets.
-fn render_secrets(alloc: Global, page: &mut Vec<u8>, texts: &Texts) -> Result<(), AllocError>
-    ensures { OnOk result (AddsItems page.old.items page.new.items
-        (secrets_shown (sources_of texts.now))) }
-{
-    let pieces = secrets_pieces(alloc, texts.secrets)?;
-    render(page, pieces.as_slice())
-}
-
-/// Adds the part that shows the drawing.
-fn render_drawing(alloc: Global, page: &mut Vec<u8>, texts: &Texts) -> Result<(), AllocError>
-    ensures { OnOk result (AddsItems page.old.items page.new.items
-        (drawing_shown (sources_of texts.now))) }
-{
-    let pieces = drawing_pieces(alloc, texts.script, texts.output, texts.table)?;
+    let pieces = part?;
     render(page, pieces.as_slice())
 }
 

@@ -41,8 +41,7 @@ pub(crate) fn add<'a>(pieces: &mut Vec<Piece<'a>>, more: &[Piece<'a>]) -> Result
 pub(crate) fn fix(pieces: &mut Vec<Piece>, markup: Markup) -> Result<(), AllocError>
     ensures { OnOk result (items_of pieces.new.items ≡ items_of pieces.old.items) }
 {
-    pieces.push(Piece::Fixed(markup))?;
-    Ok(())
+    pieces.extend_from_slice(&[Piece::Fixed(markup)])
 }
 
 /// Adds a text of this kind.
@@ -54,8 +53,7 @@ pub(crate) fn show<'a>(
     ensures { OnOk result (items_of pieces.new.items
         ≡ items_of pieces.old.items ++ (kind, text.now) ∷ []) }
 {
-    pieces.push(Piece::Shown(kind, text))?;
-    Ok(())
+    pieces.extend_from_slice(&[Piece::Shown(kind, text)])
 }
 
 /// Adds a number of this kind.
@@ -63,8 +61,7 @@ pub(crate) fn count(pieces: &mut Vec<Piece>, kind: Kind, number: u64) -> Result<
     ensures { OnOk result (items_of pieces.new.items
         ≡ items_of pieces.old.items ++ (kind, decimal number) ∷ []) }
 {
-    pieces.push(Piece::Counted(kind, number))?;
-    Ok(())
+    pieces.extend_from_slice(&[Piece::Counted(kind, number)])
 }
 
 /// Adds a letter of this kind.
@@ -72,8 +69,7 @@ pub(crate) fn spell(pieces: &mut Vec<Piece>, kind: Kind, letter: u8) -> Result<(
     ensures { OnOk result (items_of pieces.new.items
         ≡ items_of pieces.old.items ++ (kind, letter ∷ []) ∷ []) }
 {
-    pieces.push(Piece::Letter(kind, letter))?;
-    Ok(())
+    pieces.extend_from_slice(&[Piece::Letter(kind, letter)])
 }
 
 /// Adds the HTML of these pieces to a page.

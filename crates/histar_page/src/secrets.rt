@@ -11,7 +11,7 @@ use crate::files::COLON;
 use crate::kind::Kind;
 use crate::lines::{lines_in, or_nothing, without_first, words_in};
 use crate::markup::Markup;
-use crate::piece::{Piece, begun, fix, show};
+use crate::piece::{Piece, add, begun, fix, show};
 use histar_flat::split_at_first;
 use std::alloc::{AllocError, Global};
 
@@ -72,24 +72,34 @@ fn push_secret<'a>(
         ≡ items_of pieces.old.items ++ secret_items (words_of line.now)) }
 {
     let words = words_in(alloc, line)?;
-    fix(pieces, Markup::BeginSecret)?;
-    push_words(pieces, words.as_slice())?;
-    fix(pieces, Markup::EndSecret)
+    push_words(pieces, words.as_slice())
 }
 
-/// Adds the words of a line: a path, and then processes and users.
+/// Adds a line with these words: a path, and then processes and users.
 fn push_words<'a>(pieces: &mut Vec<Piece<'a>>, words: &[&'a [u8]]) -> Result<(), AllocError>
     ensures { OnOk result (items_of pieces.new.items
         ≡ items_of pieces.old.items ++ secret_items (texts words.now)) }
 {
     let [path, members @ ..] = words else {
-        return Ok(());
+        return add(
+            pieces,
+            &[
+                Piece::Fixed(Markup::BeginSecret),
+                Piece::Fixed(Markup::EndSecret),
+            ],
+        );
     };
-    show(pieces, Kind::Secret, path)?;
+    add(
+        pieces,
+        &[
+            Piece::Fixed(Markup::BeginSecret),
+            Piece::Shown(Kind::Secret, path),
+        ],
+    )?;
     push_members(pieces, members)
 }
 
-/// Adds processes and users, each by the word before it.
+/// Adds processes and users, each by the word before it, and the end of their line.
 fn push_members<'a>(pieces: &mut Vec<Piece<'a>>, members: &[&'a [u8]]) -> Result<(), AllocError>
     ensures { OnOk result (items_of pieces.new.items
         ≡ items_of pieces.old.items ++ map member_item (texts members.now)) }
@@ -99,7 +109,7 @@ fn push_members<'a>(pieces: &mut Vec<Piece<'a>>, members: &[&'a [u8]]) -> Result
         push_member(pieces, member)?;
         rest = more;
     }
-    Ok(())
+    fix(pieces, Markup::EndSecret)
 }
 
 /// Adds a process or a user, by the word before it.
