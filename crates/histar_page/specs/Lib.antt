@@ -8,6 +8,7 @@ pub mod Head
 pub mod Session
 pub mod Files
 pub mod Secrets
+pub mod Views
 pub mod Places
 pub mod Drawing
 pub mod Page

@@ -15,6 +15,7 @@ use crate::kind::Kind;
 use crate::lines::{lines_in, or_nothing, without_first, words_in};
 use crate::markup::Markup;
 use crate::piece::{Piece, add, fix, show, spell};
+use crate::views::{View, push_framed};
 use histar_flat::split_at_first;
 use std::alloc::{AllocError, Global};
 
@@ -51,7 +52,13 @@ fn user_pieces<'a>(alloc: Global, secrets: &'a [u8]) -> Result<Vec<Piece<'a>>, A
     let lines = lines_in(alloc, secrets)?;
     let words = first_words(alloc, lines.as_slice())?;
     let mut pieces = Vec::new(alloc);
-    push_users(&mut pieces, without_first(words.as_slice()))?;
+    push_framed(
+        &mut pieces,
+        Markup::BeginFiles,
+        View::Users,
+        without_first(words.as_slice()),
+        Markup::EndUsers,
+    )?;
     Ok(pieces)
 }
 
@@ -84,24 +91,6 @@ fn job_flags(alloc: Global, jobs: &[&[u8]], cells: &[&[u8]]) -> Result<Vec<bool>
         rest = more;
     }
     Ok(flags)
-}
-
-/// Adds the row of the users of these words.
-fn push_users<'a>(pieces: &mut Vec<Piece<'a>>, runners: &[&'a [u8]]) -> Result<(), AllocError>
-    ensures { OnOk result (items_of pieces.new.items
-        ≡ items_of pieces.old.items ++ map user_item (texts runners.now)) }
-{
-    fix(pieces, Markup::BeginFiles)?;
-    let mut rest = runners;
-    'runners: while let [runner, more @ ..] = rest {
-        show(
-            pieces,
-            Kind::ColumnUser,
-            or_nothing(split_at_first(runner, COLON).1),
-        )?;
-        rest = more;
-    }
-    fix(pieces, Markup::EndUsers)
 }
 
 /// Adds the process of each column, and the end of their row.
@@ -196,7 +185,7 @@ fn push_words<'a>(
         ≡ items_of pieces.old.items ++ row_items flags.now (texts words.now)) }
 {
     let [path, kind, owner, mode, cells @ ..] = words else {
-        return push_short(pieces, words);
+        return push_framed(pieces, Markup::BeginRow, View::Stats, words, Markup::EndRow);
     };
     add(
         pieces,
@@ -209,20 +198,6 @@ fn push_words<'a>(
         ],
     )?;
     push_cells(pieces, flags, cells)
-}
-
-/// Adds a row that has too few words.
-fn push_short<'a>(pieces: &mut Vec<Piece<'a>>, words: &[&'a [u8]]) -> Result<(), AllocError>
-    ensures { OnOk result (items_of pieces.new.items
-        ≡ items_of pieces.old.items ++ map stat_item (texts words.now)) }
-{
-    fix(pieces, Markup::BeginRow)?;
-    let mut rest = words;
-    'words: while let [word, more @ ..] = rest {
-        show(pieces, Kind::Stat, word)?;
-        rest = more;
-    }
-    fix(pieces, Markup::EndRow)
 }
 
 /// Adds processes with their rights, and the end of their row.

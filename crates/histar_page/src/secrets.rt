@@ -7,12 +7,11 @@ ghost use Rattle.histar_page.specs.Items.{items_of};
 ghost use Rattle.histar_page.specs.Lines.{words_of};
 ghost use Rattle.histar_page.specs.Secrets.{member_item, member_kind, secret_items, secret_line_items, secrets_items};
 
-use crate::files::COLON;
 use crate::kind::Kind;
-use crate::lines::{lines_in, or_nothing, without_first, words_in};
+use crate::lines::{lines_in, without_first, words_in};
 use crate::markup::Markup;
-use crate::piece::{Piece, add, begun, fix, show};
-use histar_flat::split_at_first;
+use crate::piece::{Piece, add, begun, fix};
+use crate::views::{View, push_each};
 use std::alloc::{AllocError, Global};
 
 /// The word before a process that is trusted.
@@ -96,33 +95,12 @@ fn push_words<'a>(pieces: &mut Vec<Piece<'a>>, words: &[&'a [u8]]) -> Result<(),
             Piece::Shown(Kind::Secret, path),
         ],
     )?;
-    push_members(pieces, members)
-}
-
-/// Adds processes and users, each by the word before it, and the end of their line.
-fn push_members<'a>(pieces: &mut Vec<Piece<'a>>, members: &[&'a [u8]]) -> Result<(), AllocError>
-    ensures { OnOk result (items_of pieces.new.items
-        ≡ items_of pieces.old.items ++ map member_item (texts members.now)) }
-{
-    let mut rest = members;
-    'members: while let [member, more @ ..] = rest {
-        push_member(pieces, member)?;
-        rest = more;
-    }
+    push_each(pieces, View::Members, members)?;
     fix(pieces, Markup::EndSecret)
 }
 
-/// Adds a process or a user, by the word before it.
-fn push_member<'a>(pieces: &mut Vec<Piece<'a>>, member: &'a [u8]) -> Result<(), AllocError>
-    ensures { OnOk result (items_of pieces.new.items
-        ≡ items_of pieces.old.items ++ member_item member.now ∷ []) }
-{
-    let (word, name) = split_at_first(member, COLON);
-    show(pieces, member_kind(word), or_nothing(name))
-}
-
 /// Returns the role of a process or a user towards a file, by the word before it.
-fn member_kind(word: &[u8]) -> Kind
+pub(crate) fn member_kind(word: &[u8]) -> Kind
     ensures { result ≡ member_kind word.now }
 {
     if word == TRUSTED {

@@ -17,7 +17,8 @@ use crate::lines::{
     replies_among,
 };
 use crate::markup::Markup;
-use crate::piece::{Piece, add, fix, show};
+use crate::piece::{Piece, add, fix};
+use crate::views::{View, push_each};
 use histar_script::split_word;
 use std::alloc::{AllocError, Global};
 
@@ -104,8 +105,8 @@ fn push_calls<'a>(
     }
     let (_, other_calls) = raw_calls.split_at(raw_at);
     let (_, other_explanations) = explanations.split_at(why_at);
-    push_other_calls(pieces, other_calls)?;
-    push_other_explanations(pieces, other_explanations)
+    push_each(pieces, View::OtherCalls, other_calls)?;
+    push_each(pieces, View::OtherExplanations, other_explanations)
 }
 
 /// Returns the lines from a place on, up to the first with another word after its mark.
@@ -137,7 +138,7 @@ fn push_boot<'a>(pieces: &mut Vec<Piece<'a>>, boot: &[&'a [u8]]) -> Result<(), A
             Piece::Fixed(Markup::BeginBehind),
         ],
     )?;
-    push_raw_calls(pieces, boot)?;
+    push_each(pieces, View::RawCalls, boot)?;
     fix(pieces, Markup::EndCall)
 }
 
@@ -162,8 +163,8 @@ fn push_call<'a>(
         reply,
         Markup::BeginBehind,
     )?;
-    push_raw_calls(pieces, raw_calls)?;
-    push_explanations(pieces, explanations)?;
+    push_each(pieces, View::RawCalls, raw_calls)?;
+    push_each(pieces, View::Explanations, explanations)?;
     fix(pieces, Markup::EndCall)
 }
 
@@ -212,87 +213,4 @@ pub(crate) fn call_on<'a>(script: &[&'a [u8]], reply: &[u8]) -> &'a [u8]
         Some(line) => line,
         None => &[],
     }
-}
-
-/// Adds raw calls.
-fn push_raw_calls<'a>(pieces: &mut Vec<Piece<'a>>, lines: &[&'a [u8]]) -> Result<(), AllocError>
-    ensures { OnOk result (items_of pieces.new.items
-        ≡ items_of pieces.old.items ++ map raw_item (texts lines.now)) }
-{
-    let mut rest = lines;
-    'lines: while let [line, more @ ..] = rest {
-        show(pieces, raw_kind(line), line)?;
-        rest = more;
-    }
-    Ok(())
-}
-
-/// Returns whether a raw call was made or denied.
-fn raw_kind(line: &[u8]) -> Kind
-    ensures { result ≡ raw_kind line.now }
-{
-    if is_denied(line) {
-        Kind::DeniedCall
-    } else {
-        Kind::RawCall
-    }
-}
-
-/// Adds explanations.
-fn push_explanations<'a>(pieces: &mut Vec<Piece<'a>>, lines: &[&'a [u8]]) -> Result<(), AllocError>
-    ensures { OnOk result (items_of pieces.new.items
-        ≡ items_of pieces.old.items ++ map why_item (texts lines.now)) }
-{
-    let mut rest = lines;
-    'lines: while let [line, more @ ..] = rest {
-        show(pieces, Kind::Explanation, line)?;
-        rest = more;
-    }
-    Ok(())
-}
-
-/// Adds raw calls that belong to no reply, each after its own number.
-fn push_other_calls<'a>(pieces: &mut Vec<Piece<'a>>, lines: &[&'a [u8]]) -> Result<(), AllocError>
-    ensures { OnOk result (items_of pieces.new.items
-        ≡ items_of pieces.old.items ++ flat_map other_call_items (texts lines.now)) }
-{
-    let mut rest = lines;
-    'lines: while let [line, more @ ..] = rest {
-        push_other(pieces, line, raw_kind(line))?;
-        rest = more;
-    }
-    Ok(())
-}
-
-/// Adds explanations that belong to no reply, each after its own number.
-fn push_other_explanations<'a>(
-    pieces: &mut Vec<Piece<'a>>,
-    lines: &[&'a [u8]],
-) -> Result<(), AllocError>
-    ensures { OnOk result (items_of pieces.new.items
-        ≡ items_of pieces.old.items ++ flat_map other_why_items (texts lines.now)) }
-{
-    let mut rest = lines;
-    'lines: while let [line, more @ ..] = rest {
-        push_other(pieces, line, Kind::Explanation)?;
-        rest = more;
-    }
-    Ok(())
-}
-
-/// Adds a line of this kind after its own number.
-fn push_other<'a>(pieces: &mut Vec<Piece<'a>>, line: &'a [u8], kind: Kind) -> Result<(), AllocError>
-    ensures { OnOk result (items_of pieces.new.items ≡ items_of pieces.old.items
-        ++ (OtherLine, mark_number line.now) ∷ (kind, line.now) ∷ []) }
-{
-    add(
-        pieces,
-        &[
-            Piece::Fixed(Markup::BeginOther),
-            Piece::Shown(Kind::OtherLine, mark_number(line)),
-            Piece::Fixed(Markup::BeginBehind),
-            Piece::Shown(kind, line),
-            Piece::Fixed(Markup::EndCall),
-        ],
-    )
 }
