@@ -6,7 +6,7 @@ ghost use Rattle.histar_page.specs.Texts.{texts};
 ghost use Rattle.histar_page.specs.Items.{items_of};
 ghost use Rattle.histar_page.specs.Files.{cell_items, cells_items, column_items, column_kind, files_items, first_flag};
 ghost use Rattle.histar_page.specs.Files.{is_job_cell, job_columns, later_flags, line_items, process_kind, right_item, right_kind};
-ghost use Rattle.histar_page.specs.Files.{row_items, runners_of, stat_item, table_items, user_item};
+ghost use Rattle.histar_page.specs.Files.{row_items, runners_of, table_items, user_item};
 ghost use Rattle.histar_page.specs.Lines.{words_of};
 
 use crate::drawing::{first_words, row_cells};

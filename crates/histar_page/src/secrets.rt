@@ -1,11 +1,11 @@
 //! The secrets on a page: each file that not everyone may read, and which processes it depends on.
-ghost use Rattle.std.specs.Prelude.{◌≡◌, ◌++◌, ◌∷◌, [], IfOk, OnOk, map};
+ghost use Rattle.std.specs.Prelude.{◌≡◌, ◌++◌, IfOk, OnOk};
 ghost use Rattle.std.specs.List.{flat_map};
 ghost use Rattle.histar_script.specs.Lines.{lines_of};
 ghost use Rattle.histar_page.specs.Texts.{texts};
 ghost use Rattle.histar_page.specs.Items.{items_of};
 ghost use Rattle.histar_page.specs.Lines.{words_of};
-ghost use Rattle.histar_page.specs.Secrets.{member_item, member_kind, secret_items, secret_line_items, secrets_items};
+ghost use Rattle.histar_page.specs.Secrets.{member_kind, secret_items, secret_line_items, secrets_items};
 
 use crate::kind::Kind;
 use crate::lines::{lines_in, without_first, words_in};

@@ -1,21 +1,18 @@
 //! The session on a page: each call with its reply, and then its raw calls.
-ghost use Rattle.std.specs.Prelude.{◌≡◌, ◌≤◌, ◌+◌, ◌++◌, ◌∷◌, [], drop, length, map, take, true, IfOk, OnOk};
-ghost use Rattle.std.specs.List.{flat_map, list_all};
+ghost use Rattle.std.specs.Prelude.{◌≡◌, ◌≤◌, ◌+◌, ◌++◌, [], drop, length, take, true, IfOk, OnOk};
+ghost use Rattle.std.specs.List.{list_all};
 ghost use Rattle.histar_script.specs.Lines.{lines_of};
 ghost use Rattle.histar_page.specs.Texts.{texts};
 ghost use Rattle.histar_page.specs.Items.{items_of};
 ghost use Rattle.histar_page.specs.Session.{AddsSession, answer_items, boot_items, call_items, call_on, IsSession};
-ghost use Rattle.histar_page.specs.Session.{other_call_items, other_why_items, raw_item, raw_kind, reply_kind, why_item};
-ghost use Rattle.histar_page.specs.Lines.{is_own, mark_number};
+ghost use Rattle.histar_page.specs.Session.{reply_kind};
+ghost use Rattle.histar_page.specs.Lines.{is_own};
 ghost use Rattle.histar_page.specs.Order.{other_numbers, past_own, session_numbers};
 ghost use Rattle.histar_page.specs.declared.kind.Kind.TheVariants.{OtherLine};
 
 use crate::head::{RAW_MARK, WHY_MARK, is_refused};
 use crate::kind::Kind;
-use crate::lines::{
-    after_word, front_number, is_denied, lines_in, mark_number, marked_among, own_count,
-    replies_among,
-};
+use crate::lines::{after_word, front_number, lines_in, marked_among, own_count, replies_among};
 use crate::markup::Markup;
 use crate::piece::{Piece, add, fix};
 use crate::views::{View, push_each};
