@@ -7,16 +7,10 @@ ghost use Rattle.histar_page.specs.Lines.{is_denied, is_refused};
 ghost use Rattle.histar_page.specs.Head.{head_items};
 
 use crate::kind::Kind;
-use crate::lines::{after_word, is_denied, lines_in, marked_among, replies_among};
+use crate::lines::{Class, after_word, among, is_denied, lines_in};
 use crate::markup::Markup;
 use crate::piece::Piece;
 use std::alloc::{AllocError, Global};
-
-/// The mark of a raw call in the output of a run.
-pub(crate) const RAW_MARK: u8 = b'@';
-
-/// The mark of an explanation in the output of a run.
-pub(crate) const WHY_MARK: u8 = b'?';
 
 /// Returns the pieces of the head of a page: the name of the script's file, as the title and as a heading, the
 /// numbers of calls, of refusals and of denials in the output, and the version.
@@ -30,8 +24,8 @@ pub(crate) fn head_pieces<'a>(
         ≡ head_items name.entry.now version.entry.now (lines_of output.entry.now)) }
 {
     let lines = lines_in(alloc, output)?;
-    let replies = replies_among(alloc, lines.as_slice())?;
-    let raw_calls = marked_among(alloc, lines.as_slice(), RAW_MARK)?;
+    let replies = among(alloc, Class::Reply, lines.as_slice())?;
+    let raw_calls = among(alloc, Class::RawCall, lines.as_slice())?;
     Vec::from_slice(
         alloc,
         &[

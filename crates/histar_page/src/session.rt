@@ -1,5 +1,5 @@
 //! The session on a page: each call with its reply, and then its raw calls.
-ghost use Rattle.std.specs.Prelude.{◌≡◌, ◌≤◌, ◌+◌, ◌++◌, [], drop, length, take, true, IfOk, OnOk};
+ghost use Rattle.std.specs.Prelude.{◌≡◌, ◌≤◌, ◌+◌, ◌++◌, drop, length, take, true, IfOk, OnOk};
 ghost use Rattle.std.specs.List.{list_all};
 ghost use Rattle.histar_script.specs.Lines.{lines_of};
 ghost use Rattle.histar_page.specs.Texts.{texts};
@@ -8,11 +8,10 @@ ghost use Rattle.histar_page.specs.Session.{AddsSession, answer_items, boot_item
 ghost use Rattle.histar_page.specs.Session.{reply_kind};
 ghost use Rattle.histar_page.specs.Lines.{is_own};
 ghost use Rattle.histar_page.specs.Order.{other_numbers, past_own, session_numbers};
-ghost use Rattle.histar_page.specs.declared.kind.Kind.TheVariants.{OtherLine};
 
-use crate::head::{RAW_MARK, WHY_MARK, is_refused};
+use crate::head::is_refused;
 use crate::kind::Kind;
-use crate::lines::{after_word, front_number, lines_in, marked_among, own_count, replies_among};
+use crate::lines::{Class, after_word, among, front_number, lines_in, own_count};
 use crate::markup::Markup;
 use crate::piece::{Piece, add, fix};
 use crate::views::{View, push_each};
@@ -42,9 +41,9 @@ fn line_pieces<'a>(
     ensures { IfOk result (λ pieces.
         IsSession (texts script.now) (texts output.now) (items_of pieces.items)) }
 {
-    let replies = replies_among(alloc, output)?;
-    let raw_calls = marked_among(alloc, output, RAW_MARK)?;
-    let explanations = marked_among(alloc, output, WHY_MARK)?;
+    let replies = among(alloc, Class::Reply, output)?;
+    let raw_calls = among(alloc, Class::RawCall, output)?;
+    let explanations = among(alloc, Class::Explanation, output)?;
     let mut pieces = Vec::new(alloc);
     push_session(
         &mut pieces,
