@@ -82,7 +82,8 @@ fn push_file_bands(
 
 /// Checks whether a process of a job may write the file of a line.
 fn is_changed(alloc: Global, job: &[u8], line: &[u8]) -> Result<bool, AllocError>
-    ensures { IfOk result (λ changed. changed ≡ list_any (changes_by job.now) (line_cells line.now)) }
+    ensures { IfOk result (λ changed.
+        changed ≡ list_any (changes_by job.now) (line_cells line.now)) }
 {
     let words = words_in(alloc, line)?;
     Ok(one_changes(job, row_cells(words.as_slice())))
