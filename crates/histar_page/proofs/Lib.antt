@@ -3,3 +3,4 @@ pub mod WordLemmas
 pub mod OwnLemmas
 pub mod SessionLemmas
 pub mod PageLemmas
+pub mod ViewLemmas

@@ -142,6 +142,10 @@ bands_of cells lines job = process_bands job 0 cells ++ file_bands job 0 lines
 
 -- ---- the drawing
 
+-- an edge for each cell with `r` or `w`; and each process and each path
+abbrev pub graph_items : List (List ℕ) → List (List ℕ) → List Item
+graph_items cells lines = table_edges 0 lines ++ process_nodes 0 cells ++ file_nodes 0 lines
+
 -- its height; the bands of each job; an edge for each cell with `r` or `w`; and each process and each path
 abbrev pub drawn_items : List (List ℕ) → List (List ℕ) → List Item
 drawn_items jobs lines =

@@ -3,11 +3,13 @@ pub mod Texts
 pub mod Rendering
 pub mod Items
 pub mod Lines
+pub mod Classes
 pub mod Order
 pub mod Head
 pub mod Session
 pub mod Files
 pub mod Secrets
+pub mod Views
 pub mod Places
 pub mod Drawing
 pub mod Page

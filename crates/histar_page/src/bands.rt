@@ -1,13 +1,14 @@
 //! The bands of a drawing: around the processes of a job, and around the files that they may write.
-ghost use Rattle.std.specs.Prelude.{◌≡◌, ◌≤◌, ◌++◌, true, length, IfOk, OnOk};
-ghost use Rattle.std.specs.List.{flat_map, list_all, list_any};
+ghost use Rattle.std.specs.Prelude.{◌≡◌, ◌≤◌, ◌++◌, length, IfOk, OnOk};
+ghost use Rattle.std.specs.List.{flat_map, list_any};
 ghost use Rattle.histar_page.specs.Texts.{texts};
 ghost use Rattle.histar_page.specs.Items.{items_of};
-ghost use Rattle.histar_page.specs.Drawing.{bands_of, changes_by, file_bands, is_narrow, line_cells, process_bands};
+ghost use Rattle.histar_page.specs.Drawing.{bands_of, changes_by, file_bands, line_cells, process_bands};
 
-use crate::drawing::line_cells;
+use crate::drawing::row_cells;
 use crate::jobs::{has_letter, is_within, process_of};
 use crate::kind::Kind;
+use crate::lines::words_in;
 use crate::piece::{Piece, count};
 use crate::places::{MOST_DRAWN_FILES, MOST_DRAWN_PROCESSES, file_top, process_top};
 use std::alloc::{AllocError, Global};
@@ -22,7 +23,6 @@ pub(crate) fn push_jobs<'a>(
 ) -> Result<(), AllocError>
     requires processes { length cells.now ≤ MOST_DRAWN_PROCESSES }
     requires files { length lines.now ≤ MOST_DRAWN_FILES }
-    requires narrow { list_all is_narrow (texts lines.now) ≡ true }
     ensures { OnOk result (items_of pieces.new.items ≡ items_of pieces.old.items
         ++ flat_map (bands_of (texts cells.now) (texts lines.now)) (texts jobs.now)) }
 {
@@ -64,8 +64,7 @@ fn push_file_bands(
     job: &[u8],
     lines: &[&[u8]],
 ) -> Result<(), AllocError>
-    requires few { length lines.now ≤ MOST_DRAWN_FILES }
-    requires narrow { list_all is_narrow (texts lines.now) ≡ true }
+    requires { length lines.now ≤ MOST_DRAWN_FILES }
     ensures { OnOk result (items_of pieces.new.items
         ≡ items_of pieces.old.items ++ file_bands job.now 0 (texts lines.now)) }
 {
@@ -83,11 +82,11 @@ fn push_file_bands(
 
 /// Checks whether a process of a job may write the file of a line.
 fn is_changed(alloc: Global, job: &[u8], line: &[u8]) -> Result<bool, AllocError>
-    requires { is_narrow line.now ≡ true }
-    ensures { IfOk result (λ changed. changed ≡ list_any (changes_by job.now) (line_cells line.now)) }
+    ensures { IfOk result (λ changed.
+        changed ≡ list_any (changes_by job.now) (line_cells line.now)) }
 {
-    let cells = line_cells(alloc, line)?;
-    Ok(one_changes(job, cells.as_slice()))
+    let words = words_in(alloc, line)?;
+    Ok(one_changes(job, row_cells(words.as_slice())))
 }
 
 /// Checks whether one of these cells is of a process of a job that may write.

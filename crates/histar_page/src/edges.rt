@@ -6,10 +6,11 @@ ghost use Rattle.histar_page.specs.Texts.{texts};
 ghost use Rattle.histar_page.specs.Items.{items_of};
 ghost use Rattle.histar_page.specs.Drawing.{cell_edge, edge_kind, is_narrow, row_edges, table_edges};
 
-use crate::drawing::line_cells;
+use crate::drawing::row_cells;
 use crate::jobs::{has_letter, process_of};
 use crate::kind::Kind;
-use crate::piece::{Piece, count, show};
+use crate::lines::words_in;
+use crate::piece::{Piece, add};
 use crate::places::{HALF_HEIGHT, MOST_DRAWN_FILES, MOST_DRAWN_PROCESSES, file_top, process_top};
 use histar_script::split_word;
 use std::alloc::{AllocError, Global};
@@ -28,8 +29,9 @@ pub(crate) fn push_edges<'a>(
     let mut rest = lines;
     let mut index = 0;
     'lines: while let [line, more @ ..] = rest {
-        let cells = line_cells(alloc, line)?;
-        push_row(pieces, split_word(line).0, index, cells.as_slice())?;
+        let words = words_in(alloc, line)?;
+        let cells = row_cells(words.as_slice());
+        push_row(pieces, split_word(line).0, index, cells)?;
         index += 1;
         rest = more;
     }
@@ -74,10 +76,15 @@ fn push_edge<'a>(
     let Some(kind) = edge_kind(has_letter(b'r', cell), has_letter(b'w', cell)) else {
         return Ok(());
     };
-    count(pieces, kind, process_top(process) + HALF_HEIGHT)?;
-    count(pieces, Kind::EdgeEnd, file_top(file) + HALF_HEIGHT)?;
-    show(pieces, Kind::EdgeProcess, process_of(cell))?;
-    show(pieces, Kind::EdgeFile, path)
+    add(
+        pieces,
+        &[
+            Piece::Counted(kind, process_top(process) + HALF_HEIGHT),
+            Piece::Counted(Kind::EdgeEnd, file_top(file) + HALF_HEIGHT),
+            Piece::Shown(Kind::EdgeProcess, process_of(cell)),
+            Piece::Shown(Kind::EdgeFile, path),
+        ],
+    )
 }
 
 /// Returns the kind of the edge between a file and a process that may read it or not, and write it or not.

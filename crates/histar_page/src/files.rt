@@ -4,17 +4,18 @@ ghost use Rattle.std.specs.List.{flat_map};
 ghost use Rattle.histar_script.specs.Lines.{lines_of};
 ghost use Rattle.histar_page.specs.Texts.{texts};
 ghost use Rattle.histar_page.specs.Items.{items_of};
-ghost use Rattle.histar_page.specs.Drawing.{first_cells};
 ghost use Rattle.histar_page.specs.Files.{cell_items, cells_items, column_items, column_kind, files_items, first_flag};
 ghost use Rattle.histar_page.specs.Files.{is_job_cell, job_columns, later_flags, line_items, process_kind, right_item, right_kind};
-ghost use Rattle.histar_page.specs.Files.{row_items, runners_of, stat_item, table_items, user_item};
+ghost use Rattle.histar_page.specs.Files.{row_items, runners_of, table_items, user_item};
 ghost use Rattle.histar_page.specs.Lines.{words_of};
 
+use crate::drawing::{first_words, row_cells};
 use crate::jobs::{is_in_a_job, process_of};
 use crate::kind::Kind;
 use crate::lines::{lines_in, or_nothing, without_first, words_in};
 use crate::markup::Markup;
-use crate::piece::{Piece, fix, show, spell};
+use crate::piece::{Piece, add, fix, show, spell};
+use crate::views::{View, push_framed};
 use histar_flat::split_at_first;
 use std::alloc::{AllocError, Global};
 
@@ -38,13 +39,26 @@ pub(crate) fn files_pieces<'a>(
         (runners_of (lines_of secrets.entry.now)) (lines_of table.entry.now)) }
 {
     let lines = lines_in(alloc, table)?;
-    let runners = runners_in(alloc, secrets)?;
-    let mut pieces = Vec::new(alloc);
-    fix(&mut pieces, Markup::BeginFiles)?;
-    push_users(&mut pieces, runners.as_slice())?;
-    fix(&mut pieces, Markup::EndUsers)?;
+    let mut pieces = user_pieces(alloc, secrets)?;
     push_table(alloc, &mut pieces, jobs, lines.as_slice())?;
-    fix(&mut pieces, Markup::EndFiles)?;
+    Ok(pieces)
+}
+
+/// Returns the pieces of the users above the columns, as the first line of the secrets has them.
+fn user_pieces<'a>(alloc: Global, secrets: &'a [u8]) -> Result<Vec<Piece<'a>>, AllocError>
+    ensures { IfOk result (λ pieces.
+        items_of pieces.items ≡ map user_item (runners_of (lines_of secrets.entry.now))) }
+{
+    let lines = lines_in(alloc, secrets)?;
+    let words = first_words(alloc, lines.as_slice())?;
+    let mut pieces = Vec::new(alloc);
+    push_framed(
+        &mut pieces,
+        Markup::BeginFiles,
+        View::Users,
+        without_first(words.as_slice()),
+        Markup::EndUsers,
+    )?;
     Ok(pieces)
 }
 
@@ -58,25 +72,11 @@ fn push_table<'a>(
     ensures { OnOk result (items_of pieces.new.items ≡ items_of pieces.old.items
         ++ table_items (job_columns (texts jobs.now) (texts lines.now)) (texts lines.now)) }
 {
-    let cells = first_cells(alloc, lines)?;
-    let flags = job_flags(alloc, jobs, cells.as_slice())?;
-    push_columns(pieces, flags.as_slice(), cells.as_slice())?;
-    fix(pieces, Markup::EndColumns)?;
+    let words = first_words(alloc, lines)?;
+    let cells = row_cells(words.as_slice());
+    let flags = job_flags(alloc, jobs, cells)?;
+    push_columns(pieces, flags.as_slice(), cells)?;
     push_rows(alloc, pieces, flags.as_slice(), lines)
-}
-
-/// Returns the cells of the first line.
-fn first_cells<'a>(alloc: Global, lines: &[&'a [u8]]) -> Result<Vec<&'a [u8]>, AllocError>
-    ensures { IfOk result (λ cells. texts cells.items ≡ first_cells (texts lines.now)) }
-{
-    let [first, ..] = lines else {
-        return Ok(Vec::new(alloc));
-    };
-    let words = words_in(alloc, first)?;
-    let [_, _, _, _, cells @ ..] = words.as_slice() else {
-        return Ok(Vec::new(alloc));
-    };
-    Vec::from_slice(alloc, cells)
 }
 
 /// Returns for each cell whether its process is in one of these jobs.
@@ -93,37 +93,7 @@ fn job_flags(alloc: Global, jobs: &[&[u8]], cells: &[&[u8]]) -> Result<Vec<bool>
     Ok(flags)
 }
 
-/// Returns the processes with their users, as the first line of the secrets has them.
-fn runners_in<'a>(alloc: Global, secrets: &'a [u8]) -> Result<Vec<&'a [u8]>, AllocError>
-    ensures { IfOk result (λ runners.
-        texts runners.items ≡ runners_of (lines_of secrets.entry.now)) }
-{
-    let lines = lines_in(alloc, secrets)?;
-    let [first, ..] = lines.as_slice() else {
-        return Ok(Vec::new(alloc));
-    };
-    let words = words_in(alloc, first)?;
-    Vec::from_slice(alloc, without_first(words.as_slice()))
-}
-
-/// Adds the user of each of these words.
-fn push_users<'a>(pieces: &mut Vec<Piece<'a>>, runners: &[&'a [u8]]) -> Result<(), AllocError>
-    ensures { OnOk result (items_of pieces.new.items
-        ≡ items_of pieces.old.items ++ map user_item (texts runners.now)) }
-{
-    let mut rest = runners;
-    'runners: while let [runner, more @ ..] = rest {
-        show(
-            pieces,
-            Kind::ColumnUser,
-            or_nothing(split_at_first(runner, COLON).1),
-        )?;
-        rest = more;
-    }
-    Ok(())
-}
-
-/// Adds the process of each column.
+/// Adds the process of each column, and the end of their row.
 fn push_columns<'a>(
     pieces: &mut Vec<Piece<'a>>,
     flags: &[bool],
@@ -139,7 +109,7 @@ fn push_columns<'a>(
         rest = more;
         later = later_flags(later);
     }
-    Ok(())
+    fix(pieces, Markup::EndColumns)
 }
 
 /// Returns whether the first column is that of a process in a job.
@@ -173,7 +143,7 @@ fn column_kind(in_job: bool) -> Kind
     }
 }
 
-/// Adds the rows of the table.
+/// Adds the rows of the table, and its end.
 fn push_rows<'a>(
     alloc: Global,
     pieces: &mut Vec<Piece<'a>>,
@@ -188,7 +158,7 @@ fn push_rows<'a>(
         push_row(alloc, pieces, flags, line)?;
         rest = more;
     }
-    Ok(())
+    fix(pieces, Markup::EndFiles)
 }
 
 /// Adds a row of the table.
@@ -202,12 +172,10 @@ fn push_row<'a>(
         ≡ items_of pieces.old.items ++ row_items flags.now (words_of line.now)) }
 {
     let words = words_in(alloc, line)?;
-    fix(pieces, Markup::BeginRow)?;
-    push_words(pieces, flags, words.as_slice())?;
-    fix(pieces, Markup::EndRow)
+    push_words(pieces, flags, words.as_slice())
 }
 
-/// Adds the words of a row of the table.
+/// Adds a row of the table with these words.
 fn push_words<'a>(
     pieces: &mut Vec<Piece<'a>>,
     flags: &[bool],
@@ -217,29 +185,22 @@ fn push_words<'a>(
         ≡ items_of pieces.old.items ++ row_items flags.now (texts words.now)) }
 {
     let [path, kind, owner, mode, cells @ ..] = words else {
-        return push_short(pieces, words);
+        return push_framed(pieces, Markup::BeginRow, View::Stats, words, Markup::EndRow);
     };
-    show(pieces, Kind::Path, path)?;
-    show(pieces, Kind::Stat, kind)?;
-    show(pieces, Kind::Stat, owner)?;
-    show(pieces, Kind::Stat, mode)?;
+    add(
+        pieces,
+        &[
+            Piece::Fixed(Markup::BeginRow),
+            Piece::Shown(Kind::Path, path),
+            Piece::Shown(Kind::Stat, kind),
+            Piece::Shown(Kind::Stat, owner),
+            Piece::Shown(Kind::Stat, mode),
+        ],
+    )?;
     push_cells(pieces, flags, cells)
 }
 
-/// Adds the words of a row that has too few.
-fn push_short<'a>(pieces: &mut Vec<Piece<'a>>, words: &[&'a [u8]]) -> Result<(), AllocError>
-    ensures { OnOk result (items_of pieces.new.items
-        ≡ items_of pieces.old.items ++ map stat_item (texts words.now)) }
-{
-    let mut rest = words;
-    'words: while let [word, more @ ..] = rest {
-        show(pieces, Kind::Stat, word)?;
-        rest = more;
-    }
-    Ok(())
-}
-
-/// Adds processes with their rights.
+/// Adds processes with their rights, and the end of their row.
 fn push_cells<'a>(
     pieces: &mut Vec<Piece<'a>>,
     flags: &[bool],
@@ -255,7 +216,7 @@ fn push_cells<'a>(
         rest = more;
         later = later_flags(later);
     }
-    Ok(())
+    fix(pieces, Markup::EndRow)
 }
 
 /// Adds a process and its rights.
@@ -269,8 +230,7 @@ fn push_cell<'a>(
 {
     let (process, rights) = split_at_first(cell, COLON);
     show(pieces, process_kind(in_job), process)?;
-    push_rights(pieces, or_nothing(rights))?;
-    fix(pieces, Markup::EndCell)
+    push_rights(pieces, or_nothing(rights))
 }
 
 /// Returns the kind of the process of a cell.
@@ -284,7 +244,7 @@ fn process_kind(in_job: bool) -> Kind
     }
 }
 
-/// Adds the letters of rights.
+/// Adds the letters of rights, and the end of their cell.
 fn push_rights(pieces: &mut Vec<Piece>, rights: &[u8]) -> Result<(), AllocError>
     ensures { OnOk result (items_of pieces.new.items
         ≡ items_of pieces.old.items ++ map right_item rights.now) }
@@ -294,7 +254,7 @@ fn push_rights(pieces: &mut Vec<Piece>, rights: &[u8]) -> Result<(), AllocError>
         spell(pieces, right_kind(*letter), *letter)?;
         rest = more;
     }
-    Ok(())
+    fix(pieces, Markup::EndCell)
 }
 
 /// Returns whether the letter of a right is given or withheld.

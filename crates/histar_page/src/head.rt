@@ -1,25 +1,19 @@
 //! The head of a page.
-ghost use Rattle.std.specs.Prelude.{◌≡◌, ◌≤◌, ◌++◌, ◌∷◌, [], length, filter, IfOk, OnOk, count_by};
+ghost use Rattle.std.specs.Prelude.{◌≡◌, ◌≤◌, length, filter, IfOk, count_by};
 ghost use Rattle.histar_script.specs.Lines.{lines_of};
 ghost use Rattle.histar_page.specs.Texts.{texts};
 ghost use Rattle.histar_page.specs.Items.{items_of};
 ghost use Rattle.histar_page.specs.Lines.{is_denied, is_refused};
-ghost use Rattle.histar_page.specs.Head.{count_items, head_items};
-ghost use Rattle.histar_page.specs.declared.kind.Kind.TheVariants.{FileName, Title};
+ghost use Rattle.histar_page.specs.Head.{head_items};
 
 use crate::kind::Kind;
-use crate::lines::{after_word, is_denied, lines_in, marked_among, replies_among};
+use crate::lines::{Class, after_word, among, is_denied, lines_in};
 use crate::markup::Markup;
-use crate::piece::{Piece, count, fix, show};
+use crate::piece::Piece;
 use std::alloc::{AllocError, Global};
 
-/// The mark of a raw call in the output of a run.
-pub(crate) const RAW_MARK: u8 = b'@';
-
-/// The mark of an explanation in the output of a run.
-pub(crate) const WHY_MARK: u8 = b'?';
-
-/// Returns the pieces of the head of a page.
+/// Returns the pieces of the head of a page: the name of the script's file, as the title and as a heading, the
+/// numbers of calls, of refusals and of denials in the output, and the version.
 pub(crate) fn head_pieces<'a>(
     alloc: Global,
     name: &'a [u8],
@@ -30,36 +24,23 @@ pub(crate) fn head_pieces<'a>(
         ≡ head_items name.entry.now version.entry.now (lines_of output.entry.now)) }
 {
     let lines = lines_in(alloc, output)?;
-    let mut pieces = Vec::new(alloc);
-    push_names(&mut pieces, name)?;
-    push_counts(alloc, &mut pieces, lines.as_slice())?;
-    show(&mut pieces, Kind::Version, version)?;
-    fix(&mut pieces, Markup::EndHead)?;
-    Ok(pieces)
-}
-
-/// Adds the name of the script's file, as the title and as a heading.
-fn push_names<'a>(pieces: &mut Vec<Piece<'a>>, name: &'a [u8]) -> Result<(), AllocError>
-    ensures { OnOk result (items_of pieces.new.items
-        ≡ items_of pieces.old.items ++ (Title, name.now) ∷ (FileName, name.now) ∷ []) }
-{
-    fix(pieces, Markup::Begin)?;
-    show(pieces, Kind::Title, name)?;
-    fix(pieces, Markup::Style)?;
-    show(pieces, Kind::FileName, name)
-}
-
-/// Adds the numbers of calls, of refusals and of denials in these lines of output.
-fn push_counts(alloc: Global, pieces: &mut Vec<Piece>, lines: &[&[u8]]) -> Result<(), AllocError>
-    ensures { OnOk result (items_of pieces.new.items
-        ≡ items_of pieces.old.items ++ count_items (texts lines.now)) }
-{
-    let replies = replies_among(alloc, lines)?;
-    let raw_calls = marked_among(alloc, lines, RAW_MARK)?;
-    fix(pieces, Markup::BeginCounts)?;
-    count(pieces, Kind::Calls, replies.len() as u64)?;
-    count(pieces, Kind::Refusals, refusals(replies.as_slice()))?;
-    count(pieces, Kind::Denials, denials(raw_calls.as_slice()))
+    let replies = among(alloc, Class::Reply, lines.as_slice())?;
+    let raw_calls = among(alloc, Class::RawCall, lines.as_slice())?;
+    Vec::from_slice(
+        alloc,
+        &[
+            Piece::Fixed(Markup::Begin),
+            Piece::Shown(Kind::Title, name),
+            Piece::Fixed(Markup::Style),
+            Piece::Shown(Kind::FileName, name),
+            Piece::Fixed(Markup::BeginCounts),
+            Piece::Counted(Kind::Calls, replies.len() as u64),
+            Piece::Counted(Kind::Refusals, refusals(replies.as_slice())),
+            Piece::Counted(Kind::Denials, denials(raw_calls.as_slice())),
+            Piece::Shown(Kind::Version, version),
+            Piece::Fixed(Markup::EndHead),
+        ],
+    )
 }
 
 /// Checks whether a reply is a refusal: it is neither `ok`, with or without more, nor bytes that were read.

@@ -7,7 +7,7 @@ ghost use Rattle.histar_page.specs.Lines.{words_of};
 ghost use Rattle.histar_page.specs.Drawing.{has_letter, is_in_a_job, is_within, job_begun, job_on, jobs_of, process_of};
 
 use crate::files::COLON;
-use crate::lines::{after_word, lines_in, or_nothing, replies_among, words_in};
+use crate::lines::{Class, after_word, among, lines_in, or_nothing, words_in};
 use crate::session::call_on;
 use histar_flat::split_at_first;
 use std::alloc::{AllocError, Global};
@@ -26,7 +26,7 @@ pub(crate) fn jobs_of<'a>(
 {
     let script = lines_in(alloc, script)?;
     let output = lines_in(alloc, output)?;
-    let replies = replies_among(alloc, output.as_slice())?;
+    let replies = among(alloc, Class::Reply, output.as_slice())?;
     jobs_in(alloc, script.as_slice(), replies.as_slice())
 }
 
@@ -60,28 +60,20 @@ fn push_job<'a>(
 {
     let call = words_in(alloc, call)?;
     let reply = words_in(alloc, reply)?;
-    push_begun(jobs, call.as_slice(), reply.as_slice())
+    jobs.extend_from_slice(job_begun(call.as_slice(), reply.as_slice()))
 }
 
-/// Adds the first process of a job, if the words of a call and of its reply say that one has begun.
-fn push_begun<'a>(
-    jobs: &mut Vec<&'a [u8]>,
-    call: &[&'a [u8]],
-    reply: &[&'a [u8]],
-) -> Result<(), AllocError>
-    ensures { OnOk result (texts jobs.new.items
-        ≡ texts jobs.old.items ++ job_begun (texts call.now) (texts reply.now)) }
+/// Returns the first process of a job, if the words of a call and of its reply say that one has begun.
+fn job_begun<'s, 'a>(call: &[&[u8]], reply: &'s [&'a [u8]]) -> &'s [&'a [u8]]
+    ensures { texts result.now ≡ job_begun (texts call.now) (texts reply.entry.now) }
 {
     let [_, word, ..] = call else {
-        return Ok(());
+        return &[];
     };
-    let [_, job] = reply else {
-        return Ok(());
+    let [_, _] = reply else {
+        return &[];
     };
-    if *word == WRAP {
-        jobs.push(*job)?;
-    }
-    Ok(())
+    if *word == WRAP { &reply[1..] } else { &[] }
 }
 
 /// Checks whether a process is the first of a job or below it.

@@ -81,7 +81,7 @@ impl Kind {
             Kind::Denials => b"<span>denied raw calls: <b>",
             Kind::Version => b"<span>histar <b>",
             Kind::LineNumber => b"<span class=\"number\">",
-            Kind::OtherLine => b"<b>",
+            Kind::OtherLine | Kind::Granted => b"<b>",
             Kind::Call => b"<code class=\"call\">",
             Kind::Reply => b"<code class=\"reply\">",
             Kind::Refusal => b"<code class=\"refusal\">",
@@ -94,7 +94,6 @@ impl Kind {
             Kind::Stat => b"<td class=\"stat\">",
             Kind::Process => b"<td class=\"rights\"><small>",
             Kind::JobProcess => b"<td class=\"rights job\"><small>",
-            Kind::Granted => b"<b>",
             Kind::Withheld => b"<i>",
             Kind::Secret => b"<code>",
             Kind::Trusted => b"<span class=\"trusted\">trusted <b>",
@@ -111,9 +110,7 @@ impl Kind {
                 b"<line class=\"writes\" marker-end=\"url(#written)\" x1=\"210\" x2=\"518\" y1=\"",
             Kind::BothEdge =>
                 b"<line class=\"both\" marker-start=\"url(#both)\" marker-end=\"url(#both)\" x1=\"210\" x2=\"518\" y1=\"",
-            Kind::EdgeEnd => b"",
-            Kind::EdgeProcess => b"",
-            Kind::EdgeFile => b"",
+            Kind::EdgeEnd | Kind::EdgeProcess | Kind::EdgeFile => b"",
             Kind::ProcessNode => b"<g class=\"node\" transform=\"translate(8 ",
             Kind::FileNode => b"<g class=\"node\" transform=\"translate(520 ",
             Kind::NodeName => b"<text x=\"8\" y=\"18\">",
@@ -127,22 +124,29 @@ impl Kind {
         match self {
             Kind::Title => b"</title>\n",
             Kind::FileName => b"</h1>\n",
-            Kind::Calls | Kind::Refusals | Kind::Denials | Kind::Version => b"</b></span>\n",
+            Kind::Calls
+            | Kind::Refusals
+            | Kind::Denials
+            | Kind::Version
+            | Kind::Trusted
+            | Kind::Confined
+            | Kind::LoginReader => b"</b></span>\n",
             Kind::LineNumber => b"</span>\n",
             Kind::OtherLine | Kind::Granted => b"</b>",
-            Kind::Call | Kind::Reply | Kind::Refusal => b"</code>\n",
-            Kind::RawCall | Kind::DeniedCall | Kind::Explanation | Kind::Secret => b"</code>\n",
+            Kind::Call
+            | Kind::Reply
+            | Kind::Refusal
+            | Kind::RawCall
+            | Kind::DeniedCall
+            | Kind::Explanation
+            | Kind::Secret => b"</code>\n",
             Kind::ColumnUser | Kind::Column | Kind::JobColumn | Kind::Path => b"</th>",
             Kind::Stat => b"</td>",
             Kind::Process | Kind::JobProcess => b"</small>",
             Kind::Withheld => b"</i>",
-            Kind::Trusted | Kind::Confined | Kind::LoginReader => b"</b></span>\n",
             Kind::DrawnHeight => b"\" role=\"img\" aria-label=\"Processes and files\">\n",
-            Kind::ProcessBand => b")\"></rect>\n",
-            Kind::FileBand => b")\"></rect>\n",
-            Kind::ReadEdge => b"\" y2=\"",
-            Kind::WriteEdge => b"\" y2=\"",
-            Kind::BothEdge => b"\" y2=\"",
+            Kind::ProcessBand | Kind::FileBand => b")\"></rect>\n",
+            Kind::ReadEdge | Kind::WriteEdge | Kind::BothEdge => b"\" y2=\"",
             Kind::EdgeEnd => b"\"><title>",
             Kind::EdgeProcess => b" and ",
             Kind::EdgeFile => b"</title></line>\n",

@@ -18,6 +18,7 @@ mod piece;
 mod places;
 mod secrets;
 mod session;
+mod views;
 
 pub use kind::Kind;
 pub use markup::Markup;

@@ -4,6 +4,7 @@ ghost use Rattle.std.specs.List.{prefix_len};
 ghost use Rattle.std.specs.Option.{option_copied};
 ghost use Rattle.histar_script.specs.Lines.{lines_of};
 ghost use Rattle.histar_page.specs.Texts.{texts};
+ghost use Rattle.histar_page.specs.Classes.{is_of};
 ghost use Rattle.histar_page.specs.Lines.{after_word, front_number, has_mark, is_denied, is_own, is_reply, mark_number, without_first, words_of};
 
 use histar_flat::read_number;
@@ -12,6 +13,20 @@ use std::alloc::{AllocError, Global};
 
 /// The most lines of a script.
 const MOST_SCRIPT_LINES: u64 = 16_384;
+
+/// The mark of a raw call in the output of a run.
+const RAW_MARK: u8 = b'@';
+
+/// The mark of an explanation in the output of a run.
+const WHY_MARK: u8 = b'?';
+
+/// What a line in the output of a run is.
+#[derive(Clone, Copy)]
+pub(crate) enum Class {
+    Reply,
+    RawCall,
+    Explanation,
+}
 
 /// Returns the lines of a text, without their line ends.
 pub(crate) fn lines_in<'a>(alloc: Global, text: &'a [u8]) -> Result<Vec<&'a [u8]>, AllocError>
@@ -62,36 +77,29 @@ pub(crate) fn without_first<'s, 'a>(lines: &'s [&'a [u8]]) -> &'s [&'a [u8]]
     }
 }
 
-/// Returns the lines that are replies.
-pub(crate) fn replies_among<'a>(
-    alloc: Global,
-    lines: &[&'a [u8]],
-) -> Result<Vec<&'a [u8]>, AllocError>
-    ensures { IfOk result (λ found. texts found.items ≡ filter is_reply (texts lines.now)) }
+/// Checks whether a line is of a class.
+fn is_of(class: Class, line: &[u8]) -> bool
+    ensures { result ≡ is_of class line.now }
 {
-    let mut found = Vec::new(alloc);
-    let mut rest = lines;
-    'lines: while let [line, more @ ..] = rest {
-        if is_reply(line) {
-            found.push(*line)?;
-        }
-        rest = more;
+    match class {
+        Class::Reply => is_reply(line),
+        Class::RawCall => has_mark(RAW_MARK, line),
+        Class::Explanation => has_mark(WHY_MARK, line),
     }
-    Ok(found)
 }
 
-/// Returns the lines that begin with a mark.
-pub(crate) fn marked_among<'a>(
+/// Returns the lines of a class.
+pub(crate) fn among<'a>(
     alloc: Global,
+    class: Class,
     lines: &[&'a [u8]],
-    mark: u8,
 ) -> Result<Vec<&'a [u8]>, AllocError>
-    ensures { IfOk result (λ found. texts found.items ≡ filter (has_mark mark) (texts lines.now)) }
+    ensures { IfOk result (λ found. texts found.items ≡ filter (is_of class) (texts lines.now)) }
 {
     let mut found = Vec::new(alloc);
     let mut rest = lines;
     'lines: while let [line, more @ ..] = rest {
-        if has_mark(mark, line) {
+        if is_of(class, line) {
             found.push(*line)?;
         }
         rest = more;

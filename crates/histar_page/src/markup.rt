@@ -158,7 +158,7 @@ impl Markup {
             Markup::EndCall => b"</div>\n</details>\n",
             Markup::BeginBare => b"<div class=\"bare\">",
             Markup::EndBare => b"</div>\n",
-            Markup::EndSession => b"</section>\n",
+            Markup::EndSession | Markup::EndSecrets => b"</section>\n",
             Markup::BeginFiles => b"<section id=\"files\">
 <h2>Files</h2>
 <p>Who may do what at the end: s to see it, r to read it, w to write it, d to take it away. Above each process is its user; the tinted columns are of processes in jobs.</p>
@@ -179,7 +179,6 @@ impl Markup {
                 b"<p>On whom each file rests at the end that isn't for everyone to read: the trusted could pass it on, the confined can't, and who logs in as one of these users may read it.</p>\n",
             Markup::BeginSecret => b"<p class=\"secret\">\n",
             Markup::EndSecret => b"</p>\n",
-            Markup::EndSecrets => b"</section>\n",
             Markup::BeginLabels => b"<section id=\"labels\">\n<h2>Labels</h2>\n",
             Markup::NotDrawn =>
                 b"<p>It has more than 12 processes or 30 files and directories at the end, and is not drawn.</p>\n</section>\n",

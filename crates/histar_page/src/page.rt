@@ -1,6 +1,7 @@
 //! The whole page.
-ghost use Rattle.std.specs.Prelude.{◌≡◌, IfOk, OnOk};
+ghost use Rattle.std.specs.Prelude.{◌≡◌, ◌++◌, true, IfOk, is_ok, OnOk};
 ghost use Rattle.histar_page.specs.Items.{items_of};
+ghost use Rattle.histar_page.specs.Rendering.{rendered};
 ghost use Rattle.histar_page.specs.Page.{AddsItems, IsPage, files_shown, rights_shown, sources_of};
 
 use crate::drawing::drawing_pieces;
@@ -36,29 +37,35 @@ pub fn page_text(alloc: Global, texts: &Texts) -> Result<Vec<u8>, AllocError>
     ensures { IfOk result (λ page. IsPage (sources_of texts.now) page.items) }
 {
     let mut page = Vec::new(alloc);
-    render(
+    render_part(
         &mut page,
-        head_pieces(alloc, texts.name, texts.version, texts.output)?.as_slice(),
+        head_pieces(alloc, texts.name, texts.version, texts.output),
     )?;
-    render(
-        &mut page,
-        session_pieces(alloc, texts.script, texts.output)?.as_slice(),
-    )?;
+    render_part(&mut page, session_pieces(alloc, texts.script, texts.output))?;
     render_rights(alloc, &mut page, texts)?;
     Ok(page)
 }
 
 /// Adds the parts that show rights: the files, the secrets and the drawing.
 fn render_rights(alloc: Global, page: &mut Vec<u8>, texts: &Texts) -> Result<(), AllocError>
-    ensures { OnOk result (AddsItems page.old.items page.new.items (rights_shown (sources_of texts.now))) }
+    ensures { OnOk result (AddsItems page.old.items page.new.items
+        (rights_shown (sources_of texts.now))) }
 {
-    render(page, files_of(alloc, texts)?.as_slice())?;
-    render(page, secrets_pieces(alloc, texts.secrets)?.as_slice())?;
-    render(
+    render_part(page, files_of(alloc, texts))?;
+    render_part(page, secrets_pieces(alloc, texts.secrets))?;
+    render_part(
         page,
-        drawing_pieces(alloc, texts.script, texts.output, texts.table)?.as_slice(),
-    )?;
-    Ok(())
+        drawing_pieces(alloc, texts.script, texts.output, texts.table),
+    )
+}
+
+/// Adds the HTML of a part, if there was memory for its pieces.
+fn render_part(page: &mut Vec<u8>, part: Result<Vec<Piece>, AllocError>) -> Result<(), AllocError>
+    ensures { OnOk result ((is_ok part.entry ≡ true) × IfOk part.entry (λ pieces.
+        page.new.items ≡ page.old.items ++ rendered pieces.items)) }
+{
+    let pieces = part?;
+    render(page, pieces.as_slice())
 }
 
 /// Returns the pieces of the part that shows files.

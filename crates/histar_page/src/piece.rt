@@ -7,7 +7,7 @@ use crate::kind::Kind;
 use crate::markup::Markup;
 use histar_html::push_escaped;
 use itoa::Buffer;
-use std::alloc::AllocError;
+use std::alloc::{AllocError, Global};
 
 /// A piece of a page: markup, which doesn't depend on the session, or a text.
 #[derive(Clone, Copy)]
@@ -18,12 +18,30 @@ pub enum Piece<'a> {
     Letter(Kind, u8),
 }
 
+/// Returns pieces that begin with these two fixed texts.
+pub(crate) fn begun<'a>(
+    alloc: Global,
+    first: Markup,
+    second: Markup,
+) -> Result<Vec<Piece<'a>>, AllocError>
+    ensures { IfOk result (λ pieces. items_of pieces.items ≡ []) }
+{
+    Vec::from_slice(alloc, &[Piece::Fixed(first), Piece::Fixed(second)])
+}
+
+/// Adds these pieces.
+pub(crate) fn add<'a>(pieces: &mut Vec<Piece<'a>>, more: &[Piece<'a>]) -> Result<(), AllocError>
+    ensures { OnOk result (items_of pieces.new.items
+        ≡ items_of pieces.old.items ++ items_of more.now) }
+{
+    pieces.extend_from_slice(more)
+}
+
 /// Adds a fixed text.
 pub(crate) fn fix(pieces: &mut Vec<Piece>, markup: Markup) -> Result<(), AllocError>
     ensures { OnOk result (items_of pieces.new.items ≡ items_of pieces.old.items) }
 {
-    pieces.push(Piece::Fixed(markup))?;
-    Ok(())
+    pieces.extend_from_slice(&[Piece::Fixed(markup)])
 }
 
 /// Adds a text of this kind.
@@ -35,8 +53,7 @@ pub(crate) fn show<'a>(
     ensures { OnOk result (items_of pieces.new.items
         ≡ items_of pieces.old.items ++ (kind, text.now) ∷ []) }
 {
-    pieces.push(Piece::Shown(kind, text))?;
-    Ok(())
+    pieces.extend_from_slice(&[Piece::Shown(kind, text)])
 }
 
 /// Adds a number of this kind.
@@ -44,8 +61,7 @@ pub(crate) fn count(pieces: &mut Vec<Piece>, kind: Kind, number: u64) -> Result<
     ensures { OnOk result (items_of pieces.new.items
         ≡ items_of pieces.old.items ++ (kind, decimal number) ∷ []) }
 {
-    pieces.push(Piece::Counted(kind, number))?;
-    Ok(())
+    pieces.extend_from_slice(&[Piece::Counted(kind, number)])
 }
 
 /// Adds a letter of this kind.
@@ -53,8 +69,7 @@ pub(crate) fn spell(pieces: &mut Vec<Piece>, kind: Kind, letter: u8) -> Result<(
     ensures { OnOk result (items_of pieces.new.items
         ≡ items_of pieces.old.items ++ (kind, letter ∷ []) ∷ []) }
 {
-    pieces.push(Piece::Letter(kind, letter))?;
-    Ok(())
+    pieces.extend_from_slice(&[Piece::Letter(kind, letter)])
 }
 
 /// Adds the HTML of these pieces to a page.

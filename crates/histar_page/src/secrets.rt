@@ -1,18 +1,17 @@
 //! The secrets on a page: each file that not everyone may read, and which processes it depends on.
-ghost use Rattle.std.specs.Prelude.{◌≡◌, ◌++◌, ◌∷◌, [], IfOk, OnOk, map};
+ghost use Rattle.std.specs.Prelude.{◌≡◌, ◌++◌, IfOk, OnOk};
 ghost use Rattle.std.specs.List.{flat_map};
 ghost use Rattle.histar_script.specs.Lines.{lines_of};
 ghost use Rattle.histar_page.specs.Texts.{texts};
 ghost use Rattle.histar_page.specs.Items.{items_of};
 ghost use Rattle.histar_page.specs.Lines.{words_of};
-ghost use Rattle.histar_page.specs.Secrets.{member_item, member_kind, secret_items, secret_line_items, secrets_items};
+ghost use Rattle.histar_page.specs.Secrets.{member_kind, secret_items, secret_line_items, secrets_items};
 
-use crate::files::COLON;
 use crate::kind::Kind;
-use crate::lines::{lines_in, or_nothing, without_first, words_in};
+use crate::lines::{lines_in, without_first, words_in};
 use crate::markup::Markup;
-use crate::piece::{Piece, fix, show};
-use histar_flat::split_at_first;
+use crate::piece::{Piece, add, begun, fix};
+use crate::views::{View, push_each};
 use std::alloc::{AllocError, Global};
 
 /// The word before a process that is trusted.
@@ -31,11 +30,8 @@ pub(crate) fn secrets_pieces<'a>(
 {
     let lines = lines_in(alloc, secrets)?;
     let files = without_first(lines.as_slice());
-    let mut pieces = Vec::new(alloc);
-    fix(&mut pieces, Markup::BeginSecrets)?;
-    fix(&mut pieces, note_on(files))?;
+    let mut pieces = begun(alloc, Markup::BeginSecrets, note_on(files))?;
     push_secrets(alloc, &mut pieces, files)?;
-    fix(&mut pieces, Markup::EndSecrets)?;
     Ok(pieces)
 }
 
@@ -48,7 +44,7 @@ fn note_on(lines: &[&[u8]]) -> Markup {
     }
 }
 
-/// Adds the lines of the secrets.
+/// Adds the lines of the secrets, and their end.
 fn push_secrets<'a>(
     alloc: Global,
     pieces: &mut Vec<Piece<'a>>,
@@ -62,7 +58,7 @@ fn push_secrets<'a>(
         push_secret(alloc, pieces, line)?;
         rest = more;
     }
-    Ok(())
+    fix(pieces, Markup::EndSecrets)
 }
 
 /// Adds a line of the secrets.
@@ -75,47 +71,36 @@ fn push_secret<'a>(
         ≡ items_of pieces.old.items ++ secret_items (words_of line.now)) }
 {
     let words = words_in(alloc, line)?;
-    fix(pieces, Markup::BeginSecret)?;
-    push_words(pieces, words.as_slice())?;
-    fix(pieces, Markup::EndSecret)
+    push_words(pieces, words.as_slice())
 }
 
-/// Adds the words of a line: a path, and then processes and users.
+/// Adds a line with these words: a path, and then processes and users.
 fn push_words<'a>(pieces: &mut Vec<Piece<'a>>, words: &[&'a [u8]]) -> Result<(), AllocError>
     ensures { OnOk result (items_of pieces.new.items
         ≡ items_of pieces.old.items ++ secret_items (texts words.now)) }
 {
     let [path, members @ ..] = words else {
-        return Ok(());
+        return add(
+            pieces,
+            &[
+                Piece::Fixed(Markup::BeginSecret),
+                Piece::Fixed(Markup::EndSecret),
+            ],
+        );
     };
-    show(pieces, Kind::Secret, path)?;
-    push_members(pieces, members)
-}
-
-/// Adds processes and users, each by the word before it.
-fn push_members<'a>(pieces: &mut Vec<Piece<'a>>, members: &[&'a [u8]]) -> Result<(), AllocError>
-    ensures { OnOk result (items_of pieces.new.items
-        ≡ items_of pieces.old.items ++ map member_item (texts members.now)) }
-{
-    let mut rest = members;
-    'members: while let [member, more @ ..] = rest {
-        push_member(pieces, member)?;
-        rest = more;
-    }
-    Ok(())
-}
-
-/// Adds a process or a user, by the word before it.
-fn push_member<'a>(pieces: &mut Vec<Piece<'a>>, member: &'a [u8]) -> Result<(), AllocError>
-    ensures { OnOk result (items_of pieces.new.items
-        ≡ items_of pieces.old.items ++ member_item member.now ∷ []) }
-{
-    let (word, name) = split_at_first(member, COLON);
-    show(pieces, member_kind(word), or_nothing(name))
+    add(
+        pieces,
+        &[
+            Piece::Fixed(Markup::BeginSecret),
+            Piece::Shown(Kind::Secret, path),
+        ],
+    )?;
+    push_each(pieces, View::Members, members)?;
+    fix(pieces, Markup::EndSecret)
 }
 
 /// Returns the role of a process or a user towards a file, by the word before it.
-fn member_kind(word: &[u8]) -> Kind
+pub(crate) fn member_kind(word: &[u8]) -> Kind
     ensures { result ≡ member_kind word.now }
 {
     if word == TRUSTED {

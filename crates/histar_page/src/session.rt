@@ -1,23 +1,20 @@
 //! The session on a page: each call with its reply, and then its raw calls.
-ghost use Rattle.std.specs.Prelude.{◌≡◌, ◌≤◌, ◌+◌, ◌++◌, ◌∷◌, [], drop, length, map, take, true, IfOk, OnOk};
-ghost use Rattle.std.specs.List.{flat_map, list_all};
+ghost use Rattle.std.specs.Prelude.{◌≡◌, ◌≤◌, ◌+◌, ◌++◌, drop, length, take, true, IfOk, OnOk};
+ghost use Rattle.std.specs.List.{list_all};
 ghost use Rattle.histar_script.specs.Lines.{lines_of};
 ghost use Rattle.histar_page.specs.Texts.{texts};
 ghost use Rattle.histar_page.specs.Items.{items_of};
 ghost use Rattle.histar_page.specs.Session.{AddsSession, answer_items, boot_items, call_items, call_on, IsSession};
-ghost use Rattle.histar_page.specs.Session.{other_call_items, other_why_items, raw_item, raw_kind, reply_kind, why_item};
-ghost use Rattle.histar_page.specs.Lines.{is_own, mark_number};
+ghost use Rattle.histar_page.specs.Session.{reply_kind};
+ghost use Rattle.histar_page.specs.Lines.{is_own};
 ghost use Rattle.histar_page.specs.Order.{other_numbers, past_own, session_numbers};
-ghost use Rattle.histar_page.specs.declared.kind.Kind.TheVariants.{OtherLine};
 
-use crate::head::{RAW_MARK, WHY_MARK, is_refused};
+use crate::head::is_refused;
 use crate::kind::Kind;
-use crate::lines::{
-    after_word, front_number, is_denied, lines_in, mark_number, marked_among, own_count,
-    replies_among,
-};
+use crate::lines::{Class, after_word, among, front_number, lines_in, own_count};
 use crate::markup::Markup;
-use crate::piece::{Piece, fix, show};
+use crate::piece::{Piece, add, fix};
+use crate::views::{View, push_each};
 use histar_script::split_word;
 use std::alloc::{AllocError, Global};
 
@@ -32,13 +29,25 @@ pub(crate) fn session_pieces<'a>(
 {
     let script = lines_in(alloc, script)?;
     let output = lines_in(alloc, output)?;
-    let replies = replies_among(alloc, output.as_slice())?;
-    let raw_calls = marked_among(alloc, output.as_slice(), RAW_MARK)?;
-    let explanations = marked_among(alloc, output.as_slice(), WHY_MARK)?;
+    line_pieces(alloc, script.as_slice(), output.as_slice())
+}
+
+/// Returns the pieces of the session of these lines of a script and of its output.
+fn line_pieces<'a>(
+    alloc: Global,
+    script: &[&'a [u8]],
+    output: &[&'a [u8]],
+) -> Result<Vec<Piece<'a>>, AllocError>
+    ensures { IfOk result (λ pieces.
+        IsSession (texts script.now) (texts output.now) (items_of pieces.items)) }
+{
+    let replies = among(alloc, Class::Reply, output)?;
+    let raw_calls = among(alloc, Class::RawCall, output)?;
+    let explanations = among(alloc, Class::Explanation, output)?;
     let mut pieces = Vec::new(alloc);
     push_session(
         &mut pieces,
-        script.as_slice(),
+        script,
         replies.as_slice(),
         raw_calls.as_slice(),
         explanations.as_slice(),
@@ -61,7 +70,6 @@ fn push_session<'a>(
 {
     let boot = own_lines(raw_calls, 0, b"0");
     let (_, later) = raw_calls.split_at(boot.len());
-    fix(pieces, Markup::BeginSession)?;
     push_boot(pieces, boot)?;
     push_calls(pieces, script, replies, later, explanations)?;
     fix(pieces, Markup::EndSession)
@@ -93,8 +101,8 @@ fn push_calls<'a>(
     }
     let (_, other_calls) = raw_calls.split_at(raw_at);
     let (_, other_explanations) = explanations.split_at(why_at);
-    push_other_calls(pieces, other_calls)?;
-    push_other_explanations(pieces, other_explanations)
+    push_each(pieces, View::OtherCalls, other_calls)?;
+    push_each(pieces, View::OtherExplanations, other_explanations)
 }
 
 /// Returns the lines from a place on, up to the first with another word after its mark.
@@ -112,15 +120,21 @@ fn own_lines<'b, 'a>(lines: &'b [&'a [u8]], from: usize, word: &[u8]) -> &'b [&'
     own
 }
 
-/// Adds the raw calls of boot.
+/// Adds the heading and the raw calls of boot.
 fn push_boot<'a>(pieces: &mut Vec<Piece<'a>>, boot: &[&'a [u8]]) -> Result<(), AllocError>
     ensures { OnOk result (items_of pieces.new.items
         ≡ items_of pieces.old.items ++ boot_items (texts boot.now)) }
 {
-    fix(pieces, Markup::BeginBoot)?;
-    show(pieces, Kind::OtherLine, b"0")?;
-    fix(pieces, Markup::BeginBehind)?;
-    push_raw_calls(pieces, boot)?;
+    add(
+        pieces,
+        &[
+            Piece::Fixed(Markup::BeginSession),
+            Piece::Fixed(Markup::BeginBoot),
+            Piece::Shown(Kind::OtherLine, b"0"),
+            Piece::Fixed(Markup::BeginBehind),
+        ],
+    )?;
+    push_each(pieces, View::RawCalls, boot)?;
     fix(pieces, Markup::EndCall)
 }
 
@@ -136,30 +150,41 @@ fn push_call<'a>(
         ++ call_items (texts script.now) reply.now (texts raw_calls.now) (texts explanations.now)) }
 {
     if raw_calls.is_empty() && explanations.is_empty() {
-        fix(pieces, Markup::BeginBare)?;
-        push_answer(pieces, script, reply)?;
-        return fix(pieces, Markup::EndBare);
+        return push_answer(pieces, Markup::BeginBare, script, reply, Markup::EndBare);
     }
-    fix(pieces, Markup::BeginCall)?;
-    push_answer(pieces, script, reply)?;
-    fix(pieces, Markup::BeginBehind)?;
-    push_raw_calls(pieces, raw_calls)?;
-    push_explanations(pieces, explanations)?;
+    push_answer(
+        pieces,
+        Markup::BeginCall,
+        script,
+        reply,
+        Markup::BeginBehind,
+    )?;
+    push_each(pieces, View::RawCalls, raw_calls)?;
+    push_each(pieces, View::Explanations, explanations)?;
     fix(pieces, Markup::EndCall)
 }
 
-/// Adds the number of a line, its call and the reply.
+/// Adds the number of a line, its call and the reply, between two fixed texts.
 fn push_answer<'a>(
     pieces: &mut Vec<Piece<'a>>,
+    before: Markup,
     script: &[&'a [u8]],
     line: &'a [u8],
+    after: Markup,
 ) -> Result<(), AllocError>
     ensures { OnOk result (items_of pieces.new.items
         ≡ items_of pieces.old.items ++ answer_items (texts script.now) line.now) }
 {
-    show(pieces, Kind::LineNumber, split_word(line).0)?;
-    show(pieces, Kind::Call, call_on(script, line))?;
-    show(pieces, reply_kind(line), after_word(line))
+    add(
+        pieces,
+        &[
+            Piece::Fixed(before),
+            Piece::Shown(Kind::LineNumber, split_word(line).0),
+            Piece::Shown(Kind::Call, call_on(script, line)),
+            Piece::Shown(reply_kind(line), after_word(line)),
+            Piece::Fixed(after),
+        ],
+    )
 }
 
 /// Returns the kind of a reply: that of a call that was made, or a refusal.
@@ -184,82 +209,4 @@ pub(crate) fn call_on<'a>(script: &[&'a [u8]], reply: &[u8]) -> &'a [u8]
         Some(line) => line,
         None => &[],
     }
-}
-
-/// Adds raw calls.
-fn push_raw_calls<'a>(pieces: &mut Vec<Piece<'a>>, lines: &[&'a [u8]]) -> Result<(), AllocError>
-    ensures { OnOk result (items_of pieces.new.items
-        ≡ items_of pieces.old.items ++ map raw_item (texts lines.now)) }
-{
-    let mut rest = lines;
-    'lines: while let [line, more @ ..] = rest {
-        show(pieces, raw_kind(line), line)?;
-        rest = more;
-    }
-    Ok(())
-}
-
-/// Returns whether a raw call was made or denied.
-fn raw_kind(line: &[u8]) -> Kind
-    ensures { result ≡ raw_kind line.now }
-{
-    if is_denied(line) {
-        Kind::DeniedCall
-    } else {
-        Kind::RawCall
-    }
-}
-
-/// Adds explanations.
-fn push_explanations<'a>(pieces: &mut Vec<Piece<'a>>, lines: &[&'a [u8]]) -> Result<(), AllocError>
-    ensures { OnOk result (items_of pieces.new.items
-        ≡ items_of pieces.old.items ++ map why_item (texts lines.now)) }
-{
-    let mut rest = lines;
-    'lines: while let [line, more @ ..] = rest {
-        show(pieces, Kind::Explanation, line)?;
-        rest = more;
-    }
-    Ok(())
-}
-
-/// Adds raw calls that belong to no reply, each after its own number.
-fn push_other_calls<'a>(pieces: &mut Vec<Piece<'a>>, lines: &[&'a [u8]]) -> Result<(), AllocError>
-    ensures { OnOk result (items_of pieces.new.items
-        ≡ items_of pieces.old.items ++ flat_map other_call_items (texts lines.now)) }
-{
-    let mut rest = lines;
-    'lines: while let [line, more @ ..] = rest {
-        push_other(pieces, line, raw_kind(line))?;
-        rest = more;
-    }
-    Ok(())
-}
-
-/// Adds explanations that belong to no reply, each after its own number.
-fn push_other_explanations<'a>(
-    pieces: &mut Vec<Piece<'a>>,
-    lines: &[&'a [u8]],
-) -> Result<(), AllocError>
-    ensures { OnOk result (items_of pieces.new.items
-        ≡ items_of pieces.old.items ++ flat_map other_why_items (texts lines.now)) }
-{
-    let mut rest = lines;
-    'lines: while let [line, more @ ..] = rest {
-        push_other(pieces, line, Kind::Explanation)?;
-        rest = more;
-    }
-    Ok(())
-}
-
-/// Adds a line of this kind after its own number.
-fn push_other<'a>(pieces: &mut Vec<Piece<'a>>, line: &'a [u8], kind: Kind) -> Result<(), AllocError>
-    ensures { OnOk result (items_of pieces.new.items ≡ items_of pieces.old.items
-        ++ (OtherLine, mark_number line.now) ∷ (kind, line.now) ∷ []) }
-{
-    fix(pieces, Markup::BeginOther)?;
-    show(pieces, Kind::OtherLine, mark_number(line))?;
-    fix(pieces, Markup::BeginBehind)?;
-    show(pieces, kind, line)?;
-    fix(pieces, Markup::EndCall)
 }

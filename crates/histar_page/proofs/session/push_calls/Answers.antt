@@ -46,7 +46,7 @@ returns c =
     behind_texts now c.args.explanations.now c.split_at-2.result.1.now c.replies.why_at c.split_at-2.ensures.back
     ∙ c.replies.invariant.4 ∙ ap (λ replies. left replies (texts c.args.explanations.now)) (sym all) in
     let numbers = sym (ap₂ (λ (a b : List (List ℕ)). map mark_number a ++ map mark_number b) raw_left why_left) in
-    let calls = adds_calls (texts c.split_at.result.1.now) c.replies.invariant.2 c.in_ok-push_other_calls.ensures in
-    on_ok_weaker c.push_other_explanations.result
+    let calls = adds_calls (texts c.split_at.result.1.now) c.replies.invariant.2 c.in_ok-push_each.ensures in
+    on_ok_weaker c.push_each-2.result
     (λ e. adds_as all raw why numbers (adds_whys (texts c.split_at-2.result.1.now) calls e))
-    c.push_other_explanations.ensures
+    c.push_each-2.ensures

@@ -1,12 +1,12 @@
 -- Proves the goals of `push_session` of src/session.rt that the search leaves open.
-use Rattle.std.proofs.Common.{ℕ, List, refl, ◌∷◌, ◌++◌, ◌∙◌, ap, drop, length, sym, subst, zero-add}
+use Rattle.std.proofs.Common.{ℕ, List, refl, ◌∷◌, ◌∙◌, ap, drop, length, sym, subst, zero-add}
 use Rattle.std.specs.Borrow.{Bor}
 use Rattle.std.specs.Prelude.{codes}
 use Rattle.std.proofs.lemmas.Result.{on_ok_weaker}
 use Rattle.histar_page.specs.Texts.{texts}
 use Rattle.histar_page.specs.Items.{Item, items_of}
 use Rattle.histar_page.specs.Order.{other_numbers, session_numbers}
-use Rattle.histar_page.specs.Session.{AddsSession, boot_items}
+use Rattle.histar_page.specs.Session.{AddsSession}
 use Rattle.histar_page.proofs.OwnLemmas.{behind_texts, boot_whole}
 use Rattle.histar_page.proofs.SessionLemmas.{adds_as, adds_boot}
 use Rattle.histar_page.proofs.session.push_session.Goals as goal
@@ -18,8 +18,7 @@ returns c =
     let later = c.split_at.result.1.now in
     let whole = boot_whole now c.args.raw_calls.now c.own_lines-boot.result.now later c.own_lines-boot.ensures.taken c.split_at.ensures.back in
     let old = items_of c.args.pieces.now.items in
-    let mid = c.in_ok-push_boot.ensures ∙ ap (λ l. l ++ boot_items boot) c.in_ok-fix.ensures in
-    let added = adds_boot boot mid c.own_lines-boot.ensures.own c.in_ok-push_calls.ensures in
+    let added = adds_boot boot c.in_ok-push_boot.ensures c.own_lines-boot.ensures.own c.in_ok-push_calls.ensures in
     let whys = texts c.args.explanations.now in
     let script = texts c.args.script.now in
     let replies = texts c.args.replies.now in
@@ -27,9 +26,9 @@ returns c =
     behind_texts now c.args.raw_calls.now later (length c.own_lines-boot.result.now) c.split_at.ensures.back
     ∙ ap (λ k. drop k (texts c.args.raw_calls.now)) (sym (zero-add (length c.own_lines-boot.result.now))) ∙ c.own_lines-boot.ensures.rest in
     let numbers = sym (ap (λ l. codes "0" ∷ other_numbers replies l whys) left) in
-    on_ok_weaker c.fix-2.result
+    on_ok_weaker c.fix.result
     (λ e. let P : List Item
     → Type 0 = AddsSession script replies (texts c.args.raw_calls.now) whys
     (session_numbers replies (texts c.args.raw_calls.now) whys) old in
     subst P (sym e) (adds_as refl (sym whole) refl numbers added))
-    c.fix-2.ensures
+    c.fix.ensures

@@ -1,19 +1,17 @@
 -- Proves the goals of `session_pieces` of src/session.rt that the search leaves open.
-use Rattle.std.proofs.Common.{◌∙◌, ap}
-use Rattle.std.specs.Prelude.{filter}
+use Rattle.std.proofs.Common.{◌∙◌, List, ap, ℕ, subst}
+use Rattle.std.proofs.lemmas.Result.{IfOk-weaker}
 use Rattle.histar_page.specs.Texts.{texts}
 use Rattle.histar_page.specs.Items.{items_of}
-use Rattle.histar_page.specs.Lines.{is_explanation, is_raw_call, is_reply}
-use Rattle.histar_page.proofs.SessionLemmas.{session_is}
+use Rattle.histar_page.specs.Session.{IsSession}
 use Rattle.histar_page.proofs.session.session_pieces.Goals as goal
 
 pub returns : goal.returns
 returns c =
-    session_is (ap texts c.as_slice-4.ensures.value ∙ c.in_ok-script.ensures)
-    (ap texts c.as_slice-5.ensures.value ∙ c.in_ok-replies.ensures
-    ∙ ap (λ l. filter is_reply (texts l)) c.as_slice.ensures.value ∙ ap (filter is_reply) c.in_ok-output.ensures)
-    (ap texts c.as_slice-6.ensures.value ∙ c.in_ok-raw_calls.ensures
-    ∙ ap (λ l. filter is_raw_call (texts l)) c.as_slice-2.ensures.value ∙ ap (filter is_raw_call) c.in_ok-output.ensures)
-    (ap texts c.as_slice-7.ensures.value ∙ c.in_ok-explanations.ensures
-    ∙ ap (λ l. filter is_explanation (texts l)) c.as_slice-3.ensures.value ∙ ap (filter is_explanation) c.in_ok-output.ensures)
-    (ap items_of c.new-pieces.ensures.items) c.in_ok-push_session.ensures
+    let script = ap texts c.as_slice.ensures.value ∙ c.in_ok-script.ensures in
+    let output = ap texts c.as_slice-2.ensures.value ∙ c.in_ok-output.ensures in
+    IfOk-weaker c.line_pieces.result _ _
+    (λ pieces is.
+    let P : List (List ℕ) × List (List ℕ) → Type 0 = λ lines. IsSession lines.0 lines.1 (items_of pieces.items) in
+    subst P (λ i. (script i, output i)) is)
+    c.line_pieces.ensures

@@ -1,13 +1,13 @@
--- The invariants and measures of `marked_among` of src/lines.rt.
+-- The invariants and measures of `among` of src/lines.rt.
 use Rattle.std.proofs.Common.{◌≡◌, ◌++◌, length}
 use Rattle.std.specs.Prelude.{filter}
 use Rattle.histar_page.specs.Texts.{texts}
-use Rattle.histar_page.specs.Lines.{has_mark}
-use Rattle.histar_page.proofs.lines.marked_among.Given as goal
+use Rattle.histar_page.specs.Classes.{is_of}
+use Rattle.histar_page.proofs.lines.among.Given as goal
 
 abbrev pub decreases-lines : goal.decreases-lines
 decreases-lines l = length l.rest
 
 abbrev pub invariant-lines : goal.invariant-lines
 invariant-lines l =
-    texts l.found.items ++ filter (has_mark l.mark) (texts l.rest) ≡ filter (has_mark l.mark) (texts l.lines)
+    texts l.found.items ++ filter (is_of l.class) (texts l.rest) ≡ filter (is_of l.class) (texts l.lines)
