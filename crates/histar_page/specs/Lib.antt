@@ -3,7 +3,7 @@ pub mod Texts
 pub mod Rendering
 pub mod Items
 pub mod Lines
-pub mod Classes
+pub mod LineKinds
 pub mod Order
 pub mod Head
 pub mod Session

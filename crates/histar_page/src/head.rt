@@ -7,7 +7,7 @@ ghost use Rattle.histar_page.specs.Lines.{is_denied, is_refused};
 ghost use Rattle.histar_page.specs.Head.{head_items};
 
 use crate::kind::Kind;
-use crate::lines::{Class, after_word, among, is_denied, lines_in};
+use crate::lines::{LineKind, after_word, among, is_denied, lines_in};
 use crate::markup::Markup;
 use crate::piece::Piece;
 use std::alloc::{AllocError, Global};
@@ -24,8 +24,8 @@ pub(crate) fn head_pieces<'a>(
         ≡ head_items name.entry.now version.entry.now (lines_of output.entry.now)) }
 {
     let lines = lines_in(alloc, output)?;
-    let replies = among(alloc, Class::Reply, lines.as_slice())?;
-    let raw_calls = among(alloc, Class::RawCall, lines.as_slice())?;
+    let replies = among(alloc, LineKind::Reply, lines.as_slice())?;
+    let raw_calls = among(alloc, LineKind::RawCall, lines.as_slice())?;
     Vec::from_slice(
         alloc,
         &[

@@ -7,7 +7,7 @@ ghost use Rattle.histar_page.specs.Lines.{words_of};
 ghost use Rattle.histar_page.specs.Drawing.{has_letter, is_in_a_job, is_within, job_begun, job_on, jobs_of, process_of};
 
 use crate::files::COLON;
-use crate::lines::{Class, after_word, among, lines_in, or_nothing, words_in};
+use crate::lines::{LineKind, after_word, among, lines_in, or_nothing, words_in};
 use crate::session::call_on;
 use histar_flat::split_at_first;
 use std::alloc::{AllocError, Global};
@@ -26,7 +26,7 @@ pub(crate) fn jobs_of<'a>(
 {
     let script = lines_in(alloc, script)?;
     let output = lines_in(alloc, output)?;
-    let replies = among(alloc, Class::Reply, output.as_slice())?;
+    let replies = among(alloc, LineKind::Reply, output.as_slice())?;
     jobs_in(alloc, script.as_slice(), replies.as_slice())
 }
 

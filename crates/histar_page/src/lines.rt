@@ -4,7 +4,7 @@ ghost use Rattle.std.specs.List.{prefix_len};
 ghost use Rattle.std.specs.Option.{option_copied};
 ghost use Rattle.histar_script.specs.Lines.{lines_of};
 ghost use Rattle.histar_page.specs.Texts.{texts};
-ghost use Rattle.histar_page.specs.Classes.{is_of};
+ghost use Rattle.histar_page.specs.LineKinds.{is_of};
 ghost use Rattle.histar_page.specs.Lines.{after_word, front_number, has_mark, is_denied, is_own, is_reply, mark_number, without_first, words_of};
 
 use histar_flat::read_number;
@@ -22,7 +22,7 @@ const WHY_MARK: u8 = b'?';
 
 /// What a line in the output of a run is.
 #[derive(Clone, Copy)]
-pub(crate) enum Class {
+pub(crate) enum LineKind {
     Reply,
     RawCall,
     Explanation,
@@ -77,29 +77,29 @@ pub(crate) fn without_first<'s, 'a>(lines: &'s [&'a [u8]]) -> &'s [&'a [u8]]
     }
 }
 
-/// Checks whether a line is of a class.
-fn is_of(class: Class, line: &[u8]) -> bool
-    ensures { result ≡ is_of class line.now }
+/// Checks whether a line is of a kind.
+fn is_of(kind: LineKind, line: &[u8]) -> bool
+    ensures { result ≡ is_of kind line.now }
 {
-    match class {
-        Class::Reply => is_reply(line),
-        Class::RawCall => has_mark(RAW_MARK, line),
-        Class::Explanation => has_mark(WHY_MARK, line),
+    match kind {
+        LineKind::Reply => is_reply(line),
+        LineKind::RawCall => has_mark(RAW_MARK, line),
+        LineKind::Explanation => has_mark(WHY_MARK, line),
     }
 }
 
-/// Returns the lines of a class.
+/// Returns the lines of a kind.
 pub(crate) fn among<'a>(
     alloc: Global,
-    class: Class,
+    kind: LineKind,
     lines: &[&'a [u8]],
 ) -> Result<Vec<&'a [u8]>, AllocError>
-    ensures { IfOk result (λ found. texts found.items ≡ filter (is_of class) (texts lines.now)) }
+    ensures { IfOk result (λ found. texts found.items ≡ filter (is_of kind) (texts lines.now)) }
 {
     let mut found = Vec::new(alloc);
     let mut rest = lines;
     'lines: while let [line, more @ ..] = rest {
-        if is_of(class, line) {
+        if is_of(kind, line) {
             found.push(*line)?;
         }
         rest = more;

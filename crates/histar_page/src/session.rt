@@ -11,7 +11,7 @@ ghost use Rattle.histar_page.specs.Order.{other_numbers, past_own, session_numbe
 
 use crate::head::is_refused;
 use crate::kind::Kind;
-use crate::lines::{Class, after_word, among, front_number, lines_in, own_count};
+use crate::lines::{LineKind, after_word, among, front_number, lines_in, own_count};
 use crate::markup::Markup;
 use crate::piece::{Piece, add, fix};
 use crate::views::{View, push_each};
@@ -41,9 +41,9 @@ fn line_pieces<'a>(
     ensures { IfOk result (λ pieces.
         IsSession (texts script.now) (texts output.now) (items_of pieces.items)) }
 {
-    let replies = among(alloc, Class::Reply, output)?;
-    let raw_calls = among(alloc, Class::RawCall, output)?;
-    let explanations = among(alloc, Class::Explanation, output)?;
+    let replies = among(alloc, LineKind::Reply, output)?;
+    let raw_calls = among(alloc, LineKind::RawCall, output)?;
+    let explanations = among(alloc, LineKind::Explanation, output)?;
     let mut pieces = Vec::new(alloc);
     push_session(
         &mut pieces,
