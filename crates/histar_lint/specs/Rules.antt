@@ -79,6 +79,12 @@ group_word_rules text =
     ∷ (is_none (after_word text), codes "a group line is `group NAME USER..`")
     ∷ (is_none (group_of text), codes "a group has 1 to 16 members, each a user's name, with one space between two") ∷ []
 
+-- The rules for the members of a group, given the users.
+abbrev pub member_rules : List User → List ℕ → List Rule
+member_rules users text =
+    (has_stranger users (group_of text), codes "a member is no user of the lines above")
+    ∷ (has_twin (group_of text), codes "a member is there twice") ∷ []
+
 -- The rules for what a group line needs of the lines above.
 abbrev pub group_place_rules : ScriptModel → List ℕ → List Rule
 group_place_rules s text =
@@ -86,8 +92,7 @@ group_place_rules s text =
     ∷ (not (nat_lt (length s.accounts.groups) most_groups), codes "9 groups, and 8 is the most")
     ∷ (is_taken (has_user s.accounts.users) text, codes "a user has this name already")
     ∷ (is_taken (is_group s.accounts) text, codes "a group has this name already")
-    ∷ (has_stranger s.accounts.users (group_of text), codes "a member is no user of the lines above")
-    ∷ (has_twin (group_of text), codes "a member is there twice") ∷ []
+    ∷ member_rules s.accounts.users text
 
 -- the call names a group that is not declared
 abbrev pub is_undeclared : Accounts → Option UnixCall → Bool

@@ -1,5 +1,5 @@
 //! The rules for call lines.
-ghost use Rattle.std.specs.Prelude.{◌≡◌, ◌++◌, [], IfOk, OnOk, map, option_map};
+ghost use Rattle.std.specs.Prelude.{◌≡◌, ◌++◌, ◌||◌, [], IfOk, OnOk, is_some, map, option_map};
 ghost use Rattle.std.specs.Option.{option_copied, option_map_or};
 ghost use Rattle.histar_lint.specs.Lines.{first_sentence, rest_of};
 ghost use Rattle.histar_lint.specs.Calls.{argument_rules, bad_argument, call_word_rules, has_too_little, has_too_much, suggestion, unknown_text};
@@ -11,16 +11,6 @@ use histar_flat::{Accounts, CallLine, UnixCall, read_process};
 use histar_script::{is_declared_call, read_call, split_word};
 use std::alloc::{AllocError, Global};
 
-/// Checks whether a call that takes no argument has one.
-fn has_too_much(text: &[u8], shape: Shape) -> bool
-    ensures { result ≡ has_too_much text.now shape }
-{
-    match shape {
-        Shape::Alone => split_word(text).1.is_some(),
-        Shape::One(_) | Shape::Two(_, _) => false,
-    }
-}
-
 /// Returns what follows the first word of a text.
 pub(crate) fn rest_of(text: &[u8]) -> &[u8]
     ensures { result.now ≡ rest_of text.now }
@@ -28,12 +18,12 @@ pub(crate) fn rest_of(text: &[u8]) -> &[u8]
     split_word(text).1.unwrap_or(&[])
 }
 
-/// Checks whether a call lacks an argument.
-fn has_too_little(text: &[u8], shape: Shape) -> bool
-    ensures { result ≡ has_too_little text.now shape }
+/// Checks whether a call has an argument too much, or lacks one.
+fn is_miscounted(text: &[u8], shape: Shape) -> bool
+    ensures { result ≡ (has_too_much text.now shape || has_too_little text.now shape) }
 {
     match shape {
-        Shape::Alone => false,
+        Shape::Alone => split_word(text).1.is_some(),
         Shape::One(_) => split_word(text).1.is_none(),
         Shape::Two(_, _) => split_word(rest_of(text)).1.is_none(),
     }
@@ -87,6 +77,13 @@ fn unknown_text(alloc: Global, word: &[u8]) -> Result<Vec<u8>, AllocError>
     Ok(said)
 }
 
+/// Checks whether a text is a call.
+fn is_call(alloc: Global, text: &[u8]) -> Result<bool, AllocError>
+    ensures { IfOk result (λ is_so. is_so ≡ is_some (call_of text.now)) }
+{
+    Ok(read_call(alloc, text)?.is_some())
+}
+
 /// Returns the sentence of the first rule that the arguments of a call break.
 fn argument_sentence(
     alloc: Global,
@@ -96,11 +93,10 @@ fn argument_sentence(
     ensures { IfOk result (λ said. option_map (λ text. text.items) said
         ≡ first_sentence (argument_rules text.now shape)) }
 {
-    if has_too_much(text, shape) || has_too_little(text, shape) {
-        let said = usage_text(alloc, split_word(text).0, shape)?;
-        return Ok(Some(said));
+    if is_miscounted(text, shape) {
+        return Ok(Some(usage_text(alloc, split_word(text).0, shape)?));
     }
-    if read_call(alloc, text)?.is_some() {
+    if is_call(alloc, text)? {
         return Ok(None);
     }
     let said = Vec::from_slice(alloc, bad_argument(text, shape).as_bytes())?;

@@ -6,7 +6,7 @@ ghost use Rattle.histar_script.specs.Lines.{lines_of};
 ghost use Rattle.histar_script.specs.Reading.{has_user, item_of};
 ghost use Rattle.histar_lint.specs.Lines.{first_sentence};
 ghost use Rattle.histar_lint.specs.Rules.{declared_on, declared_twice, declares, group_place_rules, group_word_rules};
-ghost use Rattle.histar_lint.specs.Rules.{has_stranger, has_twin, is_taken, read_so_far, user_place_rules, user_word_rules};
+ghost use Rattle.histar_lint.specs.Rules.{has_stranger, has_twin, is_taken, member_rules, read_so_far, user_place_rules, user_word_rules};
 
 use crate::shapes::{Kind, kind_text};
 use crate::texts::push_number;
@@ -188,16 +188,30 @@ pub(crate) fn group_place_sentence(
     ensures { IfOk result (λ said. option_copied said
         ≡ first_sentence (group_place_rules (read_so_far accounts.now calls.now) words.now)) }
 {
-    let group = read_group(alloc, words)?;
-    Ok(if !calls.is_empty() {
-        Some("a group line after a call line")
+    if !calls.is_empty() {
+        Ok(Some("a group line after a call line"))
     } else if accounts.groups().len() >= MOST_GROUPS {
-        Some("9 groups, and 8 is the most")
+        Ok(Some("9 groups, and 8 is the most"))
     } else if is_user(accounts.users(), words) {
-        Some("a user has this name already")
+        Ok(Some("a user has this name already"))
     } else if is_group(accounts, words) {
-        Some("a group has this name already")
-    } else if has_stranger(accounts.users(), group.as_ref()) {
+        Ok(Some("a group has this name already"))
+    } else {
+        member_sentence(alloc, accounts.users(), words)
+    }
+}
+
+/// Returns the sentence of the first rule that the members of a group break.
+fn member_sentence(
+    alloc: Global,
+    users: &[User],
+    words: &[u8],
+) -> Result<Option<&'static str>, AllocError>
+    ensures { IfOk result (λ said. option_copied said
+        ≡ first_sentence (member_rules users.now words.now)) }
+{
+    let group = read_group(alloc, words)?;
+    Ok(if has_stranger(users, group.as_ref()) {
         Some("a member is no user of the lines above")
     } else if has_twin(group.as_ref()) {
         Some("a member is there twice")

@@ -2,7 +2,7 @@
 ghost use Rattle.std.specs.Prelude.{◌≡◌, ◌≤◌, false, true, length, is_some, IfOk, IfErr, IfSome, OnOk};
 ghost use Rattle.histar_io.specs.Device.{CountsFailure};
 ghost use Rattle.histar_script.specs.Lines.{lines_of, most_script_bytes};
-ghost use Rattle.histar_script.specs.Reading.{reading, with_line};
+ghost use Rattle.histar_script.specs.Reading.{reading, script_of, with_line};
 ghost use Rattle.histar_script.specs.Runs.{LeavesSink, RunsInput, is_read_failed, is_write_failed};
 ghost use Rattle.histar_lint.specs.Session.{IsFinding, IsMemory, Lints, finding_text, said_of};
 
@@ -55,20 +55,37 @@ fn lint_text<W: Sink>(
 {
     match read_script(alloc, text) {
         Ok(_script) => Ok(true),
-        Err(Fault::BadScript(line)) => {
-            let said = said_at(alloc, text, line)?;
-            let found = finding(alloc, file, line, said.as_slice())?;
-            write_bytes(writer, found.as_slice())?;
-            Ok(false)
-        }
+        Err(Fault::BadScript(line)) => write_finding(alloc, file, text, line, writer),
         Err(fault) => Err(fault),
     }
 }
 
+/// Writes the line for a bad script, and returns false.
+fn write_finding<W: Sink>(
+    alloc: Global,
+    file: &[u8],
+    text: &[u8],
+    line: u32,
+    writer: &mut W,
+) -> Result<bool, Fault>
+    requires short { length text.now ≤ most_script_bytes }
+    requires bad { reading text.now ≡ Err (Fault.BadScript line) }
+    requires script { script_of text.now ≡ Err (Fault.BadScript line) }
+    ensures nothing { IfErr result (LeavesSink writer.old writer.new) }
+    ensures reads { is_read_failed result ≡ false }
+    ensures writes { CountsFailure (W.failures writer.old) (W.failures writer.new)
+        (is_write_failed result) }
+    ensures runs { Lints file.now text.now (W.written writer.old) (W.written writer.new) result }
+{
+    let said = said_at(alloc, text, line)?;
+    let found = finding(alloc, file, line, said.as_slice())?;
+    write_bytes(writer, found.as_slice())?;
+    Ok(false)
+}
+
 /// Returns the line that is written for a bad script.
-fn finding(alloc: Global, file: &[u8], line: u32, said: &[u8]) -> Result<Vec<u8>, Fault>
-    ensures ok { IfOk result (λ text. text.items ≡ finding_text file.now line said.now) }
-    ensures err { IfErr result IsMemory }
+fn finding(alloc: Global, file: &[u8], line: u32, said: &[u8]) -> Result<Vec<u8>, AllocError>
+    ensures { IfOk result (λ text. text.items ≡ finding_text file.now line said.now) }
 {
     let mut text = Vec::from_slice(alloc, file)?;
     text.extend_from_slice(b":")?;

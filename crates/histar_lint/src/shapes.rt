@@ -2,6 +2,7 @@
 //! word.
 ghost use Rattle.std.specs.Prelude.{◌≡◌, ◌++◌, IfOk, OnOk, codes, map};
 ghost use Rattle.std.specs.Option.{option_copied};
+ghost use Rattle.std.specs.Str.{bytes_eq};
 ghost use Rattle.histar_script.specs.CallForms.{call_forms, entry_calls, process_calls, reading_calls};
 ghost use Rattle.histar_lint.specs.Calls.{arguments_text, first_near, is_near, is_value, kind_name, kind_text, nearest};
 ghost use Rattle.histar_lint.specs.Calls.{shape_among, shape_named, usage_text};
@@ -30,21 +31,22 @@ pub enum Shape {
     Two(Kind, Kind),
 }
 
+/// Checks whether a word is this one.
+fn is_word(word: &[u8], other: &str) -> bool
+    ensures { result ≡ bytes_eq word.now other.now }
+{
+    word == other.as_bytes()
+}
+
 /// Returns the shape of the call that a word names, or `None`.
 pub(crate) fn shape_named(word: &[u8]) -> Option<Shape>
     ensures { result ≡ shape_named word.now }
 {
-    if word == b"spawn".as_slice() {
+    if is_word(word, "spawn") || is_word(word, "whoami") {
         Some(Shape::Alone)
-    } else if word == b"whoami".as_slice() {
-        Some(Shape::Alone)
-    } else if word == b"create".as_slice() {
+    } else if is_word(word, "create") || is_word(word, "mkdir") {
         Some(Shape::Two(Kind::Path, Kind::Mode))
-    } else if word == b"mkdir".as_slice() {
-        Some(Shape::Two(Kind::Path, Kind::Mode))
-    } else if word == b"write".as_slice() {
-        Some(Shape::Two(Kind::Path, Kind::Bytes))
-    } else if word == b"append".as_slice() {
+    } else if is_word(word, "write") || is_word(word, "append") {
         Some(Shape::Two(Kind::Path, Kind::Bytes))
     } else {
         reading_shape(word)
@@ -55,11 +57,7 @@ pub(crate) fn shape_named(word: &[u8]) -> Option<Shape>
 fn reading_shape(word: &[u8]) -> Option<Shape>
     ensures { result ≡ shape_among (reading_calls ++ entry_calls ++ process_calls) word.now }
 {
-    if word == b"read".as_slice() {
-        Some(Shape::One(Kind::Path))
-    } else if word == b"list".as_slice() {
-        Some(Shape::One(Kind::Path))
-    } else if word == b"stat".as_slice() {
+    if is_word(word, "read") || is_word(word, "list") || is_word(word, "stat") {
         Some(Shape::One(Kind::Path))
     } else {
         entry_shape(word)
@@ -70,16 +68,14 @@ fn reading_shape(word: &[u8]) -> Option<Shape>
 fn entry_shape(word: &[u8]) -> Option<Shape>
     ensures { result ≡ shape_among (entry_calls ++ process_calls) word.now }
 {
-    if word == b"unlink".as_slice() {
+    if is_word(word, "unlink")
+        || is_word(word, "rmdir")
+        || is_word(word, "rmtree")
+        || is_word(word, "wrap")
+    {
         Some(Shape::One(Kind::Path))
-    } else if word == b"rmdir".as_slice() {
-        Some(Shape::One(Kind::Path))
-    } else if word == b"rmtree".as_slice() {
-        Some(Shape::One(Kind::Path))
-    } else if word == b"rename".as_slice() {
+    } else if is_word(word, "rename") {
         Some(Shape::Two(Kind::Path, Kind::Name))
-    } else if word == b"wrap".as_slice() {
-        Some(Shape::One(Kind::Path))
     } else {
         process_shape(word)
     }
@@ -89,13 +85,11 @@ fn entry_shape(word: &[u8]) -> Option<Shape>
 fn process_shape(word: &[u8]) -> Option<Shape>
     ensures { result ≡ shape_among process_calls word.now }
 {
-    if word == b"exit".as_slice() {
+    if is_word(word, "exit") {
         Some(Shape::One(Kind::Status))
-    } else if word == b"status".as_slice() {
+    } else if is_word(word, "status") || is_word(word, "kill") {
         Some(Shape::One(Kind::Process))
-    } else if word == b"kill".as_slice() {
-        Some(Shape::One(Kind::Process))
-    } else if word == b"login".as_slice() {
+    } else if is_word(word, "login") {
         Some(Shape::Two(Kind::Name, Kind::Password))
     } else {
         None
