@@ -4,6 +4,7 @@ pub mod Exits
 pub mod Directories
 pub mod Finding
 pub mod Scanning
+pub mod Homes
 pub mod DenialReplies
 pub mod RepliesOfParts
 pub mod Making

@@ -38,21 +38,21 @@ pub fn find_caller<S: LabelStore + Drop>(
     caller_in(kernel, home)
 }
 
-// Finds where the process of these numbers is, the last number first.
+// Finds where the process of these numbers is. The last number comes first in the list.
 fn home_at<S: LabelStore + Drop>(kernel: &Kernel<S>, first: Home, numbers: &[u8]) -> Option<Home>
     ensures { result ≡ home_at (state kernel.now) first numbers.now }
 {
-    let [number, above @ ..] = numbers else {
-        return Some(first);
-    };
-    let home = home_at(kernel, first, above)?;
-    let Ok(Some(child)) = find_child(kernel.bytes(home.segment), *number) else {
-        return None;
-    };
-    Some(Home {
-        container: child.container,
-        segment: child.segment,
-    })
+    let mut home = first;
+    let mut rest = numbers;
+    'numbers: while let [below @ .., number] = rest {
+        let child = find_child(kernel.bytes(home.segment), *number).ok()??;
+        home = Home {
+            container: child.container,
+            segment: child.segment,
+        };
+        rest = below;
+    }
+    Some(home)
 }
 
 /// Returns the process that is found there, if it runs.

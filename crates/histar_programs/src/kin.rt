@@ -30,7 +30,8 @@ pub fn owned_by(
 pub fn categories_of(alloc: Global, owners: &[u8], free: bool) -> Result<Vec<Category>, AllocError>
     ensures { IfOk result (λ owned. owned.items ≡ categories_of owners.now free) }
 {
-    let owned = with_reading(Vec::new(alloc), owners)?;
+    let room = Vec::with_capacity(alloc, owners.len().saturating_mul(2))?;
+    let owned = with_reading(room, owners)?;
     if free {
         return with_writing(owned, owners);
     }
