@@ -9,7 +9,8 @@ use histar_label::Category;
 use histar_layout::{UserTable, owners_of, read_category, write_category};
 use std::alloc::{AllocError, Global};
 
-/// Returns the categories that a process owns as the user of this number, if it is free of jobs or not.
+/// Returns the categories that a process owns as the user of this number, if it is free of jobs or not. Where no group
+/// was declared, these are the user's own.
 pub fn owned_by(
     alloc: Global,
     users: &UserTable,
@@ -21,12 +22,15 @@ pub fn owned_by(
     if user == 0 {
         return Ok(Vec::new(alloc));
     }
+    if users.groups().is_empty() {
+        return categories_of(alloc, &[user], free);
+    }
     let name = user_name(users, user);
     let owners = owners_of(alloc, users, user, name)?;
     categories_of(alloc, owners.as_slice(), free)
 }
 
-/// Returns the categories by which these users and groups read and, in a free process, those by which they
+/// Returns the categories by which these users and groups read and, in a free process, those by which they write.
 pub fn categories_of(alloc: Global, owners: &[u8], free: bool) -> Result<Vec<Category>, AllocError>
     ensures { IfOk result (λ owned. owned.items ≡ categories_of owners.now free) }
 {
