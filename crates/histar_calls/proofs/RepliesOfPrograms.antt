@@ -22,7 +22,8 @@ use Rattle.histar_layout.specs.ShownClass.{class_shown}
 use Rattle.histar_calls.specs.StatCall.{find_object, class_reply, stat_program}
 use Rattle.histar_programs.specs.Laws.{RepliesToRefusals}
 use Rattle.histar_calls.specs.Laws.{CallsReplyToRefusals}
-use Rattle.histar_programs.proofs.RepliesOfParts.{room_replies, file_replies, walk_replies, place_replies, look_replies, denial_has_reply, denial_of_write_has_reply}
+use Rattle.histar_programs.proofs.RepliesOfParts.{room_replies, file_replies, walk_replies, place_replies, look_replies}
+use Rattle.histar_programs.proofs.RepliesOfParts.{denial_has_reply, denial_of_write_has_reply}
 
 -- the search for an object replies to its refusals
 object_replies : (roots : Roots) (path : Path) (rest : FoundObject → Program)

@@ -179,7 +179,8 @@ fn task_by<'a>(
     words: &'a [&'a str],
 ) -> Result<Task<'a>, Error>
     requires { app_of command.old ≡ histar_app }
-    ensures { IfOk result (λ task. IsTaskOf task (subcommand_of histar_app (map (λ word. word.now) words.entry.now))) }
+    ensures { IfOk result (λ task. IsTaskOf task
+        (subcommand_of histar_app (map (λ word. word.now) words.entry.now))) }
 {
     let matches = command.try_get_matches_from_mut(words)?;
     let Some(task) = matched_task(alloc, &matches)? else {
@@ -196,7 +197,8 @@ fn task_by<'a>(
 /// An error is `clap`'s own: help or the version, if the words ask for it, a refused command line, or out of
 /// memory.
 pub fn read_words<'a>(alloc: Global, words: &'a [&'a str]) -> Result<Task<'a>, Error>
-    ensures { IfOk result (λ task. IsTaskOf task (subcommand_of histar_app (map (λ word. word.now) words.entry.now))) }
+    ensures { IfOk result (λ task. IsTaskOf task
+        (subcommand_of histar_app (map (λ word. word.now) words.entry.now))) }
 {
     let mut command = command(alloc)?;
     task_by(alloc, &mut command, words)

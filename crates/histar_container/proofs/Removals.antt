@@ -65,7 +65,8 @@ module _ {L : Type 0} where
           let more =
           gathers_more (objects_of es) trees.root trees.next trees.tree o (take i old) x (drop (i + 1) old) old
           (split_there old i x lt is) g appends.added appends.listed in
-          subst (λ l. Gathers (objects_of es) o l new) (sym read_more) (subst (Gathers (objects_of es) o (take i old ++ x ∷ [])) (sym appends.is) more)
+          subst (λ l. Gathers (objects_of es) o l new) (sym read_more) (subst (Gathers (objects_of es) o (take i old ++ x ∷ [])) (sym appends.is)
+          more)
 
       -- the numbers that were read are in the list
       pub step_in_list : i + 1 ≤ length new

@@ -39,7 +39,8 @@ pub fn link_new<L: Drop>(
 
 /// Links an object in a container.
 fn link<L>(table: &mut Table<L>, container: ObjId, object: ObjId) -> Result<(), AllocError>
-    ensures ok { OnOk result (objects_of table.new ≡ changed_at (objects_of table.old) container (linking object)) }
+    ensures ok { OnOk result (objects_of table.new
+        ≡ changed_at (objects_of table.old) container (linking object)) }
     ensures err { OnErr result (objects_of table.new ≡ objects_of table.old) }
     ensures room { table.new.room ≡ table.old.room }
 {

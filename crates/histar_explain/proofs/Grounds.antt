@@ -192,7 +192,8 @@ range_grounds s t (Enter d o wanted clearance verify) e thread h =
       | inr later ↦ elim (one_of_both (known s wanted) _ later) [
         | inl unknown ↦ by_label s _ _ wanted (first_among wanted (clearance ∷ verify ∷ [])) unknown
         | inr last ↦ elim (one_of_both (known s clearance) _ last) [
-          | inl unknown ↦ by_label s _ _ clearance (later_among wanted clearance (clearance ∷ verify ∷ []) (first_among clearance (verify ∷ []))) unknown
+          | inl unknown ↦ by_label s _ _ clearance (later_among wanted clearance (clearance ∷ verify ∷ []) (first_among clearance (verify ∷ [])))
+              unknown
           | inr unknown ↦
               by_label s _ _ verify (later_among wanted verify (clearance ∷ verify ∷ [])
               (later_among clearance verify (verify ∷ []) (first_among verify []))) unknown

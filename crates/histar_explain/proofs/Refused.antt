@@ -345,7 +345,8 @@ gate_refusal s t (Read d o) e =
     (not_unless Gate (observes (s.objects t) (s.objects o)) Observe (λ h. cc))) e
 gate_refusal s t (Write d o keep bytes) e = never Gate _
     (not_orelse Gate (no_segment s t d o) _ (segment_not Gate (λ h. cc) (λ h. cc) (λ h. cc) (λ h. cc) s t d o)
-    (not_orelse Gate (unless (modifies (s.objects t) (s.objects o)) Modify) _ (not_unless Gate (modifies (s.objects t) (s.objects o)) Modify (λ h. cc)) (not_unless Gate _ TooBig (λ h. cc)))) e
+    (not_orelse Gate (unless (modifies (s.objects t) (s.objects o)) Modify) _
+    (not_unless Gate (modifies (s.objects t) (s.objects o)) Modify (λ h. cc)) (not_unless Gate _ TooBig (λ h. cc)))) e
 gate_refusal s t (Unlink d o) e =
     never Gate _ (not_orelse Gate (no_link s t d o) _ (link_not Gate (λ h. cc) (λ h. cc) (λ h. cc) (λ h. cc) s t d o)
     (not_unless Gate (modifies (s.objects t) (s.objects d)) Modify (λ h. cc))) e

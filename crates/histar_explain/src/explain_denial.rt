@@ -85,7 +85,8 @@ fn entry_reasons<S: LabelStore + Drop>(
     ones: &Label,
 ) -> Result<Vec<Reason>, OutOfMemory>
     requires { ones.now ≡ constant L1 }
-    ensures { IfOk result (λ reasons. AllZip IsReasonOf (entering own.now (state kernel.now) call.now) reasons.items) }
+    ensures { IfOk result (λ reasons. AllZip IsReasonOf
+        (entering own.now (state kernel.now) call.now) reasons.items) }
 {
     match call {
         RawCall::Enter(_, gate, _, _, verify) => {

@@ -111,7 +111,8 @@ pub(crate) fn gate_reasons(
     gate_clearance: &Label,
     verify: &Label,
 ) -> Result<Vec<Reason>, OutOfMemory>
-    ensures { IfOk result (λ reasons. AllZip IsReasonOf (letting own.now gate_clearance.now verify.now) reasons.items) }
+    ensures { IfOk result (λ reasons. AllZip IsReasonOf
+        (letting own.now gate_clearance.now verify.now) reasons.items) }
 {
     let first = below(
         alloc,
@@ -175,7 +176,8 @@ pub(crate) fn range_reasons(
     label: &Label,
     own_clearance: &Label,
 ) -> Result<Vec<Reason>, OutOfMemory>
-    ensures { IfOk result (λ reasons. AllZip IsReasonOf (in_range own.now label.now own_clearance.now) reasons.items) }
+    ensures { IfOk result (λ reasons. AllZip IsReasonOf
+        (in_range own.now label.now own_clearance.now) reasons.items) }
 {
     between(
         alloc,
@@ -263,7 +265,8 @@ pub(crate) fn opening_reasons(
     label: &Label,
     clearance: &Label,
 ) -> Result<Vec<Reason>, OutOfMemory>
-    ensures { IfOk result (λ reasons. AllZip IsReasonOf (behind_gate opening.entry.own.now opening.entry.gate_label.now
+    ensures { IfOk result (λ reasons. AllZip IsReasonOf
+        (behind_gate opening.entry.own.now opening.entry.gate_label.now
         label.now clearance.now opening.entry.own_clearance.now opening.entry.gate_clearance.now) reasons.items) }
 {
     let floor = opening.own.floor(opening.gate_label)?;

@@ -42,7 +42,8 @@ pub trait Sink {
     fn give(&mut self, bytes: &[u8]) -> io::Result<usize>
         ensures bound { WritesAtMost result bytes.now }
         ensures bytes { WriteAppends (written self.old) (written self.new) result bytes.now }
-        ensures count { CountsFailure (failures self.old) (failures self.new) (has_failed_write result bytes.now) };
+        ensures count { CountsFailure (failures self.old) (failures self.new)
+            (has_failed_write result bytes.now) };
 }
 
 /// A reader or a writer with a count of its failed calls.

@@ -13,7 +13,8 @@ use std::ops::Range;
 /// would lie, where there is none. It goes from entry to entry, up to the first whose name is not less, and
 /// no further.
 pub fn span_of(bytes: &[u8], name: &Name) -> Range<usize>
-    ensures { (dir : Entries) → IsDirectory bytes.now dir → IsSpan bytes.now dir name.now result.start result.end }
+    ensures { (dir : Entries) → IsDirectory bytes.now dir
+        → IsSpan bytes.now dir name.now result.start result.end }
 {
     let wanted = name.as_bytes();
     let mut rest = bytes;

@@ -68,7 +68,10 @@ impl Model for UserTable {
 
     ghost view = { λ t. record { users = map (λ k. called k.name) t.names.keys; groups = t.groups.items } };
 
-    ghost invariant = { λ t. IsSmall (record { users = map (λ k. called k.name) t.names.keys; groups = t.groups.items }) };
+    ghost invariant = { λ t. IsSmall (record {
+      users = map (λ k. called k.name) t.names.keys;
+      groups = t.groups.items;
+    }) };
 }
 
 impl UserTable {

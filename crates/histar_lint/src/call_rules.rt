@@ -58,7 +58,8 @@ fn push_call(said: &mut Vec<u8>, call: &str) -> Result<(), AllocError>
 
 /// Adds the call that may have been meant, if one is near.
 fn push_suggestion(said: &mut Vec<u8>, near: Option<&str>) -> Result<(), AllocError>
-    ensures { OnOk result (said.new.items ≡ said.old.items ++ option_map_or suggestion (option_copied near.entry) []) }
+    ensures { OnOk result (said.new.items ≡ said.old.items
+        ++ option_map_or suggestion (option_copied near.entry) []) }
 {
     match near {
         None => Ok(()),

@@ -120,7 +120,8 @@ pub(crate) fn user_place_sentence(
     words: &[u8],
 ) -> Result<Option<Vec<u8>>, AllocError>
     ensures { IfOk result (λ said. option_map (λ text. text.items) said
-        ≡ first_sentence (user_place_rules (lines_of text.now) (read_so_far accounts.now calls.now) words.now)) }
+        ≡ first_sentence (user_place_rules (lines_of text.now) (read_so_far accounts.now calls.now)
+        words.now)) }
 {
     let fixed = if !accounts.groups().is_empty() {
         b"a user line after a group line".as_slice()

@@ -35,7 +35,8 @@ fn user_sentence(
     words: &[u8],
 ) -> Result<Option<Vec<u8>>, AllocError>
     ensures { IfOk result (λ said. option_map (λ text. text.items) said
-        ≡ first_sentence (user_word_rules words.now ++ user_place_rules (lines_of text.now) (read_so_far accounts.now calls.now) words.now)) }
+        ≡ first_sentence (user_word_rules words.now
+        ++ user_place_rules (lines_of text.now) (read_so_far accounts.now calls.now) words.now)) }
 {
     match copied(alloc, user_word_sentence(words))? {
         Some(said) => Ok(Some(said)),
@@ -51,7 +52,8 @@ fn group_sentence(
     words: &[u8],
 ) -> Result<Option<Vec<u8>>, AllocError>
     ensures { IfOk result (λ said. option_map (λ text. text.items) said
-        ≡ first_sentence (group_word_rules words.now ++ group_place_rules (read_so_far accounts.now calls.now) words.now)) }
+        ≡ first_sentence (group_word_rules words.now
+        ++ group_place_rules (read_so_far accounts.now calls.now) words.now)) }
 {
     let said = match group_word_sentence(alloc, words)? {
         Some(said) => Some(said),
@@ -69,7 +71,8 @@ fn call_sentence(
     words: &[u8],
 ) -> Result<Option<Vec<u8>>, AllocError>
     ensures { IfOk result (λ said. option_map (λ text. text.items) said
-        ≡ first_sentence (call_word_rules process.now words.now ++ call_place_rules (read_so_far accounts.now calls.now) words.now)) }
+        ≡ first_sentence (call_word_rules process.now words.now
+        ++ call_place_rules (read_so_far accounts.now calls.now) words.now)) }
 {
     match call_word_sentence(alloc, process, words)? {
         Some(said) => Ok(Some(said)),
@@ -108,7 +111,8 @@ fn printable_sentence(
     line: &[u8],
 ) -> Result<Option<Vec<u8>>, AllocError>
     ensures { IfOk result (λ said. option_map (λ text. text.items) said
-        ≡ first_sentence (word_rules line.now ++ kind_rules (lines_of text.now) (read_so_far accounts.now calls.now) line.now)) }
+        ≡ first_sentence (word_rules line.now
+        ++ kind_rules (lines_of text.now) (read_so_far accounts.now calls.now) line.now)) }
 {
     match copied(alloc, word_sentence(line))? {
         Some(said) => Ok(Some(said)),

@@ -88,7 +88,8 @@ fn unprintable_text(alloc: Global, column: usize, byte: u8) -> Result<Vec<u8>, A
 
 /// Returns the sentence of the first rule for bytes that a line breaks.
 pub(crate) fn byte_sentence(alloc: Global, line: &[u8]) -> Result<Option<Vec<u8>>, AllocError>
-    ensures { IfOk result (λ said. option_map (λ text. text.items) said ≡ first_sentence (byte_rules line.now)) }
+    ensures { IfOk result (λ said. option_map (λ text. text.items) said
+        ≡ first_sentence (byte_rules line.now)) }
 {
     if line.len() > MOST_LINE_BYTES {
         return Ok(Some(long_text(alloc, line)?));

@@ -111,7 +111,8 @@ fn first_near<'a>(
     word: &[u8],
     calls: &[&'a str],
 ) -> Result<Option<&'a str>, AllocError>
-    ensures { IfOk result (λ call. option_copied call ≡ first_near word.now (map (λ call. call.now) calls.now)) }
+    ensures { IfOk result (λ call. option_copied call
+        ≡ first_near word.now (map (λ call. call.now) calls.now)) }
 {
     'calls: for call in calls {
         if is_near(alloc, word, call.as_bytes())? {

@@ -214,7 +214,8 @@ module _ (first k0 : KernelModel) (p : Part) (b0 : Boots first k0 p) where
           process_begun_four n owners at new same =
               begun_at first k4 new p.calls p4 (process_calls n owners) 4 b4 same
               (calls4
-              ∙ (λ j. p.calls ++ calls.MakeCategory ∷ calls.MakeCategory ∷ outer_call (write_is n owners at j) ∷ inner_call (outer_is n owners at j) (read_is n owners at j) (write_is n owners at j) ∷ [])) (omega arith)
+              ∙ (λ j. p.calls ++ calls.MakeCategory ∷ calls.MakeCategory ∷ outer_call (write_is n owners at j) ∷ inner_call (outer_is n owners at j)
+              (read_is n owners at j) (write_is n owners at j) ∷ [])) (omega arith)
 
           module _ (thread : ℕ) (k5 : KernelModel)
               (c5 : Called k4 k5 boot_thread_number (thread_call inner read write) None)

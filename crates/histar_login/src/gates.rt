@@ -9,7 +9,8 @@ use std::alloc::{AllocError, Global};
 
 /// Returns the label and the clearance of a gate: the label owns the categories of these users and groups.
 pub(crate) fn gate_labels(alloc: Global, owners: &[u8]) -> Result<(Label, Label), AllocError>
-    ensures { IfOk result (λ gate. (gate.0 ≡ owners_label owners.now) × (gate.1 ≡ owners_clearance owners.now)) }
+    ensures { IfOk result (λ gate. (gate.0 ≡ owners_label owners.now)
+        × (gate.1 ≡ owners_clearance owners.now)) }
 {
     let given = label_at_both(alloc, Level::L1, Level::Star, owners)?;
     let clearance = label_at_both(alloc, Level::L2, Level::L3, owners)?;

@@ -72,7 +72,8 @@ fn enter_gate<S: LabelStore + Drop>(
     given: &Given,
     own: &(Label, Label),
 ) -> Result<Entry, CallError>
-    ensures { RunsPart (ask (entering given.now.owners.now number own.now.0 own.now.1)) kernel.old kernel.new thread result }
+    ensures { RunsPart (ask (entering given.now.owners.now number own.now.0 own.now.1)) kernel.old
+        kernel.new thread result }
 {
     let (wanted, clearance) = entry_labels(given, own)?;
     let gate = ObjId::new(2 + 2 * u64::from(number));
@@ -123,7 +124,8 @@ fn take_due<S: LabelStore + Drop>(
     given: Given,
     own: (Label, Label),
 ) -> Result<(), CallError>
-    ensures { RunsPart (take_due right caller.now given.entry.owners.now own) kernel.old kernel.new caller.now.thread result }
+    ensures { RunsPart (take_due right caller.now given.entry.owners.now own) kernel.old kernel.new
+        caller.now.thread result }
 {
     let (label, clearance) = due_labels(right, caller, given, own)?;
     kernel.set_label(caller.thread, label)?;

@@ -97,7 +97,8 @@ fn push_location(
 impl<'k, S: LabelStore + Drop> Names<'k, S> {
     /// Adds a category by what it is for.
     fn push_category_name(&self, text: &mut Vec<u8>, category: Category) -> Result<(), AllocError>
-        ensures { OnOk result (text.new.items ≡ text.old.items ++ (words_at self.now.users.now self.now.roots.now
+        ensures { OnOk result (text.new.items ≡ text.old.items
+            ++ (words_at self.now.users.now self.now.roots.now
             (state self.now.kernel.now) self.now.clue.now self.now.births.now).category category) }
     {
         match purpose_of(self, category) {

@@ -218,7 +218,8 @@ fn thread_labels(alloc: Global, newborn: &Newborn) -> Result<(Label, Label), All
     ensures label { let child = newborn.now in
         IfOk result (λ made. made.0 ≡ owner_label (child.read ∷ child.write ∷ child.owned.now) child.jobs.now) }
     ensures clearance { let child = newborn.now in
-        IfOk result (λ made. made.1 ≡ cleared_at ((child.read ∷ child.write ∷ child.owned.now) ++ child.jobs.now)) }
+        IfOk result (λ made. made.1 ≡ cleared_at ((child.read ∷ child.write ∷ child.owned.now)
+        ++ child.jobs.now)) }
 {
     let label = label_at(alloc, Level::L1, Level::Star, newborn)?;
     let clearance = label_at(alloc, Level::L2, Level::L3, newborn)?;

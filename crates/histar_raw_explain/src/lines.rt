@@ -42,7 +42,8 @@ fn push_opening<V: Wording>(
     thread: ObjId,
     act: Act,
 ) -> Result<(), AllocError>
-    ensures { OnOk result (text.new.items ≡ text.old.items ++ opening_text (V.words words.now) line thread act) }
+    ensures { OnOk result (text.new.items ≡ text.old.items
+        ++ opening_text (V.words words.now) line thread act) }
 {
     text.extend_from_slice(b"?")?;
     push_number(text, u64::from(line))?;
@@ -60,7 +61,8 @@ fn push_unmade<V: Wording>(
     opening: &[u8],
     category: Category,
 ) -> Result<(), AllocError>
-    ensures { OnOk result (text.new.items ≡ text.old.items ++ unmade_line (V.words words.now) opening.now category) }
+    ensures { OnOk result (text.new.items ≡ text.old.items
+        ++ unmade_line (V.words words.now) opening.now category) }
 {
     text.extend_from_slice(opening)?;
     words.push_category(text, category)?;
@@ -90,7 +92,8 @@ fn push_place<V: Wording>(
     opening: &[u8],
     category: Category,
 ) -> Result<(), AllocError>
-    ensures { OnOk result (text.new.items ≡ text.old.items ++ place_text (V.words words.now) opening.now category) }
+    ensures { OnOk result (text.new.items ≡ text.old.items
+        ++ place_text (V.words words.now) opening.now category) }
 {
     text.extend_from_slice(opening)?;
     text.extend_from_slice(b"at ")?;
@@ -128,7 +131,8 @@ fn push_differences<V: Wording>(
     reason: &Reason,
 ) -> Result<(), AllocError>
     ensures { OnOk result (text.new.items ≡ text.old.items
-        ++ flat_map (difference_line (V.words words.now) opening.now reason.now.lower reason.now.upper) reason.now.named.items) }
+        ++ flat_map (difference_line (V.words words.now) opening.now reason.now.lower
+        reason.now.upper) reason.now.named.items) }
 {
     for difference in &reason.named {
         push_difference(text, words, opening, reason, *difference)?;
@@ -142,7 +146,8 @@ fn push_spared<V: Wording>(
     words: &V,
     spared: &[Difference],
 ) -> Result<(), AllocError>
-    ensures { OnOk result (text.new.items ≡ text.old.items ++ flat_map (spared_text (V.words words.now)) spared.now) }
+    ensures { OnOk result (text.new.items ≡ text.old.items
+        ++ flat_map (spared_text (V.words words.now)) spared.now) }
 {
     for difference in spared {
         text.extend_from_slice(b" ")?;
@@ -187,7 +192,8 @@ fn push_every<V: Wording>(
     opening: &[u8],
     spared: &[Difference],
 ) -> Result<(), AllocError>
-    ensures { OnOk result (text.new.items ≡ text.old.items ++ every_text (V.words words.now) opening.now spared.now) }
+    ensures { OnOk result (text.new.items ≡ text.old.items
+        ++ every_text (V.words words.now) opening.now spared.now) }
 {
     text.extend_from_slice(opening)?;
     text.extend_from_slice(b"at every ")?;
@@ -203,7 +209,8 @@ fn push_elsewhere_line<V: Wording>(
     reason: &Reason,
 ) -> Result<(), AllocError>
     ensures { OnOk result (text.new.items ≡ text.old.items
-        ++ elsewhere_line (V.words words.now) opening.now reason.now.lower reason.now.upper reason.now.spared.items reason.now.elsewhere) }
+        ++ elsewhere_line (V.words words.now) opening.now reason.now.lower reason.now.upper
+        reason.now.spared.items reason.now.elsewhere) }
 {
     let Some((lower, upper)) = reason.elsewhere else {
         return Ok(());
@@ -220,7 +227,8 @@ fn push_reason<V: Wording>(
     opening: &[u8],
     reason: &Reason,
 ) -> Result<(), AllocError>
-    ensures { OnOk result (text.new.items ≡ text.old.items ++ reason_lines (V.words words.now) opening.now reason.now) }
+    ensures { OnOk result (text.new.items ≡ text.old.items
+        ++ reason_lines (V.words words.now) opening.now reason.now) }
 {
     push_differences(text, words, opening, reason)?;
     push_elsewhere_line(text, words, opening, reason)

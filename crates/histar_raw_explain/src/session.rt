@@ -118,7 +118,8 @@ fn answer_and_explain<S: LabelStore + Drop, W: Sink>(
 ) -> Result<Vec<u8>, Fault>
     ensures answered { OnOk result (AnswersCall (state kernel.old) (state kernel.new)
         (W.written writer.old) (W.written writer.new) asked) }
-    ensures explained { IfOk result (λ lines. ExplainsOne (state kernel.old) (state kernel.new) asked lines.items) }
+    ensures explained { IfOk result (λ lines.
+        ExplainsOne (state kernel.old) (state kernel.new) asked lines.items) }
     ensures err { OnErr result (BeginsAnswer (state kernel.old) (state kernel.new)
         (W.written writer.old) (W.written writer.new) asked) }
     ensures faults { IfErr result IsOutputFault }

@@ -80,7 +80,8 @@ fn push_gate(
     entry: Entry,
 ) -> Result<(), AllocError>
     ensures { OnOk result (line.new.items
-        ≡ line.old.items ++ number_word container ++ label_word label.now ++ label_word clearance.now ++ entry_word entry) }
+        ≡ line.old.items ++ number_word container ++ label_word label.now
+        ++ label_word clearance.now ++ entry_word entry) }
 {
     push_bounded(line, container, label, clearance)?;
     push_entry_word(line, entry)
@@ -95,7 +96,8 @@ fn push_write(
     bytes: &Bytes,
 ) -> Result<(), AllocError>
     ensures { OnOk result (line.new.items
-        ≡ line.old.items ++ number_word container ++ number_word segment ++ number_word keep ++ bytes_word bytes.now) }
+        ≡ line.old.items ++ number_word container ++ number_word segment ++ number_word keep
+        ++ bytes_word bytes.now) }
 {
     push_pair(line, container, segment)?;
     push_number_word(line, u64::from(keep))?;

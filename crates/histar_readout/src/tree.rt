@@ -121,7 +121,8 @@ fn push_tree<S: LabelStore + Drop>(
     tree: &mut Vec<TreeNode>,
 ) -> Result<(), TreeError>
     requires { length path.now ≤ most_names }
-    ensures { AddsTree source.now.users.now (state source.now.kernel.now) path.now target tree.old.items tree.new.items result }
+    ensures { AddsTree source.now.users.now (state source.now.kernel.now) path.now target
+        tree.old.items tree.new.items result }
 {
     let node = node_at(alloc, source, path, target)?;
     tree.push(node)?;
@@ -141,7 +142,8 @@ fn push_below<S: LabelStore + Drop>(
     tree: &mut Vec<TreeNode>,
 ) -> Result<(), TreeError>
     requires { length path.now ≤ most_names }
-    ensures { AddsBelow source.now.users.now (state source.now.kernel.now) path.now listing tree.old.items tree.new.items result }
+    ensures { AddsBelow source.now.users.now (state source.now.kernel.now) path.now listing
+        tree.old.items tree.new.items result }
 {
     let Some(directory) = read_dir(alloc, source.kernel.bytes(listing))? else {
         return Err(TreeError::NotATree);

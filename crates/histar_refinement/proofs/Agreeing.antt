@@ -157,7 +157,9 @@ module _ (accounts : Accounts) (s : State) (f : Flat) (l : ObjectsMatch accounts
         where
           of : (c : Content) → x.content ≡ c → (class : Class) × (get f.files d ≡ Some (record { class = class; content = Dir }))
           of Dir same = (x.class, is ∙ ap (λ (c : Content). Some (record { class = x.class; content = c })) same)
-          of (File old) same = absurd (true≢false (sym there ∙ ap (λ (y : Option Node). is_present (listing_object accounts l.category (spelling (directory_of f.files l.naming.number d)) y)) (is ∙ ap (λ (c : Content). Some (record { class = x.class; content = c })) same)))
+          of (File old) same = absurd (true≢false (sym there ∙ ap (λ (y : Option Node). is_present
+              (listing_object accounts l.category (spelling (directory_of f.files l.naming.number d)) y))
+              (is ∙ ap (λ (c : Content). Some (record { class = x.class; content = c })) same)))
 
   -- `/` is a directory
   pub root_is_dir : (class : Class) × (get f.files [] ≡ Some (record { class = class; content = Dir }))
@@ -181,5 +183,6 @@ module _ (accounts : Accounts) (s : State) (f : Flat) (l : ObjectsMatch accounts
       by (Some x) is = of x.content refl
         where
           of : (c : Content) → x.content ≡ c → is_dir_at f d ≡ true
-          of Dir same = ap (λ (o : Option Node). is_some_and o is_dir) (is ∙ ap (λ (c : Content). Some (record { class = x.class; content = c })) same)
+          of Dir same = ap (λ (o : Option Node). is_some_and o is_dir) (is ∙ ap (λ (c : Content). Some (record { class = x.class; content = c }))
+              same)
           of (File old) same = absurd (no_file x old is same)

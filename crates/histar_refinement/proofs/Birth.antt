@@ -166,7 +166,8 @@ module _ (s : State) (naming : Naming Step) (asked : Address Step → Found) (ag
       (new_none third.objects third.next_object s.next_object segment q
       (new_none second.objects second.next_object (s.next_object + 1) (thread_of label clearance) q
       (new_none first.objects first.next_object s.next_object internal q
-      (new_none s.objects s.next_object C container q e (λ k. absurd (omega (arith, below, k)))) (λ k. absurd (omega (arith, below, k)))) (λ k. absurd (omega (arith, below, k)))) (λ k. absurd (omega (arith, below, k))))
+      (new_none s.objects s.next_object C container q e (λ k. absurd (omega (arith, below, k)))) (λ k. absurd (omega (arith, below, k))))
+      (λ k. absurd (omega (arith, below, k)))) (λ k. absurd (omega (arith, below, k))))
 
   -- the birth is right if the objects asked for at five addresses are the new ones, and those at all others the old ones
   module _ (wish : Address Step → Found) (wish_home : Some container ≡ wish home)

@@ -61,7 +61,11 @@ module _ (accounts : Accounts) (category : Categories) where
 
   -- the directory segment of a directory: it has the directory's label, and spells its entries; a file has none
   abbrev pub listing_object : List ℕ → Option Node → Found
-  listing_object bytes = option_and_then (λ there. elim there.content [ Dir ↦ guarded_object (Segment bytes) (class_guard accounts there.class) | File old ↦ None ])
+  listing_object bytes = option_and_then (λ there. elim there.content [
+    | Dir ↦ guarded_object (Segment bytes) (class_guard accounts there.class)
+    | File
+        old ↦ None
+  ])
 
   -- the container of a process that is there
   abbrev pub home_object : ProcName → Option Process → Found

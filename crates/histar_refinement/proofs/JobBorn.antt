@@ -141,7 +141,8 @@ module _ (accounts : Accounts) (s : State) (f : Flat) (l : ObjectsMatch accounts
         held held_before held_ordered)
 
     held_apart : (job : ProcName) → has p.chain job ≡ true → has held job ≡ false
-    held_apart job e = not_added p.held child job ((l.processes me p here).apart runs job e) (λ is. true≢false (sym e ∙ ap (has p.chain) is ∙ stranger))
+    held_apart job e = not_added p.held child job ((l.processes me p here).apart runs job e)
+        (λ is. true≢false (sym e ∙ ap (has p.chain) is ∙ stranger))
 
     held_free : is_some (user_number accounts p.user) ≡ false → (p.chain ≡ []) × (held ≡ [])
     held_free e = absurd (true≢false (sym declared ∙ e))

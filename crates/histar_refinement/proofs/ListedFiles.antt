@@ -189,7 +189,8 @@ module _ (accounts : Accounts) (s : State) (f : Flat) (l : ObjectsMatch accounts
   -- the object at a path has a number
   pub numbered_path : (q : Path) (there : Node) → get f.files q ≡ Some there → is_some (l.naming.number (address_of q)) ≡ true
   numbered_path q there at =
-      (agreement l).named (address_of q) ∙ ap is_present (asked_path accounts l.category f l.naming.number q ∙ ap (node_object accounts l.category) at)
+      (agreement l).named (address_of q) ∙ ap is_present (asked_path accounts l.category f l.naming.number q ∙ ap (node_object accounts l.category)
+      at)
       ∙ guard_there (content_kind there.content) (class_guard accounts there.class) (l.guarded q there at)
 
   -- where there is a number there is an object

@@ -64,7 +64,8 @@ module _ (accounts : Accounts) (category : Categories) (different : AreDifferent
         (and_from _ _
         (later (WritesProcess child) (ReadsProcess child ∷ own.owned) (WritesProcess me)
         (later (ReadsProcess child) own.owned (WritesProcess me)
-        (later (ReadsProcess me) (WritesProcess me ∷ owned_as accounts p (user_number accounts p.user) ++ map OfJob p.held) (WritesProcess me) (at_head (WritesProcess me) (owned_as accounts p (user_number accounts p.user) ++ map OfJob p.held))))) refl),
+        (later (ReadsProcess me) (WritesProcess me ∷ owned_as accounts p (user_number accounts p.user) ++ map OfJob p.held) (WritesProcess me)
+        (at_head (WritesProcess me) (owned_as accounts p (user_number accounts p.user) ++ map OfJob p.held))))) refl),
     observes_by_names category different (process_guard me p) grown
         (jobs_apart accounts me p p.chain (WritesProcess me ∷ []) (λ job. refl)) ∙ jobs_seen,
   )
@@ -163,7 +164,9 @@ module _ (accounts : Accounts) (category : Categories) (different : AreDifferent
     (is_below_join_raised-law (rights_clearance category own) (rights_clearance category grown) (rights_label category own)).1 (λ q.
         let under = (is_below-law (rights_clearance category own) (rights_clearance category grown)).0
         (clearances_by_names category different own grown
-        (covers both (own.owned ++ own.tainted) (each_append (λ c. among both c ≡ true) own.owned own.tainted (λ c e. in_first grown.owned grown.tainted c (later (WritesProcess child) (ReadsProcess child ∷ own.owned) c (later (ReadsProcess child) own.owned c e))) (in_second grown.owned grown.tainted)))) q in
+        (covers both (own.owned ++ own.tainted) (each_append (λ c. among both c ≡ true) own.owned own.tainted
+        (λ c e. in_first grown.owned grown.tainted c (later (WritesProcess child) (ReadsProcess child ∷ own.owned) c
+        (later (ReadsProcess child) own.owned c e))) (in_second grown.owned grown.tainted)))) q in
         omega (arith, under)),
   )
 

@@ -30,7 +30,8 @@ use Rattle.histar_refinement.proofs.Expected.{path_at, process_at, inside_at}
 use Rattle.histar_refinement.specs.Addresses.Step.{Left, Slash, Listing, Named, Home, Status, Inside, Runner, Child}
 use Rattle.histar_refinement.specs.Directories.{directory_of}
 use Rattle.histar_refinement.proofs.AgreesAt.{AgreesAt}
-use Rattle.histar_refinement.proofs.Expected.{node_object, listing_object, expected_node, listing_at, expected_home, expected_status, container_inside}
+use Rattle.histar_refinement.proofs.Expected.{node_object, listing_object, expected_node, listing_at, expected_home}
+use Rattle.histar_refinement.proofs.Expected.{expected_status, container_inside}
 use Rattle.histar_refinement.proofs.Expected.{thread_at, expected}
 use Rattle.histar_refinement.specs.Represents.{AreJobsGiven, ObjectsMatch, Represents}
 use Rattle.histar_refinement.proofs.Roots.{address_path, address_process, address_inside, asked_listing}

@@ -25,7 +25,8 @@ use Rattle.histar_refinement.specs.Addresses.Step.{Left, Slash, Listing, Named, 
 use Rattle.histar_refinement.specs.LeftByBoot.{left_by_boot}
 use Rattle.histar_refinement.specs.Directories.{directory_of}
 use Rattle.histar_refinement.proofs.AgreesAt.{AgreesAt}
-use Rattle.histar_refinement.proofs.Expected.{node_object, listing_object, expected_node, listing_at, expected_home, expected_status, container_inside}
+use Rattle.histar_refinement.proofs.Expected.{node_object, listing_object, expected_node, listing_at, expected_home}
+use Rattle.histar_refinement.proofs.Expected.{expected_status, container_inside}
 use Rattle.histar_refinement.proofs.Expected.{thread_at, expected}
 use Rattle.histar_refinement.specs.Represents.{AreJobsGiven, ObjectsMatch, Represents}
 use Rattle.histar_refinement.proofs.Roots.{address_path, asked_listing}

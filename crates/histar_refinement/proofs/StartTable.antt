@@ -12,7 +12,8 @@ use Rattle.histar_object.specs.Objects.{is_present, links_in}
 use Rattle.histar_object.specs.State.{Found}
 use Rattle.histar_layout.specs.Categories.{write_category}
 use Rattle.histar_layout.specs.Labelling.{written_by, secret_of, owner_of, cleared_of}
-use Rattle.histar_programs.specs.Start.{root_category, declared, own_read_category, own_write_category, segment, container, numbered, of_user, of_users}
+use Rattle.histar_programs.specs.Start.{root_category, declared, own_read_category, own_write_category, segment, container}
+use Rattle.histar_programs.specs.Start.{numbered, of_user, of_users}
 use Rattle.histar_programs.specs.Start.{of_directory, of_process, first_process_bytes, user_table, start_objects, object_at}
 use Rattle.histar_programs.proofs.StartLengths.{length-numbered}
 use Rattle.histar_refinement.proofs.StartNumbers.{is_left}

@@ -425,7 +425,8 @@ module _ (accounts : Accounts) (category : Categories) (different : AreDifferent
     (is_below_join_raised-law (rights_clearance category holding) (rights_clearance category grown) (rights_label category holding)).1 (λ q.
         let under = (is_below-law (rights_clearance category holding) (rights_clearance category grown)).0
         (clearances_by_names category different holding grown
-        (covers all (holding.owned ++ holding.tainted) (each_append (λ c. among all c ≡ true) holding.owned holding.tainted (λ c e. in_first grown.owned grown.tainted c (held_owned c e)) (in_second grown.owned grown.tainted)))) q in
+        (covers all (holding.owned ++ holding.tainted) (each_append (λ c. among all c ≡ true) holding.owned holding.tainted
+        (λ c e. in_first grown.owned grown.tainted c (held_owned c e)) (in_second grown.owned grown.tainted)))) q in
         omega (arith, under)),
   )
 

@@ -63,7 +63,8 @@ fn report_text<W: Sink>(
     ensures nothing { IfErr result (LeavesSink writer.old writer.new) }
     ensures reads { is_read_failed result ≡ false }
     ensures writes { CountsFailure (W.failures writer.old) (W.failures writer.new) (is_write_failed result) }
-    ensures runs { WritesPage name.now version.now text.now (W.written writer.old) (W.written writer.new) result }
+    ensures runs { WritesPage name.now version.now text.now (W.written writer.old)
+        (W.written writer.new) result }
 {
     let output = explained_output(alloc, text, OPTIONS)?;
     let table = table_of(alloc, text)?;

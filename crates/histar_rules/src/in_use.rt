@@ -59,7 +59,8 @@ fn labels_in_use<S: LabelStore + Drop>(
     next_object: u64,
 ) -> Result<(S, usize), AllocError>
     requires { AllStand (S.labels store.now) (objects_of table.now) }
-    ensures { IfOk result (λ made. HaveLabelsIn (S.labels store.now) (S.labels made.0) (objects_of table.now) next_object) }
+    ensures { IfOk result (λ made. HaveLabelsIn (S.labels store.now) (S.labels made.0)
+        (objects_of table.now) next_object) }
 {
     let mut fresh = store.emptied()?;
     let mut looked_at: usize = 0;
@@ -136,7 +137,8 @@ fn give_ids<S: LabelStore>(store: &S, fresh: &S, table: &mut Table<S::Id>, next_
 
 // Gives the object of this number the Ids of its labels in a new store.
 fn give_ids_at<S: LabelStore>(store: &S, fresh: &S, table: &mut Table<S::Id>, number: ObjId)
-    requires stands { (o : ObjectOf S.Id) → objects_of table.old number ≡ Some o → Stands (S.labels store.now) o }
+    requires stands { (o : ObjectOf S.Id) → objects_of table.old number ≡ Some o
+        → Stands (S.labels store.now) o }
     requires has { (o : ObjectOf S.Id) → objects_of table.old number ≡ Some o
         → HasLabelsIn (S.labels store.now) (S.labels fresh.now) o }
     ensures moved { IsMoved (S.labels store.now) (S.labels fresh.now)
@@ -152,9 +154,11 @@ fn give_ids_at<S: LabelStore>(store: &S, fresh: &S, table: &mut Table<S::Id>, nu
 // Gives a kind the Id of its clearance in a new store, if it has one.
 fn give_kind_ids<S: LabelStore>(store: &S, fresh: &S, kind: &mut Kind<S::Id>)
     requires stands { KindStands (S.labels store.now) kind.old }
-    requires has { (id : S.Id) → kind_clearance kind.old ≡ Some id → IsIn (S.labels store.now) (S.labels fresh.now) id }
+    requires has { (id : S.Id) → kind_clearance kind.old ≡ Some id
+        → IsIn (S.labels store.now) (S.labels fresh.now) id }
     ensures stands { KindStands (S.labels fresh.now) kind.new }
-    ensures same { kind_by (label_at (S.labels fresh.now)) kind.new ≡ kind_by (label_at (S.labels store.now)) kind.old }
+    ensures same { kind_by (label_at (S.labels fresh.now)) kind.new
+        ≡ kind_by (label_at (S.labels store.now)) kind.old }
 {
     match kind {
         Kind::Thread(clearance) => *clearance = found(store, fresh, *clearance),

@@ -59,7 +59,11 @@ impl<S: LabelStore + Drop> Model for LabelledObjects<S> {
 
     ghost coded = { coded_objects_model };
 
-    ghost view = { λ k. record { objects = shown (S.labels k.store) k.table; next_object = k.next_object; next_category = k.next_category } };
+    ghost view = { λ k. record {
+      objects = shown (S.labels k.store) k.table;
+      next_object = k.next_object;
+      next_category = k.next_category;
+    } };
 
     ghost invariant = { λ k. IsKept (S.labels k.store) k.table k.next_object };
 }
@@ -328,8 +332,10 @@ impl<S: LabelStore + Drop> LabelledObjects<S> {
     /// Gives a thread another label, which lies between its own label and its clearance. A label that the
     /// store has is not copied.
     pub fn set_label(&mut self, thread: ObjId, label: &Label) -> Result<(), Refusal>
-        ensures answer { FailsAtUnlessExhausted (check (state_of self.old) thread (calls.SetLabel label.now)) result }
-        ensures ok { OnOk result (state_of self.new ≡ with_changed (state_of self.old) thread (with_label label.now)) }
+        ensures answer { FailsAtUnlessExhausted
+            (check (state_of self.old) thread (calls.SetLabel label.now)) result }
+        ensures ok { OnOk result (state_of self.new
+            ≡ with_changed (state_of self.old) thread (with_label label.now)) }
         ensures err { OnErr result (state_of self.new ≡ state_of self.old) }
     {
         self.forget_unused_labels();

@@ -23,7 +23,8 @@ use histar_object::{Kind, ObjId, Table};
 // Looks up a segment: its label and its bytes.
 fn segment_in<L: Copy>(table: &Table<L>, segment: ObjId) -> Result<(L, &Bytes), Denied>
     ensures answer { FailsAt (unless (is_segment (objects_of table.now segment)) BadKind) result }
-    ensures found { IfOk result (λ found. objects_of table.now segment ≡ Some (segment_of found.0 found.1.now)) }
+    ensures found { IfOk result (λ found. objects_of table.now segment
+        ≡ Some (segment_of found.0 found.1.now)) }
 {
     let Some(object) = table.get(segment) else {
         return Err(Denied::BadKind);
@@ -60,7 +61,8 @@ pub(crate) fn read_in<'t, S: LabelStore>(
 fn modifies_by<S: LabelStore>(store: &mut S, own: S::Id, label: S::Id) -> bool
     requires own { IsSome (S.labels store.old own) }
     requires label { IsSome (S.labels store.old label) }
-    ensures answer { result ≡ (is_below (label_at (S.labels store.old) own) (label_at (S.labels store.old) label)
+    ensures answer { result ≡ (is_below (label_at (S.labels store.old) own)
+        (label_at (S.labels store.old) label)
         && is_below_raised (label_at (S.labels store.old) label) (label_at (S.labels store.old) own)) }
     ensures unchanged { S.labels store.new ≡ S.labels store.old }
 {
@@ -69,7 +71,8 @@ fn modifies_by<S: LabelStore>(store: &mut S, own: S::Id, label: S::Id) -> bool
 
 // Makes the last checks of a write: the thread may modify the segment, and the new content fits it.
 fn check_change(modifies: bool, held: usize, keep: u32, more: usize) -> Result<(), Denied>
-    ensures { FailsAt (unless modifies Modify orelse unless (fits_segment (min keep held + more)) TooBig) result }
+    ensures { FailsAt (unless modifies Modify
+        orelse unless (fits_segment (min keep held + more)) TooBig) result }
 {
     require(modifies, Denied::Modify)?;
     require(fits((keep as usize).min(held), more), Denied::TooBig)

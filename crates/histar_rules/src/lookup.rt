@@ -44,7 +44,8 @@ pub(crate) fn container_in<L: Copy>(
 ) -> Result<(L, &Links), Denied>
     ensures answer { FailsAt (unless (is_present (objects_of table.now container)) NoEntry
         orelse unless (is_container (objects_of table.now container)) BadKind) result }
-    ensures found { IfOk result (λ found. objects_of table.now container ≡ Some (container_of found.0 found.1.now)) }
+    ensures found { IfOk result (λ found. objects_of table.now container
+        ≡ Some (container_of found.0 found.1.now)) }
 {
     let Some(object) = table.get(container) else {
         return Err(Denied::NoEntry);
@@ -63,7 +64,8 @@ pub(crate) fn observed_in<'t, S: LabelStore>(
     container: ObjId,
 ) -> Result<Observed<'t, S::Id>, Denied>
     requires { AllStand (S.labels store.old) (objects_of table.now) }
-    ensures answer { FailsAt (no_container (state_shown (S.labels store.old) table.now) thread container) result }
+    ensures answer { FailsAt (no_container (state_shown (S.labels store.old) table.now) thread
+        container) result }
     ensures thread { IfOk result (λ found. objects_of table.now thread
         ≡ Some (thread_of found.own found.own_clearance)) }
     ensures container { IfOk result (λ found. objects_of table.now container

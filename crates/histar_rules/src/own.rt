@@ -44,7 +44,8 @@ fn in_own_range<S: LabelStore>(store: &mut S, own: (S::Id, S::Id), label: S::Id)
     requires own { IsSome (S.labels store.old own.0) }
     requires own_clearance { IsSome (S.labels store.old own.1) }
     requires label { IsSome (S.labels store.old label) }
-    ensures answer { result ≡ (is_below (label_at (S.labels store.old) own.0) (label_at (S.labels store.old) label)
+    ensures answer { result ≡ (is_below (label_at (S.labels store.old) own.0)
+        (label_at (S.labels store.old) label)
         && is_below (label_at (S.labels store.old) label) (label_at (S.labels store.old) own.1)) }
     ensures unchanged { S.labels store.new ≡ S.labels store.old }
 {
@@ -56,7 +57,8 @@ fn may_clear<S: LabelStore>(store: &mut S, own: (S::Id, S::Id), clearance: S::Id
     requires own { IsSome (S.labels store.old own.0) }
     requires own_clearance { IsSome (S.labels store.old own.1) }
     requires clearance { IsSome (S.labels store.old clearance) }
-    ensures answer { result ≡ (is_below (label_at (S.labels store.old) own.0) (label_at (S.labels store.old) clearance)
+    ensures answer { result ≡ (is_below (label_at (S.labels store.old) own.0)
+        (label_at (S.labels store.old) clearance)
         && is_below_join_raised (label_at (S.labels store.old) clearance)
         (label_at (S.labels store.old) own.1) (label_at (S.labels store.old) own.0)) }
     ensures unchanged { S.labels store.new ≡ S.labels store.old }

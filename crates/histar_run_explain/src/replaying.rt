@@ -77,7 +77,8 @@ fn explain_outcome<S: LabelStore + Drop, V: Wording>(
     text: &mut Vec<u8>,
     entry: &TraceEntry,
 ) -> Result<(), OutOfMemory>
-    ensures { OnOk result (Adds (ExplainsOutcome (V.words words.now) (state kernel.now) entry.now entry.now.denied)
+    ensures { OnOk result (Adds (ExplainsOutcome (V.words words.now) (state kernel.now) entry.now
+        entry.now.denied)
         text.old.items text.new.items) }
 {
     let Some(denied) = entry.denied else {

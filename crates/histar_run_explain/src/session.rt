@@ -105,8 +105,10 @@ fn run_calls<S: LabelStore + Drop, W: Sink>(
 ) -> Result<(), Fault>
     requires traced { IsTraced machine.old.kernel }
     requires tree { EndsWithTree machine.old calls.items }
-    ensures ok { OnOk result (WritesRun options machine.old (W.written writer.old) (W.written writer.new) calls.items) }
-    ensures err { OnErr result (BeginsRun options machine.old (W.written writer.old) (W.written writer.new) calls.items) }
+    ensures ok { OnOk result (WritesRun options machine.old (W.written writer.old)
+        (W.written writer.new) calls.items) }
+    ensures err { OnErr result (BeginsRun options machine.old (W.written writer.old)
+        (W.written writer.new) calls.items) }
     ensures faults { IfErr result IsOutputFault }
     ensures count { CountsFailure (W.failures writer.old) (W.failures writer.new) (is_write_failed result) }
 {
@@ -124,7 +126,8 @@ fn explain_calls<S: LabelStore + Drop, W: Sink>(
     requires { IsTraced machine.old.kernel }
     ensures ok { IfOk result (λ text. HasExplained machine.old machine.new
         (W.written writer.old) (W.written writer.new) calls.items text.items) }
-    ensures err { OnErr result (BeginsAnswers machine.old (W.written writer.old) (W.written writer.new) calls.items) }
+    ensures err { OnErr result (BeginsAnswers machine.old (W.written writer.old)
+        (W.written writer.new) calls.items) }
     ensures faults { IfErr result IsOutputFault }
     ensures count { CountsFailure (W.failures writer.old) (W.failures writer.new) (is_write_failed result) }
 {
@@ -166,8 +169,10 @@ fn write_rest<S: LabelStore + Drop, W: Sink>(
     text: &[u8],
 ) -> Result<(), Fault>
     requires { HasTree machine.now }
-    ensures ok { OnOk result (AppendsRest options machine.now (W.written writer.old) (W.written writer.new) text.now) }
-    ensures err { OnErr result (BeginsRest options machine.now (W.written writer.old) (W.written writer.new) text.now) }
+    ensures ok { OnOk result (AppendsRest options machine.now (W.written writer.old)
+        (W.written writer.new) text.now) }
+    ensures err { OnErr result (BeginsRest options machine.now (W.written writer.old)
+        (W.written writer.new) text.now) }
     ensures faults { IfErr result IsOutputFault }
     ensures count { CountsFailure (W.failures writer.old) (W.failures writer.new) (is_write_failed result) }
 {
@@ -231,9 +236,11 @@ fn answer_calls<S: LabelStore + Drop, T: LabelStore + Drop, W: Sink>(
     requires second { state explainer.old.second ≡ state machine.old.kernel }
     requires births { explainer.old.births.items ≡ [] }
     requires text { explainer.old.text.items ≡ [] }
-    ensures ok { OnOk result (ExplainsCalls machine.old machine.new (W.written writer.old) (W.written writer.new)
+    ensures ok { OnOk result (ExplainsCalls machine.old machine.new (W.written writer.old)
+        (W.written writer.new)
         calls.items explainer.new.text.items explainer.new.births.items) }
-    ensures err { OnErr result (BeginsAnswers machine.old (W.written writer.old) (W.written writer.new) calls.items) }
+    ensures err { OnErr result (BeginsAnswers machine.old (W.written writer.old)
+        (W.written writer.new) calls.items) }
     ensures faults { IfErr result IsOutputFault }
     ensures count { CountsFailure (W.failures writer.old) (W.failures writer.new) (is_write_failed result) }
 {
@@ -253,9 +260,11 @@ fn answer_and_explain<S: LabelStore + Drop, T: LabelStore + Drop, W: Sink>(
     writer: &mut W,
 ) -> Result<(), Fault>
     requires { state explainer.old.second ≡ state machine.old.kernel }
-    ensures ok { OnOk result (Adds (ExplainsCall machine.old machine.new (W.written writer.old) (W.written writer.new)
+    ensures ok { OnOk result (Adds (ExplainsCall machine.old machine.new (W.written writer.old)
+        (W.written writer.new)
         call explainer.new.births.items) explainer.old.text.items explainer.new.text.items) }
-    ensures births { OnOk result (explainer.new.births.items ≡ births_by machine.new call explainer.old.births.items) }
+    ensures births { OnOk result (explainer.new.births.items
+        ≡ births_by machine.new call explainer.old.births.items) }
     ensures same { OnOk result (state explainer.new.second ≡ state machine.new.kernel) }
     ensures err { OnErr result (BeginsAnswer machine.old machine.new (W.written writer.old)
         (W.written writer.new) call) }
@@ -283,7 +292,8 @@ fn explain_answered<S: LabelStore + Drop, T: LabelStore + Drop>(
         (state explainer.old.second) (drop before machine.now.kernel.trace) (state explainer.new.second)
         explainer.old.text.items explainer.new.text.items) }
     ensures births { OnOk result (explainer.new.births.items
-        ≡ births_after (state machine.now.kernel) machine.now.roots clue.now.caller explainer.old.births.items) }
+        ≡ births_after (state machine.now.kernel) machine.now.roots clue.now.caller
+        explainer.old.births.items) }
     ensures ends { OnOk result (EndsAsRun (state explainer.old.second) (drop before machine.now.kernel.trace)
         (state explainer.new.second)) }
 {

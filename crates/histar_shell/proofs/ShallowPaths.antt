@@ -87,7 +87,8 @@ module _ (f : Flat) (shallow : AreShallow f) where
 
       -- no path has more names than can be named after each line
       pub shallow_after : (call : UnixCall) → IsCall call → AreShallow (flat_after accounts f me call)
-      shallow_after call can = by_rule accounts f me call AreShallow shallow (λ p there may. shallow_effect p (path_of call) (rule call).effect may can)
+      shallow_after call can = by_rule accounts f me call AreShallow shallow
+          (λ p there may. shallow_effect p (path_of call) (rule call).effect may can)
 
 -- at the start there is `/` alone
 pub shallow_at_start : (accounts : Accounts) → AreShallow (boot accounts)

@@ -31,7 +31,8 @@ pub fn write_ending<S: LabelStore + Drop, W: Sink>(
 ) -> Result<(), Fault>
     requires { HasTree machine.now }
     ensures ok { OnOk result (AppendsEnding options machine.now (W.written writer.old) (W.written writer.new)) }
-    ensures err { OnErr result (BeginsTheEnding options machine.now (W.written writer.old) (W.written writer.new)) }
+    ensures err { OnErr result (BeginsTheEnding options machine.now (W.written writer.old)
+        (W.written writer.new)) }
     ensures faults { IfErr result IsOutputFault }
     ensures count { CountsFailure (W.failures writer.old) (W.failures writer.new) (is_write_failed result) }
 {
@@ -103,7 +104,8 @@ fn write_trace<W: Sink>(
 
 /// Writes the lines of the entries of a trace.
 fn write_entries<W: Sink>(alloc: Global, trace: &Trace, writer: &mut W) -> Result<(), Fault>
-    ensures ok { OnOk result (Appends (W.written writer.old) (W.written writer.new) (trace_text trace.now.entries)) }
+    ensures ok { OnOk result (Appends (W.written writer.old) (W.written writer.new)
+        (trace_text trace.now.entries)) }
     ensures err { OnErr result (AppendsFront (W.written writer.old) (W.written writer.new)
         (trace_text trace.now.entries)) }
     ensures faults { IfErr result IsOutputFault }

@@ -66,7 +66,12 @@ impl<S: LabelStore + Drop> Model for Machine<S> {
 
     ghost coded = { coded_machine_model };
 
-    ghost view = { λ m. record { kernel = m.kernel; roots = m.roots; users = m.users; is_stopped = m.is_stopped } };
+    ghost view = { λ m. record {
+      kernel = m.kernel;
+      roots = m.roots;
+      users = m.users;
+      is_stopped = m.is_stopped;
+    } };
 
     ghost invariant = { λ m. IsTraced m.kernel };
 }

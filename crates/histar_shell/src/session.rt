@@ -130,7 +130,8 @@ fn answer_all<S: LabelStore + Drop, W: Sink>(
     requires { EndsWithTree machine.now calls.items }
     ensures ok { OnOk result (AnswersAll options machine.old machine.new (W.written writer.old)
         (W.written writer.new) calls.items) }
-    ensures err { OnErr result (BeginsAll options machine.old (W.written writer.old) (W.written writer.new) calls.items) }
+    ensures err { OnErr result (BeginsAll options machine.old (W.written writer.old)
+        (W.written writer.new) calls.items) }
     ensures faults { IfErr result IsOutputFault }
     ensures count { CountsFailure (W.failures writer.old) (W.failures writer.new) (is_write_failed result) }
 {
@@ -147,7 +148,8 @@ fn answer_calls<S: LabelStore + Drop, W: Sink>(
 ) -> Result<(), Fault>
     ensures ok { OnOk result (AnswersCalls machine.old machine.new (W.written writer.old)
         (W.written writer.new) calls.items) }
-    ensures err { OnErr result (BeginsAnswers machine.old (W.written writer.old) (W.written writer.new) calls.items) }
+    ensures err { OnErr result (BeginsAnswers machine.old (W.written writer.old)
+        (W.written writer.new) calls.items) }
     ensures faults { IfErr result IsOutputFault }
     ensures count { CountsFailure (W.failures writer.old) (W.failures writer.new) (is_write_failed result) }
 {
@@ -165,7 +167,8 @@ pub fn answer_call<S: LabelStore + Drop, W: Sink>(
     call: CallLine,
     writer: &mut W,
 ) -> Result<(), Fault>
-    ensures ok { OnOk result (AnswersCall machine.old machine.new (W.written writer.old) (W.written writer.new) call) }
+    ensures ok { OnOk result (AnswersCall machine.old machine.new (W.written writer.old)
+        (W.written writer.new) call) }
     ensures err { OnErr result (BeginsAnswer machine.old machine.new (W.written writer.old)
         (W.written writer.new) call) }
     ensures faults { IfErr result IsOutputFault }
@@ -183,7 +186,8 @@ fn answer_by<S: LabelStore + Drop, W: Sink>(
     line: &mut Vec<u8>,
     writer: &mut W,
 ) -> Result<(), Fault>
-    ensures ok { OnOk result (AnswersCall machine.old machine.new (W.written writer.old) (W.written writer.new) call) }
+    ensures ok { OnOk result (AnswersCall machine.old machine.new (W.written writer.old)
+        (W.written writer.new) call) }
     ensures err { OnErr result (BeginsAnswer machine.old machine.new (W.written writer.old)
         (W.written writer.new) call) }
     ensures faults { IfErr result IsOutputFault }

@@ -199,7 +199,9 @@ module _ (accounts : Accounts) (ok : AreAccounts accounts) (s : State) (f : Flat
               (chain_free accounts s f represents.matched me p here runs room C S at_home at_status) C S
               at_home at_status i);
         })
-        (own_bytes_are accounts s f represents.matched me p here runs room p.chain (chain_used accounts s f represents.matched me p here runs room C S at_home at_status) (represents.matched.processes me p here).chain (chain_free accounts s f represents.matched me p here runs room C S at_home at_status) C S at_home at_status i)) own clearance
+        (own_bytes_are accounts s f represents.matched me p here runs room p.chain
+        (chain_used accounts s f represents.matched me p here runs room C S at_home at_status) (represents.matched.processes me p here).chain
+        (chain_free accounts s f represents.matched me p here runs room C S at_home at_status) C S at_home at_status i)) own clearance
 
     -- This state represents the flat state with the child.
     pub spawned_matched : Represents accounts

@@ -253,7 +253,7 @@ module _ (accounts : Accounts) (f : Flat) (me : ProcName) (caller : IsRunning f 
     still : Represents accounts (state new) f
     still = subst (λ (s : State). Represents accounts s f) (sym stays) represents
 
-    -- where every raw call was granted and nothing has changed, a call that the flat rules refuse is answered their errno, if it is neither EACCES nor EPERM
+    -- where every raw call was granted and nothing has changed, a call that the flat rules refuse otherwise than by label is answered their errno
     pub unchanged_refined : (calls : List RawCall) → Chain old t (all_granted calls) new → (errno : Errno)
         → is_access errno ≡ false → is_permission errno ≡ false → refused accounts f me caller.process call ≡ Some errno
         → ReadsAmong (all_granted calls) (Refused errno) → FollowsRule accounts f me call old new t (Ok (Refused errno))

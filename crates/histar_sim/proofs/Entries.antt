@@ -89,7 +89,8 @@ module _ (accounts : Accounts) (ok : AreAccounts accounts) (old new : KernelMode
     (result : Result Reply Stopped) (later : Option Errno)
     (split : refused accounts f me ready.caller.process call ≡ (no_entry accounts f ready.caller.process (m ∷ d) orelse later))
     (has_reads : (not (is_some (into accounts f ready.caller.process d)) && is_dir_at f (m ∷ d)) ≡ false → (steps : List Step) (r : Reply)
-    → AreAmong (walk_reads accounts ok (state old) f me t ready d) (entries_of old.line t steps) → ReadsAmong accounts f me ready.caller call old new t ready.thread steps r) where
+    → AreAmong (walk_reads accounts ok (state old) f me t ready d) (entries_of old.line t steps) → ReadsAmong accounts f me ready.caller call old new
+    t ready.thread steps r) where
   abbrev Refined : Type 0
   Refined = Goal accounts f me ready.caller call old new t ready.thread result
 

@@ -155,7 +155,7 @@ module _ (accounts : Accounts) (ok : AreAccounts accounts) (old new : KernelMode
         → Chain old t (all_granted (calls ++ make place.container x ∷ [])) linked
         → Runs (within room_here x answer) linked new t result → Refined
 
-    -- The call goes on once the object is made: the way is open, nothing of the name is there and there is room, the process makes this and may write the directory.
+    -- The call goes on once the object is made: the way is open, the name is free, there is room, and the process may write the directory.
     abbrev pub GoesOn : Type 0
     GoesOn =
         (open_so_far : into accounts f p d ≡ None) → get f.files (m ∷ d) ≡ None → roomy ≡ true → (made : Made)

@@ -297,7 +297,8 @@ module _ (accounts : Accounts) (ok : AreAccounts accounts) (s : State) (f : Flat
     class_in_jobs = ap (λ (b : Bool). if b then free_class accounts p mode else Some (Scratch p.user p.chain)) busy
 
     of_chain : (owner : Name) (jobs : List ProcName) → Scratch p.user p.chain ≡ Scratch owner jobs → jobs ≡ p.chain
-    of_chain owner jobs e = sym (ap (λ (class : Class). elim class as (λ _. List ProcName) [ Private name ↦ [] | Readable name ↦ [] | Open ↦ [] | Scratch name of ↦ of | Grouped name ↦ [] ]) e)
+    of_chain owner jobs e = sym (ap (λ (class : Class). elim class as (λ _. List ProcName)
+        [ Private name ↦ [] | Readable name ↦ [] | Open ↦ [] | Scratch name of ↦ of | Grouped name ↦ [] ]) e)
 
     -- what is made in a job is for the job
     made_in_chain : MakesClass

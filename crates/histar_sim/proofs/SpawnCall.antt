@@ -111,7 +111,8 @@ module _ (accounts : Accounts) (ok : AreAccounts accounts) (me : ProcName) (call
         (subst (λ (s : State). Represents accounts s (flat.with_child f me p p.chain)) (sym is)
         (spawned_matched accounts ok (state old) f ready.represents me p ready.caller.agrees ready.caller.runs few_born
         caller.home.container caller.home.segment
-        (at_home accounts me caller old new f result ready found) (at_status accounts me caller old new f result ready found) t (at_thread accounts me caller old new f result ready found) few)) runs
+        (at_home accounts me caller old new f result ready found) (at_status accounts me caller old new f result ready found) t
+        (at_thread accounts me caller old new f result ready found) few)) runs
 
     -- the thread has asked for its own labels
     born : (mid : KernelModel) → Chain old t (all_granted (before ++ OwnLabel ∷ [])) mid → state mid ≡ state old
@@ -119,7 +120,8 @@ module _ (accounts : Accounts) (ok : AreAccounts accounts) (me : ProcName) (call
     born mid chain stays runs =
         birth_made accounts f me ready.caller Spawn old new t ready.thread result (state old) caller.home status (kin_of accounts own) own clearance
         (fit accounts ok (state old) f ready.represents me p ready.caller.agrees ready.caller.runs few_born caller.home.container caller.home.segment
-        (at_home accounts me caller old new f result ready found) (at_status accounts me caller old new f result ready found) t (at_thread accounts me caller old new f result ready found)) reply []
+        (at_home accounts me caller old new f result ready found) (at_status accounts me caller old new f result ready found) t
+        (at_thread accounts me caller old new f result ready found)) reply []
         answered (before ++ OwnLabel ∷ []) mid tt chain stays runs
 
     asked : (mid : KernelModel) → Chain old t (all_granted before) mid → state mid ≡ state old → Runs (in_room status) mid new t result → Refined

@@ -389,7 +389,8 @@ impl<S: LabelStore + Drop> Kernel<S> {
         keep: u32,
         bytes: Bytes,
     ) -> Result<(), Refusal>
-        ensures { Answered self.old self.new thread (calls.Write container segment keep bytes) result (λ _. Unit {0}) }
+        ensures { Answered self.old self.new thread (calls.Write container segment keep bytes)
+            result (λ _. Unit {0}) }
     {
         let (call, bytes) = self.trace.store_write(container, segment, keep, bytes)?;
         let bytes = self.trace.bytes(bytes);

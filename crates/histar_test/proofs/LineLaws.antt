@@ -167,7 +167,8 @@ module _ (script : ScriptModel) where
               subst (λ (o : Option (List ℕ)). MatchOption o (expectation_of line ≡ Some text)
                   (λ asked. IsSomeAnd (question_of n asked) (λ (q : Question). text ≡ rights_text q.wanted))) (sym w.0) w.1,
               subst (λ (o : Option (List ℕ)). MatchOption o (IsLastAnswer made (meaning script.accounts (calls_before (Some n) script.calls)))
-                  (λ asked. IsSomeAnd (question_of n asked) (λ (q : Question). made ≡ asked_in script.accounts (state_before (Some n) script) q))) (sym w.0)
+                  (λ asked. IsSomeAnd (question_of n asked) (λ (q : Question). made ≡ asked_in script.accounts (state_before (Some n) script) q)))
+                  (sym w.0)
                   (subst (λ (cs : List CallLine). IsLastAnswer made (meaning script.accounts cs)) (sym at) has),
             ),
             later done None calls (before_next n done before) shut tt,

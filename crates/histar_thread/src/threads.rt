@@ -45,7 +45,8 @@ fn check_make_category<S: LabelStore + Drop>(
     thread: ObjId,
 ) -> Result<(&Label, &Label), Denied>
     ensures answer { FailsAt (check (state_of objects.now) thread calls.MakeCategory) result }
-    ensures own { IfOk result (λ own. objects_of objects.now.objects thread ≡ Some (thread_of own.0.now own.1.now)) }
+    ensures own { IfOk result (λ own. objects_of objects.now.objects thread
+        ≡ Some (thread_of own.0.now own.1.now)) }
 {
     let Some(own) = objects.own(thread) else {
         return Err(Denied::NoThread);

@@ -97,7 +97,8 @@ kept_is : (all : Exceptions) (k : KeptLabel) (L : Levels) → HasExceptions all 
 kept_is all k L has default exceptions =
     let K = label_kept all k in
     let same = λ (es : Exceptions). true ≡ pointwise (λ (e f : ℕ × Level). (e.0 == f.0) && sameb the_type e.1 f.1) es (exceptions_of L) in
-    let default' = default ∙ ap (λ (d : Level). sameb the_type d (default_of L)) (sym (default_of-from_exceptions k.default (exceptions_kept all k))) in
+    let default' = default ∙ ap (λ (d : Level). sameb the_type d (default_of L)) (sym (default_of-from_exceptions k.default (exceptions_kept all k)))
+    in
     let back = subst same (sym (exceptions_of-from_exceptions k.default (exceptions_kept all k) has.canonical)) exceptions in
     same_label K L (sym (is_same-from_exceptions K L true default' back))
 

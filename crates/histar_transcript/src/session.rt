@@ -53,7 +53,8 @@ fn transcribe_text<W: Sink>(
     ensures nothing { IfErr result (LeavesSink writer.old writer.new) }
     ensures reads { is_read_failed result ≡ false }
     ensures writes { CountsFailure (W.failures writer.old) (W.failures writer.new) (is_write_failed result) }
-    ensures runs { WritesTranscript options explain text.now (W.written writer.old) (W.written writer.new) result }
+    ensures runs { WritesTranscript options explain text.now (W.written writer.old)
+        (W.written writer.new) result }
 {
     let output = output_of(alloc, text, options, explain)?;
     let transcript = transcript_of(alloc, text, output.as_slice())?;

@@ -90,7 +90,8 @@ pub before_filling : (t : ℕ) (me : Home) (status : ProcessStatus) (room : Room
 before_filling t me status room plan k = no_scratch t me status room plan k k HasStopped (before_scratch t plan.own plan.label room k)
 
 -- a job was filled by the expected plan, and by the expected thread
-pub filled_so : (me : Home) (status : ProcessStatus) (room : Room) (old new : KernelModel) (plan due : JobPlan) → plan ≡ due → (thread t : ℕ) → thread ≡ t
+pub filled_so : (me : Home) (status : ProcessStatus) (room : Room) (old new : KernelModel) (plan due : JobPlan) → plan ≡ due → (thread t : ℕ) → thread
+    ≡ t
     → (result : Result (Unit {0}) CallError) → RunsPart (fill_job me status room plan) old new thread result
     → RunsPart (fill_job me status room due) old new t result
 filled_so me status room old new plan due same thread t is result runs =

@@ -23,7 +23,8 @@ returns-in_err-make_file g c =
     let path = c.args.path.now in
     let begin = begun unix.users.now c.args.mode unix.roots.now path unix.caller.now.thread c.args.kernel.now in
     let room = c.in_ok-room.room in
-    let making = further (find_room unix.roots.now path) (after_room unix.users.now c.args.mode) begin c.find_room.new.kernel room c.in_ok-room.ensures.runs in
+    let making = further (find_room unix.roots.now path) (after_room unix.users.now c.args.mode) begin c.find_room.new.kernel room
+    c.in_ok-room.ensures.runs in
     ends_so (make_file unix.users.now c.args.mode room) (λ (done : Unit {0}). Answers Done) making c.make_file.new.kernel
     c.in_err-make_file.field-0.0 _ c.from_residual-in_err-make_file.ensures.1 c.in_err-make_file.ensures
 
@@ -33,7 +34,8 @@ returns g c =
     let path = c.args.path.now in
     let begin = begun unix.users.now c.args.mode unix.roots.now path unix.caller.now.thread c.args.kernel.now in
     let room = c.in_ok-room.room in
-    let making = further (find_room unix.roots.now path) (after_room unix.users.now c.args.mode) begin c.find_room.new.kernel room c.in_ok-room.ensures.runs in
+    let making = further (find_room unix.roots.now path) (after_room unix.users.now c.args.mode) begin c.find_room.new.kernel room
+    c.in_ok-room.ensures.runs in
     let end = c.make_file.new.kernel in
     let made = further (make_file unix.users.now c.args.mode room) (λ (done : Unit {0}). Answers Done) making end tt c.in_ok-make_file.ensures in
     made.leads end (Ok Done) (says unix.caller.now.thread end Done)

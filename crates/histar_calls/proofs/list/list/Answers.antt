@@ -23,7 +23,8 @@ returns-in_err-directory g c =
     let t = c.args.unix.now.caller.now.thread in
     let old = c.args.kernel.now in
     let end = c.walk.new.kernel in
-    call_fails_so t (list_program c.args.unix.now.roots.now c.args.path.now) old end c.in_err-directory.field-0.0 _ c.from_residual-in_err-directory.ensures.1
+    call_fails_so t (list_program c.args.unix.now.roots.now c.args.path.now) old end c.in_err-directory.field-0.0 _
+    c.from_residual-in_err-directory.ensures.1
     (call_fails t (walk_to c.args.unix.now.roots.now c.args.path.now) old end _ c.in_err-directory.field-0.0
     c.in_err-directory.ensures)
 

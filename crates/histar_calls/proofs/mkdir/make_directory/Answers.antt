@@ -52,4 +52,5 @@ returns g c =
     (grants t OwnLabel old k1 own left.0 left.1.1) in
     let end = c.add_directory.new.kernel in
     adding.leads end c.add_directory.result
-    (adds_so t k1 end c.in_ok-label.label (label_made accounts own.0 c.args.mode) room c.in_ok-label.ensures c.add_directory.result c.add_directory.ensures)
+    (adds_so t k1 end c.in_ok-label.label (label_made accounts own.0 c.args.mode) room c.in_ok-label.ensures c.add_directory.result
+    c.add_directory.ensures)

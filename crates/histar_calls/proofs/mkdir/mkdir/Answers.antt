@@ -23,7 +23,8 @@ returns-in_err-make_directory g c =
     let path = c.args.path.now in
     let begin = begun unix.users.now c.args.mode unix.roots.now path unix.caller.now.thread c.args.kernel.now in
     let room = c.in_ok-room.room in
-    let making = further (find_room unix.roots.now path) (after_room unix.users.now c.args.mode) begin c.find_room.new.kernel room c.in_ok-room.ensures.runs in
+    let making = further (find_room unix.roots.now path) (after_room unix.users.now c.args.mode) begin c.find_room.new.kernel room
+    c.in_ok-room.ensures.runs in
     ends_so (make_directory unix.users.now c.args.mode room) (λ (done : Unit {0}). Answers Done) making c.make_directory.new.kernel
     c.in_err-make_directory.field-0.0 _ c.from_residual-in_err-make_directory.ensures.1 c.in_err-make_directory.ensures
 
@@ -33,7 +34,9 @@ returns g c =
     let path = c.args.path.now in
     let begin = begun unix.users.now c.args.mode unix.roots.now path unix.caller.now.thread c.args.kernel.now in
     let room = c.in_ok-room.room in
-    let making = further (find_room unix.roots.now path) (after_room unix.users.now c.args.mode) begin c.find_room.new.kernel room c.in_ok-room.ensures.runs in
+    let making = further (find_room unix.roots.now path) (after_room unix.users.now c.args.mode) begin c.find_room.new.kernel room
+    c.in_ok-room.ensures.runs in
     let end = c.make_directory.new.kernel in
-    let made = further (make_directory unix.users.now c.args.mode room) (λ (done : Unit {0}). Answers Done) making end tt c.in_ok-make_directory.ensures in
+    let made = further (make_directory unix.users.now c.args.mode room) (λ (done : Unit {0}). Answers Done) making end tt
+    c.in_ok-make_directory.ensures in
     made.leads end (Ok Done) (says unix.caller.now.thread end Done)

@@ -14,7 +14,8 @@ returns-in_err-file g c =
     let unix = c.args.unix.now in
     let path = c.args.path.now in
     let begin = read_begun unix.roots.now path unix.caller.now.thread c.args.kernel.now in
-    ends_so (find_file unix.roots.now path) to_read begin c.find_file.new.kernel c.in_err-file.field-0.0 _ c.from_residual.ensures.1 c.in_err-file.ensures
+    ends_so (find_file unix.roots.now path) to_read begin c.find_file.new.kernel c.in_err-file.field-0.0 _ c.from_residual.ensures.1
+    c.in_err-file.ensures
 
 pub returns-in_err-bytes : goal.returns-in_err-bytes
 returns-in_err-bytes g c =

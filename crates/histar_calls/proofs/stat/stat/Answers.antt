@@ -14,7 +14,8 @@ returns-in_err-found g c =
     let t = c.args.unix.now.caller.now.thread in
     let old = c.args.kernel.now in
     let end = c.find_object.new.kernel in
-    call_fails_so t (stat_program c.args.unix.now.users.now c.args.unix.now.roots.now c.args.path.now) old end c.in_err-found.field-0.0 _ c.from_residual.ensures.1
+    call_fails_so t (stat_program c.args.unix.now.users.now c.args.unix.now.roots.now c.args.path.now) old end c.in_err-found.field-0.0 _
+    c.from_residual.ensures.1
     (call_fails t (find_object c.args.unix.now.roots.now c.args.path.now) old end _ c.in_err-found.field-0.0 c.in_err-found.ensures)
 
 pub returns-in_err-label : goal.returns-in_err-label
@@ -26,7 +27,8 @@ returns-in_err-label g c =
     let end = c.label_of.new.self in
     let found = c.in_ok-found.found in
     let call = LabelOf found.container found.object in
-    call_fails_so t (stat_program c.args.unix.now.users.now c.args.unix.now.roots.now c.args.path.now) old end _ _ c.from_residual-in_err-label.ensures.1
+    call_fails_so t (stat_program c.args.unix.now.users.now c.args.unix.now.roots.now c.args.path.now) old end _ _
+    c.from_residual-in_err-label.ensures.1
     (then_call t (find_object c.args.unix.now.roots.now c.args.path.now) old end _ mid found c.in_ok-found.ensures _
     (call_fails t (ask call) mid end (λ label. class_reply found.is_directory (class_shown c.args.unix.now.users.now label)) _
     (refuses t call mid end _ c.in_err-label.field-0.0 c.in_err-label.ensures)))

@@ -20,7 +20,8 @@ returns-in_err-entry g c =
     let t = c.args.unix.now.caller.now.thread in
     let old = c.args.kernel.now in
     let end = c.find_entry.new.kernel in
-    call_fails_so t (rename_program c.args.unix.now.roots.now c.args.path.now c.args.name.now) old end c.in_err-entry.field-0.0 _ c.from_residual.ensures.1
+    call_fails_so t (rename_program c.args.unix.now.roots.now c.args.path.now c.args.name.now) old end c.in_err-entry.field-0.0 _
+    c.from_residual.ensures.1
     (call_fails t (find_entry c.args.unix.now.roots.now c.args.path.now) old end _ c.in_err-entry.field-0.0 c.in_err-entry.ensures.runs)
 
 pub returns-in_err-must_be_free : goal.returns-in_err-must_be_free

@@ -40,7 +40,8 @@ returns-in_err-directory g c =
     let end = c.read.new.kernel in
     let entry = c.in_ok-entry.entry in
     let place = c.in_ok-place.place in
-    call_fails_so t (rmdir_program c.args.unix.now.roots.now c.args.path.now) old end c.in_err-directory.field-0.0 _ c.from_residual-in_err-directory.ensures.1
+    call_fails_so t (rmdir_program c.args.unix.now.roots.now c.args.path.now) old end c.in_err-directory.field-0.0 _
+    c.from_residual-in_err-directory.ensures.1
     (then_call t (find_entry c.args.unix.now.roots.now c.args.path.now) old end _ mid entry c.in_ok-entry.ensures.runs _
     (goes_on t (must_be_directory entry.target) (of_directory entry) mid end place c.in_ok-place.ensures _
     (call_fails t (read_directory place) mid end (if_empty entry) c.in_err-directory.field-0.0 c.in_err-directory.ensures)))
@@ -74,7 +75,8 @@ returns-in_err-take_away g c =
     let entry = c.in_ok-entry.entry in
     let place = c.in_ok-place.place in
     let directory = c.in_ok-directory.directory in
-    call_fails_so t (rmdir_program c.args.unix.now.roots.now c.args.path.now) old end c.in_err-take_away.field-0.0 _ c.from_residual-in_err-take_away.ensures.1
+    call_fails_so t (rmdir_program c.args.unix.now.roots.now c.args.path.now) old end c.in_err-take_away.field-0.0 _
+    c.from_residual-in_err-take_away.ensures.1
     (then_call t (find_entry c.args.unix.now.roots.now c.args.path.now) old end _ mid entry c.in_ok-entry.ensures.runs _
     (goes_on t (must_be_directory entry.target) (of_directory entry) mid end place c.in_ok-place.ensures _
     (then_call t (read_directory place) mid end (if_empty entry) later directory c.in_ok-directory.ensures _

@@ -13,21 +13,24 @@ pub returns-in_err-label : goal.returns-in_err-label
 returns-in_err-label g c =
     let t = c.args.thread in
     let old = c.args.kernel.now in
-    let call = MakeSegment c.args.body.now.container (guarded_by c.args.newborn.now.jobs.now (c.args.newborn.now.write ∷ [])) (status_bytes (started c.args.body.now.internal c.args.body.now.thread)) in
+    let call = MakeSegment c.args.body.now.container (guarded_by c.args.newborn.now.jobs.now (c.args.newborn.now.write ∷ []))
+    (status_bytes (started c.args.body.now.internal c.args.body.now.thread)) in
     fails_so t (ask call) old old Stopped _ c.from_residual.ensures.1 (before_ask t call old)
 
 pub returns-in_err-bytes : goal.returns-in_err-bytes
 returns-in_err-bytes g c =
     let t = c.args.thread in
     let old = c.args.kernel.now in
-    let call = MakeSegment c.args.body.now.container (guarded_by c.args.newborn.now.jobs.now (c.args.newborn.now.write ∷ [])) (status_bytes (started c.args.body.now.internal c.args.body.now.thread)) in
+    let call = MakeSegment c.args.body.now.container (guarded_by c.args.newborn.now.jobs.now (c.args.newborn.now.write ∷ []))
+    (status_bytes (started c.args.body.now.internal c.args.body.now.thread)) in
     fails_so t (ask call) old old Stopped _ c.from_residual-in_err-bytes.ensures.1 (before_ask t call old)
 
 pub returns-in_err-made : goal.returns-in_err-made
 returns-in_err-made g c =
     let t = c.args.thread in
     let old = c.args.kernel.now in
-    let call = MakeSegment c.args.body.now.container (guarded_by c.args.newborn.now.jobs.now (c.args.newborn.now.write ∷ [])) (status_bytes (started c.args.body.now.internal c.args.body.now.thread)) in
+    let call = MakeSegment c.args.body.now.container (guarded_by c.args.newborn.now.jobs.now (c.args.newborn.now.write ∷ []))
+    (status_bytes (started c.args.body.now.internal c.args.body.now.thread)) in
     let end = c.make_segment.new.self in
     let made = MakeSegment c.args.body.now.container c.in_ok-label.label c.in_ok-bytes.bytes in
     fails_so t (ask call) old end _ _ c.from_residual-in_err-made.ensures.1

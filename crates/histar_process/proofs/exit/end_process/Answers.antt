@@ -51,7 +51,8 @@ returns-in_err-unlink g c status segment =
     let status_is = subst (λ (bytes : List ℕ). status_in bytes ≡ Some status) (sym c.as_slice.ensures) segment.status_is in
     let k1 = c.write_segment.new.kernel in
     let unlinking = further_in (write_status me due) (after_write me c.args.number status) begin k1 tt
-    (written_so caller.thread old k1 me c.in_ok-bytes.bytes (status_bytes due) (c.in_ok-bytes.ensures status status_is) (Ok tt) c.in_ok-write_segment.ensures) in
+    (written_so caller.thread old k1 me c.in_ok-bytes.bytes (status_bytes due) (c.in_ok-bytes.ensures status status_is) (Ok tt)
+    c.in_ok-write_segment.ensures) in
     let end = c.unlink.new.self in
     fails_so caller.thread whole old end _ _ c.from_residual-in_err-unlink.ensures.1
     (unlinking.leads end _
@@ -69,7 +70,8 @@ returns g c status segment =
     let status_is = subst (λ (bytes : List ℕ). status_in bytes ≡ Some status) (sym c.as_slice.ensures) segment.status_is in
     let k1 = c.write_segment.new.kernel in
     let unlinking = further_in (write_status me due) (after_write me c.args.number status) begin k1 tt
-    (written_so caller.thread old k1 me c.in_ok-bytes.bytes (status_bytes due) (c.in_ok-bytes.ensures status status_is) (Ok tt) c.in_ok-write_segment.ensures) in
+    (written_so caller.thread old k1 me c.in_ok-bytes.bytes (status_bytes due) (c.in_ok-bytes.ensures status status_is) (Ok tt)
+    c.in_ok-write_segment.ensures) in
     let end = c.unlink.new.self in
     unlinking.leads end (Ok tt)
     (unlinked_so caller.thread k1 end me.container me.container _ status.internal refl (ap (λ (h : StatusHead). h.internal) segment.head) (Ok tt)

@@ -15,7 +15,8 @@ use Rattle.histar_process.proofs.Killing.{no_child, not_read, not_unlinked, unli
 use Rattle.histar_process.proofs.kill.kill_known.Goals as goal
 
 pub returns-in_err-found : goal.returns-in_err-found
-returns-in_err-found g c status is = absurd (no_fault c.args.parent.now.bytes.now status c.args.number c.in_err-found.field-0.0 is c.in_err-found.ensures)
+returns-in_err-found g c status is = absurd (no_fault c.args.parent.now.bytes.now status c.args.number c.in_err-found.field-0.0 is
+    c.in_err-found.ensures)
 
 pub returns-in_err-child : goal.returns-in_err-child
 returns-in_err-child g c status is =
@@ -24,7 +25,8 @@ returns-in_err-child g c status is =
     let n = c.args.number in
     let old = c.args.kernel.now in
     let errno = c.in_err-child.field-0.0 in
-    let child_is = c.in_err-child.ensures ∙ ap must_be_there (found_is c.args.parent.now.bytes.now status n c.in_ok-found.found is c.in_ok-found.ensures) in
+    let child_is = c.in_err-child.ensures ∙ ap must_be_there (found_is c.args.parent.now.bytes.now status n c.in_ok-found.found is
+    c.in_ok-found.ensures) in
     fails_so t (kill_known home status n) old old (Refused errno) _ c.from_residual-in_err-child.ensures.1
     (no_child t home status n old old errno child_is)
 
@@ -35,7 +37,8 @@ returns-in_err-read_head g c status is =
     let n = c.args.number in
     let old = c.args.kernel.now in
     let child = c.in_ok-child.child in
-    let child_is = c.in_ok-child.ensures ∙ ap must_be_there (found_is c.args.parent.now.bytes.now status n c.in_ok-found.found is c.in_ok-found.ensures) in
+    let child_is = c.in_ok-child.ensures ∙ ap must_be_there (found_is c.args.parent.now.bytes.now status n c.in_ok-found.found is
+    c.in_ok-found.ensures) in
     let its_is = c.home_of-its.ensures in
     let k1 = c.read_head.new.kernel in
     let call_error = c.in_err-read_head.field-0.0 in
@@ -50,7 +53,8 @@ returns-in_err-without g c status is =
     let n = c.args.number in
     let old = c.args.kernel.now in
     let child = c.in_ok-child.child in
-    let child_is = c.in_ok-child.ensures ∙ ap must_be_there (found_is c.args.parent.now.bytes.now status n c.in_ok-found.found is c.in_ok-found.ensures) in
+    let child_is = c.in_ok-child.ensures ∙ ap must_be_there (found_is c.args.parent.now.bytes.now status n c.in_ok-found.found is
+    c.in_ok-found.ensures) in
     let its_is = c.home_of-its.ensures in
     let k1 = c.read_head.new.kernel in
     let head = c.in_ok-read_head.field-0 in
@@ -65,7 +69,8 @@ returns-in_err-unlink g c status is =
     let n = c.args.number in
     let old = c.args.kernel.now in
     let child = c.in_ok-child.child in
-    let child_is = c.in_ok-child.ensures ∙ ap must_be_there (found_is c.args.parent.now.bytes.now status n c.in_ok-found.found is c.in_ok-found.ensures) in
+    let child_is = c.in_ok-child.ensures ∙ ap must_be_there (found_is c.args.parent.now.bytes.now status n c.in_ok-found.found is
+    c.in_ok-found.ensures) in
     let its_is = c.home_of-its.ensures in
     let k1 = c.read_head.new.kernel in
     let head = c.in_ok-read_head.field-0 in
@@ -84,7 +89,8 @@ returns g c status is =
     let n = c.args.number in
     let old = c.args.kernel.now in
     let child = c.in_ok-child.child in
-    let child_is = c.in_ok-child.ensures ∙ ap must_be_there (found_is c.args.parent.now.bytes.now status n c.in_ok-found.found is c.in_ok-found.ensures) in
+    let child_is = c.in_ok-child.ensures ∙ ap must_be_there (found_is c.args.parent.now.bytes.now status n c.in_ok-found.found is
+    c.in_ok-found.ensures) in
     let its_is = c.home_of-its.ensures in
     let k1 = c.read_head.new.kernel in
     let head = c.in_ok-read_head.field-0 in

@@ -21,4 +21,5 @@ pub returns-clause-faults : goal.returns-clause-faults
 returns-clause-faults g c = output_fault c.answer_calls-outcome.result _ c.with_text.result c.with_text.ensures c.answer_calls-outcome.ensures.faults
 
 pub returns-clause-count : goal.returns-clause-count
-returns-clause-count g c = counted_after c.answer_calls-outcome.result _ c.with_text.result c.with_text.ensures _ _ c.answer_calls-outcome.ensures.count
+returns-clause-count g c = counted_after c.answer_calls-outcome.result _ c.with_text.result c.with_text.ensures _ _
+    c.answer_calls-outcome.ensures.count

@@ -21,7 +21,8 @@ returns-clause-ok g c =
     spliced_shown (g.S.LabelStore.labels c.self.inside.store) c.self.inside.table c.args.segment
     c.splice_in.new.table c.args.keep c.args.bytes.now e in
     (λ i. record { objects = shows i; next_object = c.self.inside.next_object; next_category = c.self.inside.next_category })
-    ∙ ap (λ (k : ObjectsModel). with_segment_bytes (state_of k) c.args.segment (take c.args.keep (bytes_in (objects_of k.objects c.args.segment)) ++ c.args.bytes.now)) c.self.view_is) c.splice_in.ensures.ok
+    ∙ ap (λ (k : ObjectsModel). with_segment_bytes (state_of k) c.args.segment
+    (take c.args.keep (bytes_in (objects_of k.objects c.args.segment)) ++ c.args.bytes.now)) c.self.view_is) c.splice_in.ensures.ok
 
 pub returns-clause-err : goal.returns-clause-err
 returns-clause-err g c =

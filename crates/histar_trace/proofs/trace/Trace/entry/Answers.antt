@@ -14,7 +14,8 @@ returns c =
     let bytes = c.self.inside.bytes.items in
     let es = c.self.inside.entries.items in
     let e = c.index-stored.result.now in
-    let within : c.args.at < length es = subst (λ (n : ℕ). c.args.at < n) (ap (λ (t : TraceModel). length t.entries) (sym c.self.view_is) ∙ length-map es _) c.requires in
+    let within : c.args.at < length es = subst (λ (n : ℕ). c.args.at < n) (ap (λ (t : TraceModel). length t.entries) (sym c.self.view_is) ∙ length-map
+    es _) c.requires in
     ap (λ (t : TraceModel). slice_get t.entries c.args.at) (sym c.self.view_is)
     ∙ entry_at labels bytes es c.args.at e c.in_ok-call.field-0 (slice_get_read es (length es) c.args.at e refl within c.index-stored.ensures)
     (c.in_ok-call.ensures ∙ ap (λ (t : TraceModel). call_of t.labels t.bytes e.call) (sym c.self.view_is))
