@@ -10,8 +10,8 @@ use histar_label::LabelStore;
 use histar_object::{Kind, ObjId, Object, Table};
 use std::alloc::AllocError;
 
-/// The weight up to which the objects never leave a store: 4 MB of exceptions.
-pub(crate) const LEAST_WEIGHT: usize = 262_144;
+/// The weight up to which the objects never leave a store: 2 MB of exceptions.
+pub(crate) const LEAST_WEIGHT: usize = 131_072;
 
 /// Moves the objects to a new store if theirs weighs more than the limit, and returns the next limit. Where
 /// memory runs out all stays, and the limit doubles, so that the next call doesn't try again.

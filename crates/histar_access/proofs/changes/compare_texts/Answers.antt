@@ -14,14 +14,12 @@ differences_between-requires-clause-new_rises g c = table_rises c.args.at c.args
 pub returns-in_err-write_differences-clause-runs : goal.returns-in_err-write_differences-clause-runs
 returns-in_err-write_differences-clause-runs g c =
     let p = err_from_is_err_and c.from_residual-in_err-write_differences.result c.from_residual-in_err-write_differences.ensures.1 in
-    let before = c.in_ok-before.before in
-    let after = c.in_ok-after.after in
     let compared : AreCompared c.args.at c.args.old.now c.args.new.now c.as_slice-lines.result.now = record {
-      before = before;
-      after = after;
+      before = c.in_ok-before.before;
+      after = c.in_ok-after.after;
       is_before = c.in_ok-before.ensures;
       is_after = c.in_ok-after.ensures;
-      exact = subst (AreDifferences before after) (sym c.as_slice-lines.ensures.value) c.in_ok-differences.ensures;
+      exact = subst (AreDifferences c.in_ok-before.before c.in_ok-after.after) (sym c.as_slice-lines.ensures.value) c.in_ok-differences.ensures;
     } in
     rw (p.1, p.2)
     (changes_begun c.args.at compared c.in_err-write_differences.field-0.0 c.in_err-write_differences.ensures.faults
@@ -29,14 +27,12 @@ returns-in_err-write_differences-clause-runs g c =
 
 pub returns-clause-runs : goal.returns-clause-runs
 returns-clause-runs g c =
-    let before = c.in_ok-before.before in
-    let after = c.in_ok-after.after in
     let lines = c.as_slice-lines.result.now in
     let compared : AreCompared c.args.at c.args.old.now c.args.new.now lines = record {
-      before = before;
-      after = after;
+      before = c.in_ok-before.before;
+      after = c.in_ok-after.after;
       is_before = c.in_ok-before.ensures;
       is_after = c.in_ok-after.ensures;
-      exact = subst (AreDifferences before after) (sym c.as_slice-lines.ensures.value) c.in_ok-differences.ensures;
+      exact = subst (AreDifferences c.in_ok-before.before c.in_ok-after.after) (sym c.as_slice-lines.ensures.value) c.in_ok-differences.ensures;
     } in
     changes_written c.args.at compared c.is_empty.result (none_listed lines c.is_empty.result c.is_empty.ensures) c.in_ok-write_differences.ensures.ok

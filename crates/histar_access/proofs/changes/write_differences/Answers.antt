@@ -17,28 +17,28 @@ returns-in_err-push_difference-clause-err g c =
 pub returns-in_err-write_bytes-clause-err : goal.returns-in_err-write_bytes-clause-err
 returns-in_err-write_bytes-clause-err g c =
     let p = err_from_is_err_and c.from_residual-in_err-write_bytes.result c.from_residual-in_err-write_bytes.ensures.1 in
-    let ds = c.args.differences.now in
-    let i = c.lines.difference-index in
     let line = c.as_slice.ensures.value ∙ c.in_ok-push_difference.ensures
     ∙ ap (λ t. t ++ difference_text c.difference-item.result) c.new-line.ensures.items in
-    let next = ap differences_text (next_left ds i c.difference-item.result (search rules) c.difference-item.is)
-    ∙ ap (λ t. t ++ differences_text (drop (i + 1) ds)) (sym line) in
-    rw p.1 (piece_begun (differences_text ds) (differences_text (drop (i + 1) ds)) next c.lines.invariant.begun c.in_err-write_bytes.ensures.err)
+    let next = ap differences_text (next_left c.args.differences.now c.lines.difference-index c.difference-item.result (search rules)
+    c.difference-item.is)
+    ∙ ap (λ t. t ++ differences_text (drop (c.lines.difference-index + 1) c.args.differences.now)) (sym line) in
+    rw p.1 (piece_begun (differences_text c.args.differences.now) (differences_text (drop (c.lines.difference-index + 1) c.args.differences.now)) next
+    c.lines.invariant.begun c.in_err-write_bytes.ensures.err)
 
 pub lines-preserved : goal.lines-preserved
 lines-preserved g c =
-    let ds = c.args.differences.now in
-    let i = c.lines.difference-index in
     let line = c.as_slice.ensures.value ∙ c.in_ok-push_difference.ensures
     ∙ ap (λ t. t ++ difference_text c.difference-item.result) c.new-line.ensures.items in
-    let next = ap differences_text (next_left ds i c.difference-item.result (search rules) c.difference-item.is)
-    ∙ ap (λ t. t ++ differences_text (drop (i + 1) ds)) (sym line) in
+    let next = ap differences_text (next_left c.args.differences.now c.lines.difference-index c.difference-item.result (search rules)
+    c.difference-item.is)
+    ∙ ap (λ t. t ++ differences_text (drop (c.lines.difference-index + 1) c.args.differences.now)) (sym line) in
     record {
-      begun = piece_more (differences_text ds) _ (differences_text (drop (i + 1) ds)) next c.lines.invariant.begun c.in_ok-write_bytes.ensures.ok;
+      begun = piece_more (differences_text c.args.differences.now) _ (differences_text (drop (c.lines.difference-index + 1) c.args.differences.now))
+          next c.lines.invariant.begun c.in_ok-write_bytes.ensures.ok;
       count = search rules;
     }
 
 pub returns-clause-ok : goal.returns-clause-ok
 returns-clause-ok g c =
-    let ds = c.args.differences.now in
-    all_begun (differences_text ds) _ _ _ (ap differences_text (none_left ds c.lines.difference-index (search rules))) c.lines.invariant.begun
+    all_begun (differences_text c.args.differences.now) _ _ _ (ap differences_text
+    (none_left c.args.differences.now c.lines.difference-index (search rules))) c.lines.invariant.begun

@@ -31,24 +31,26 @@ returns-in_err-visitors-clause-err g c =
 
 pub returns-clause-ok : goal.returns-clause-ok
 returns-clause-ok g c =
-    let m = c.args.machine.now in
-    let is : IsTreeIn m c.as_slice-3.result.now = subst (IsTreeIn m) (sym c.as_slice-3.ensures.value) c.in_ok-tree.ensures in
-    let are : AreVisitors m c.as_slice-2.result.now = (
+    let is : IsTreeIn c.args.machine.now c.as_slice-3.result.now = subst (IsTreeIn c.args.machine.now) (sym c.as_slice-3.ensures.value)
+    c.in_ok-tree.ensures in
+    let are : AreVisitors c.args.machine.now c.as_slice-2.result.now = (
       c.in_ok-processes.processes.items,
       c.in_ok-processes.ensures,
       c.as_slice-2.ensures.value
-          ∙ c.in_ok-visitors.ensures ∙ ap (visitors_among (state m.kernel) m.roots) c.as_slice.ensures.value,
+          ∙ c.in_ok-visitors.ensures ∙ ap (visitors_among (state c.args.machine.now.kernel) c.args.machine.now.roots) c.as_slice.ensures.value,
     ) in
-    on_ok_weaker c.write_lines.result (table_written m c.as_slice-3.result.now is c.as_slice-2.result.now are _ _) c.write_lines.ensures.ok
+    on_ok_weaker c.write_lines.result (table_written c.args.machine.now c.as_slice-3.result.now is c.as_slice-2.result.now are _ _)
+    c.write_lines.ensures.ok
 
 pub returns-clause-err : goal.returns-clause-err
 returns-clause-err g c =
-    let m = c.args.machine.now in
-    let is : IsTreeIn m c.as_slice-3.result.now = subst (IsTreeIn m) (sym c.as_slice-3.ensures.value) c.in_ok-tree.ensures in
-    let are : AreVisitors m c.as_slice-2.result.now = (
+    let is : IsTreeIn c.args.machine.now c.as_slice-3.result.now = subst (IsTreeIn c.args.machine.now) (sym c.as_slice-3.ensures.value)
+    c.in_ok-tree.ensures in
+    let are : AreVisitors c.args.machine.now c.as_slice-2.result.now = (
       c.in_ok-processes.processes.items,
       c.in_ok-processes.ensures,
       c.as_slice-2.ensures.value
-          ∙ c.in_ok-visitors.ensures ∙ ap (visitors_among (state m.kernel) m.roots) c.as_slice.ensures.value,
+          ∙ c.in_ok-visitors.ensures ∙ ap (visitors_among (state c.args.machine.now.kernel) c.args.machine.now.roots) c.as_slice.ensures.value,
     ) in
-    on_err_weaker c.write_lines.result (table_begun m c.as_slice-3.result.now is c.as_slice-2.result.now are _ _) c.write_lines.ensures.err
+    on_err_weaker c.write_lines.result (table_begun c.args.machine.now c.as_slice-3.result.now is c.as_slice-2.result.now are _ _)
+    c.write_lines.ensures.err

@@ -12,34 +12,27 @@ use Rattle.histar_calls.proofs.append.append.Goals as goal
 
 pub returns-in_err-file : goal.returns-in_err-file
 returns-in_err-file g c =
-    let unix = c.args.unix.now in
-    let path = c.args.path.now in
-    let begin = append_begun unix.roots.now path unix.caller.now.thread c.args.kernel.now c.args.bytes in
-    ends_so (find_file unix.roots.now path) (to_write most_bytes c.args.bytes) begin c.find_file.new.kernel c.in_err-file.field-0.0 _
+    let begin = append_begun c.args.unix.now.roots.now c.args.path.now c.args.unix.now.caller.now.thread c.args.kernel.now c.args.bytes in
+    ends_so (find_file c.args.unix.now.roots.now c.args.path.now) (to_write most_bytes c.args.bytes) begin c.find_file.new.kernel
+    c.in_err-file.field-0.0 _
     c.from_residual.ensures.1 c.in_err-file.ensures
 
 pub returns-in_err-written : goal.returns-in_err-written
 returns-in_err-written g c =
-    let unix = c.args.unix.now in
-    let path = c.args.path.now in
-    let begin = append_begun unix.roots.now path unix.caller.now.thread c.args.kernel.now c.args.bytes in
-    let file = c.in_ok-file.file in
-    let k1 = c.find_file.new.kernel in
-    let writing = further (find_file unix.roots.now path) (to_write most_bytes c.args.bytes) begin k1 file c.in_ok-file.ensures in
-    let call = Write file.container file.segment most_bytes c.args.bytes in
+    let begin = append_begun c.args.unix.now.roots.now c.args.path.now c.args.unix.now.caller.now.thread c.args.kernel.now c.args.bytes in
+    let writing = further (find_file c.args.unix.now.roots.now c.args.path.now) (to_write most_bytes c.args.bytes) begin c.find_file.new.kernel
+    c.in_ok-file.file c.in_ok-file.ensures in
+    let call = Write c.in_ok-file.file.container c.in_ok-file.file.segment most_bytes c.args.bytes in
     ends_so (ask call) (λ (done : Unit {0}). Answers Done) writing c.write.new.self _ _ c.from_residual-in_err-written.ensures.1
-    (asks unix.caller.now.thread call k1 c.write.new.self c.write.result c.write.ensures _ c.in_err-written.ensures)
+    (asks c.args.unix.now.caller.now.thread call c.find_file.new.kernel c.write.new.self c.write.result c.write.ensures _ c.in_err-written.ensures)
 
 pub returns : goal.returns
 returns g c =
-    let unix = c.args.unix.now in
-    let path = c.args.path.now in
-    let begin = append_begun unix.roots.now path unix.caller.now.thread c.args.kernel.now c.args.bytes in
-    let file = c.in_ok-file.file in
-    let k1 = c.find_file.new.kernel in
-    let writing = further (find_file unix.roots.now path) (to_write most_bytes c.args.bytes) begin k1 file c.in_ok-file.ensures in
-    let call = Write file.container file.segment most_bytes c.args.bytes in
+    let begin = append_begun c.args.unix.now.roots.now c.args.path.now c.args.unix.now.caller.now.thread c.args.kernel.now c.args.bytes in
+    let writing = further (find_file c.args.unix.now.roots.now c.args.path.now) (to_write most_bytes c.args.bytes) begin c.find_file.new.kernel
+    c.in_ok-file.file c.in_ok-file.ensures in
+    let call = Write c.in_ok-file.file.container c.in_ok-file.file.segment most_bytes c.args.bytes in
     let end = c.write.new.self in
     let written = further (ask call) (λ (done : Unit {0}). Answers Done) writing end tt
-    (asks unix.caller.now.thread call k1 end c.write.result c.write.ensures _ c.in_ok-written.ensures) in
-    written.leads end (Ok Done) (says unix.caller.now.thread end Done)
+    (asks c.args.unix.now.caller.now.thread call c.find_file.new.kernel end c.write.result c.write.ensures _ c.in_ok-written.ensures) in
+    written.leads end (Ok Done) (says c.args.unix.now.caller.now.thread end Done)

@@ -12,47 +12,35 @@ use Rattle.histar_calls.proofs.create.add_file.Goals as goal
 
 pub returns-in_err-file : goal.returns-in_err-file
 returns-in_err-file g c =
-    let t = c.args.thread in
-    let old = c.args.kernel.now in
-    let label = c.args.label in
-    let room = c.args.room in
-    let k1 = c.make_segment.new.self in
-    let empty = c.new-empty.result in
-    fails_so t (add_file label room) old k1 _ _ c.from_residual.ensures.1
-    (without_segment t label room old k1 _
-    (makes t old k1 room.place.container label label empty refl c.new-empty.ensures _
-    (refuses t (MakeSegment room.place.container label empty) old k1 _ c.in_err-file.field-0.0 c.in_err-file.ensures)))
+    fails_so c.args.thread (add_file c.args.label c.args.room) c.args.kernel.now c.make_segment.new.self _ _ c.from_residual.ensures.1
+    (without_segment c.args.thread c.args.label c.args.room c.args.kernel.now c.make_segment.new.self _
+    (makes c.args.thread c.args.kernel.now c.make_segment.new.self c.args.room.place.container c.args.label c.args.label c.new-empty.result refl
+    c.new-empty.ensures _
+    (refuses c.args.thread (MakeSegment c.args.room.place.container c.args.label c.new-empty.result) c.args.kernel.now c.make_segment.new.self _
+    c.in_err-file.field-0.0 c.in_err-file.ensures)))
 
 pub returns-in_err-insert : goal.returns-in_err-insert
 returns-in_err-insert g c =
-    let t = c.args.thread in
-    let old = c.args.kernel.now in
-    let label = c.args.label in
-    let room = c.args.room in
-    let k1 = c.make_segment.new.self in
-    let empty = c.new-empty.result in
-    let file = c.in_ok-file.file in
-    let made = makes t old k1 room.place.container label label empty refl c.new-empty.ensures _
-    (grants t (MakeSegment room.place.container label empty) old k1 file c.in_ok-file.ensures.0 c.in_ok-file.ensures.1.0) in
-    let entries = grown t label room old k1 file in
-    fails_so t (add_file label room) old k1 Stopped _ c.from_residual-in_err-insert.ensures.1
-    (with_segment t label room old k1 k1 file made (Err Stopped)
-    (before_ask t (Write room.place.container room.place.listing 0 (spelling entries)) k1))
+    let made = makes c.args.thread c.args.kernel.now c.make_segment.new.self c.args.room.place.container c.args.label c.args.label c.new-empty.result
+    refl c.new-empty.ensures _
+    (grants c.args.thread (MakeSegment c.args.room.place.container c.args.label c.new-empty.result) c.args.kernel.now c.make_segment.new.self
+    c.in_ok-file.file c.in_ok-file.ensures.0 c.in_ok-file.ensures.1.0) in
+    let entries = grown c.args.thread c.args.label c.args.room c.args.kernel.now c.make_segment.new.self c.in_ok-file.file in
+    fails_so c.args.thread (add_file c.args.label c.args.room) c.args.kernel.now c.make_segment.new.self Stopped _
+    c.from_residual-in_err-insert.ensures.1
+    (with_segment c.args.thread c.args.label c.args.room c.args.kernel.now c.make_segment.new.self c.make_segment.new.self c.in_ok-file.file made
+    (Err Stopped)
+    (before_ask c.args.thread (Write c.args.room.place.container c.args.room.place.listing 0 (spelling entries)) c.make_segment.new.self))
 
 pub returns : goal.returns
 returns g c =
-    let t = c.args.thread in
-    let old = c.args.kernel.now in
-    let label = c.args.label in
-    let room = c.args.room in
-    let k1 = c.make_segment.new.self in
-    let empty = c.new-empty.result in
-    let file = c.in_ok-file.file in
-    let made = makes t old k1 room.place.container label label empty refl c.new-empty.ensures _
-    (grants t (MakeSegment room.place.container label empty) old k1 file c.in_ok-file.ensures.0 c.in_ok-file.ensures.1.0) in
+    let made = makes c.args.thread c.args.kernel.now c.make_segment.new.self c.args.room.place.container c.args.label c.args.label c.new-empty.result
+    refl c.new-empty.ensures _
+    (grants c.args.thread (MakeSegment c.args.room.place.container c.args.label c.new-empty.result) c.args.kernel.now c.make_segment.new.self
+    c.in_ok-file.file c.in_ok-file.ensures.0 c.in_ok-file.ensures.1.0) in
     let end = c.write_entries.new.kernel in
-    let entries = grown t label room old end file in
-    with_segment t label room old end k1 file made c.write_entries.result
-    (part_as t (write_entries room.place entries) k1 end _
-    (ap (write_entries room.place) (sym c.in_ok-insert.ensures.ok)) c.write_entries.result
+    let entries = grown c.args.thread c.args.label c.args.room c.args.kernel.now end c.in_ok-file.file in
+    with_segment c.args.thread c.args.label c.args.room c.args.kernel.now end c.make_segment.new.self c.in_ok-file.file made c.write_entries.result
+    (part_as c.args.thread (write_entries c.args.room.place entries) c.make_segment.new.self end _
+    (ap (write_entries c.args.room.place) (sym c.in_ok-insert.ensures.ok)) c.write_entries.result
     c.write_entries.ensures)

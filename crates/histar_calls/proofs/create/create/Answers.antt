@@ -11,31 +11,29 @@ use Rattle.histar_calls.proofs.create.create.Goals as goal
 
 pub returns-in_err-room : goal.returns-in_err-room
 returns-in_err-room g c =
-    let unix = c.args.unix.now in
-    let path = c.args.path.now in
-    let begin = begun unix.users.now c.args.mode unix.roots.now path unix.caller.now.thread c.args.kernel.now in
-    ends_so (find_room unix.roots.now path) (after_room unix.users.now c.args.mode) begin c.find_room.new.kernel
+    let begin = begun c.args.unix.now.users.now c.args.mode c.args.unix.now.roots.now c.args.path.now c.args.unix.now.caller.now.thread
+    c.args.kernel.now in
+    ends_so (find_room c.args.unix.now.roots.now c.args.path.now) (after_room c.args.unix.now.users.now c.args.mode) begin c.find_room.new.kernel
     c.in_err-room.field-0.0 _ c.from_residual.ensures.1 c.in_err-room.ensures.runs
 
 pub returns-in_err-make_file : goal.returns-in_err-make_file
 returns-in_err-make_file g c =
-    let unix = c.args.unix.now in
-    let path = c.args.path.now in
-    let begin = begun unix.users.now c.args.mode unix.roots.now path unix.caller.now.thread c.args.kernel.now in
-    let room = c.in_ok-room.room in
-    let making = further (find_room unix.roots.now path) (after_room unix.users.now c.args.mode) begin c.find_room.new.kernel room
+    let begin = begun c.args.unix.now.users.now c.args.mode c.args.unix.now.roots.now c.args.path.now c.args.unix.now.caller.now.thread
+    c.args.kernel.now in
+    let making = further (find_room c.args.unix.now.roots.now c.args.path.now) (after_room c.args.unix.now.users.now c.args.mode) begin
+    c.find_room.new.kernel c.in_ok-room.room
     c.in_ok-room.ensures.runs in
-    ends_so (make_file unix.users.now c.args.mode room) (λ (done : Unit {0}). Answers Done) making c.make_file.new.kernel
+    ends_so (make_file c.args.unix.now.users.now c.args.mode c.in_ok-room.room) (λ (done : Unit {0}). Answers Done) making c.make_file.new.kernel
     c.in_err-make_file.field-0.0 _ c.from_residual-in_err-make_file.ensures.1 c.in_err-make_file.ensures
 
 pub returns : goal.returns
 returns g c =
-    let unix = c.args.unix.now in
-    let path = c.args.path.now in
-    let begin = begun unix.users.now c.args.mode unix.roots.now path unix.caller.now.thread c.args.kernel.now in
-    let room = c.in_ok-room.room in
-    let making = further (find_room unix.roots.now path) (after_room unix.users.now c.args.mode) begin c.find_room.new.kernel room
+    let begin = begun c.args.unix.now.users.now c.args.mode c.args.unix.now.roots.now c.args.path.now c.args.unix.now.caller.now.thread
+    c.args.kernel.now in
+    let making = further (find_room c.args.unix.now.roots.now c.args.path.now) (after_room c.args.unix.now.users.now c.args.mode) begin
+    c.find_room.new.kernel c.in_ok-room.room
     c.in_ok-room.ensures.runs in
     let end = c.make_file.new.kernel in
-    let made = further (make_file unix.users.now c.args.mode room) (λ (done : Unit {0}). Answers Done) making end tt c.in_ok-make_file.ensures in
-    made.leads end (Ok Done) (says unix.caller.now.thread end Done)
+    let made = further (make_file c.args.unix.now.users.now c.args.mode c.in_ok-room.room) (λ (done : Unit {0}). Answers Done) making end tt
+    c.in_ok-make_file.ensures in
+    made.leads end (Ok Done) (says c.args.unix.now.caller.now.thread end Done)

@@ -12,74 +12,60 @@ use Rattle.histar_calls.proofs.mkdir.add_directory.Goals as goal
 
 pub returns-in_err-same : goal.returns-in_err-same
 returns-in_err-same g c =
-    let t = c.args.thread in
-    let old = c.args.kernel.now in
-    fails_so t (add_directory c.args.label c.args.room) old old Stopped _ c.from_residual.ensures.1
-    (before_adding t c.args.label c.args.room old)
+    fails_so c.args.thread (add_directory c.args.label c.args.room) c.args.kernel.now c.args.kernel.now Stopped _ c.from_residual.ensures.1
+    (before_adding c.args.thread c.args.label c.args.room c.args.kernel.now)
 
 pub returns-in_err-container : goal.returns-in_err-container
 returns-in_err-container g c =
-    let t = c.args.thread in
-    let old = c.args.kernel.now in
-    let label = c.args.label in
-    let room = c.args.room in
-    let k1 = c.make_container.new.self in
-    fails_so t (add_directory label room) old k1 _ _ c.from_residual-in_err-container.ensures.1
-    (without_container t label room old k1 _ (refuses t (MakeContainer room.place.container label) old k1 _ c.in_err-container.field-0.0
+    fails_so c.args.thread (add_directory c.args.label c.args.room) c.args.kernel.now c.make_container.new.self _ _
+    c.from_residual-in_err-container.ensures.1
+    (without_container c.args.thread c.args.label c.args.room c.args.kernel.now c.make_container.new.self _
+    (refuses c.args.thread (MakeContainer c.args.room.place.container c.args.label) c.args.kernel.now c.make_container.new.self _
+    c.in_err-container.field-0.0
     c.in_err-container.ensures))
 
 pub returns-in_err-listing : goal.returns-in_err-listing
 returns-in_err-listing g c =
-    let t = c.args.thread in
-    let old = c.args.kernel.now in
-    let label = c.args.label in
-    let room = c.args.room in
-    let k1 = c.make_container.new.self in
-    let container = c.in_ok-container.container in
-    let made = grants t (MakeContainer room.place.container label) old k1 container c.in_ok-container.ensures.0 c.in_ok-container.ensures.1.0 in
-    let k2 = c.make_segment.new.self in
-    let same = c.in_ok-same.same in
-    fails_so t (add_directory label room) old k2 _ _ c.from_residual-in_err-listing.ensures.1
-    (without_listing t label room old k2 k1 container made _
-    (makes t k1 k2 container same label c.new-empty.result c.in_ok-same.ensures c.new-empty.ensures _
-    (refuses t (MakeSegment container same c.new-empty.result) k1 k2 _ c.in_err-listing.field-0.0 c.in_err-listing.ensures)))
+    let made = grants c.args.thread (MakeContainer c.args.room.place.container c.args.label) c.args.kernel.now c.make_container.new.self
+    c.in_ok-container.container c.in_ok-container.ensures.0 c.in_ok-container.ensures.1.0 in
+    fails_so c.args.thread (add_directory c.args.label c.args.room) c.args.kernel.now c.make_segment.new.self _ _
+    c.from_residual-in_err-listing.ensures.1
+    (without_listing c.args.thread c.args.label c.args.room c.args.kernel.now c.make_segment.new.self c.make_container.new.self
+    c.in_ok-container.container made _
+    (makes c.args.thread c.make_container.new.self c.make_segment.new.self c.in_ok-container.container c.in_ok-same.same c.args.label
+    c.new-empty.result c.in_ok-same.ensures c.new-empty.ensures _
+    (refuses c.args.thread (MakeSegment c.in_ok-container.container c.in_ok-same.same c.new-empty.result) c.make_container.new.self
+    c.make_segment.new.self _ c.in_err-listing.field-0.0 c.in_err-listing.ensures)))
 
 pub returns-in_err-insert : goal.returns-in_err-insert
 returns-in_err-insert g c =
-    let t = c.args.thread in
-    let old = c.args.kernel.now in
-    let label = c.args.label in
-    let room = c.args.room in
-    let k1 = c.make_container.new.self in
-    let container = c.in_ok-container.container in
-    let made = grants t (MakeContainer room.place.container label) old k1 container c.in_ok-container.ensures.0 c.in_ok-container.ensures.1.0 in
-    let k2 = c.make_segment.new.self in
-    let same = c.in_ok-same.same in
-    let listing = c.in_ok-listing.listing in
-    let listed = makes t k1 k2 container same label c.new-empty.result c.in_ok-same.ensures c.new-empty.ensures _
-    (grants t (MakeSegment container same c.new-empty.result) k1 k2 listing c.in_ok-listing.ensures.0 c.in_ok-listing.ensures.1.0) in
-    let entries = grown t label room old k2 container listing in
-    fails_so t (add_directory label room) old k2 Stopped _ c.from_residual-in_err-insert.ensures.1
-    (with_listing t label room old k2 k1 container made k2 listing listed (Err Stopped)
-    (before_ask t (Write room.place.container room.place.listing 0 (spelling entries)) k2))
+    let made = grants c.args.thread (MakeContainer c.args.room.place.container c.args.label) c.args.kernel.now c.make_container.new.self
+    c.in_ok-container.container c.in_ok-container.ensures.0 c.in_ok-container.ensures.1.0 in
+    let listed = makes c.args.thread c.make_container.new.self c.make_segment.new.self c.in_ok-container.container c.in_ok-same.same c.args.label
+    c.new-empty.result c.in_ok-same.ensures c.new-empty.ensures _
+    (grants c.args.thread (MakeSegment c.in_ok-container.container c.in_ok-same.same c.new-empty.result) c.make_container.new.self
+    c.make_segment.new.self c.in_ok-listing.listing c.in_ok-listing.ensures.0 c.in_ok-listing.ensures.1.0) in
+    let entries = grown c.args.thread c.args.label c.args.room c.args.kernel.now c.make_segment.new.self c.in_ok-container.container
+    c.in_ok-listing.listing in
+    fails_so c.args.thread (add_directory c.args.label c.args.room) c.args.kernel.now c.make_segment.new.self Stopped _
+    c.from_residual-in_err-insert.ensures.1
+    (with_listing c.args.thread c.args.label c.args.room c.args.kernel.now c.make_segment.new.self c.make_container.new.self
+    c.in_ok-container.container made c.make_segment.new.self c.in_ok-listing.listing listed (Err Stopped)
+    (before_ask c.args.thread (Write c.args.room.place.container c.args.room.place.listing 0 (spelling entries)) c.make_segment.new.self))
 
 pub returns : goal.returns
 returns g c =
-    let t = c.args.thread in
-    let old = c.args.kernel.now in
-    let label = c.args.label in
-    let room = c.args.room in
-    let k1 = c.make_container.new.self in
-    let container = c.in_ok-container.container in
-    let made = grants t (MakeContainer room.place.container label) old k1 container c.in_ok-container.ensures.0 c.in_ok-container.ensures.1.0 in
-    let k2 = c.make_segment.new.self in
-    let same = c.in_ok-same.same in
-    let listing = c.in_ok-listing.listing in
-    let listed = makes t k1 k2 container same label c.new-empty.result c.in_ok-same.ensures c.new-empty.ensures _
-    (grants t (MakeSegment container same c.new-empty.result) k1 k2 listing c.in_ok-listing.ensures.0 c.in_ok-listing.ensures.1.0) in
-    let entries = grown t label room old k2 container listing in
+    let made = grants c.args.thread (MakeContainer c.args.room.place.container c.args.label) c.args.kernel.now c.make_container.new.self
+    c.in_ok-container.container c.in_ok-container.ensures.0 c.in_ok-container.ensures.1.0 in
+    let listed = makes c.args.thread c.make_container.new.self c.make_segment.new.self c.in_ok-container.container c.in_ok-same.same c.args.label
+    c.new-empty.result c.in_ok-same.ensures c.new-empty.ensures _
+    (grants c.args.thread (MakeSegment c.in_ok-container.container c.in_ok-same.same c.new-empty.result) c.make_container.new.self
+    c.make_segment.new.self c.in_ok-listing.listing c.in_ok-listing.ensures.0 c.in_ok-listing.ensures.1.0) in
+    let entries = grown c.args.thread c.args.label c.args.room c.args.kernel.now c.make_segment.new.self c.in_ok-container.container
+    c.in_ok-listing.listing in
     let end = c.write_entries.new.kernel in
-    with_listing t label room old end k1 container made k2 listing listed c.write_entries.result
-    (part_as t (write_entries room.place entries) k2 end _
-    (ap (write_entries room.place) (sym c.in_ok-insert.ensures.ok)) c.write_entries.result
+    with_listing c.args.thread c.args.label c.args.room c.args.kernel.now end c.make_container.new.self c.in_ok-container.container made
+    c.make_segment.new.self c.in_ok-listing.listing listed c.write_entries.result
+    (part_as c.args.thread (write_entries c.args.room.place entries) c.make_segment.new.self end _
+    (ap (write_entries c.args.room.place) (sym c.in_ok-insert.ensures.ok)) c.write_entries.result
     c.write_entries.ensures)

@@ -14,43 +14,39 @@ use Rattle.histar_calls.proofs.mkdir.make_directory.Goals as goal
 
 pub returns-in_err-own : goal.returns-in_err-own
 returns-in_err-own g c =
-    let t = c.args.unix.now.caller.now.thread in
-    let accounts = c.args.unix.now.users.now in
-    let room = c.args.room in
-    let old = c.args.kernel.now in
-    let k1 = c.lend_own_label.follows.lender-at-none in
-    let left = subst (λ (r : Result _ _). OwnLent old t r k1) c.in_err-own.was c.lend_own_label.follows.holds-at-none in
-    ends_in_so (ask OwnLabel) (after_own accounts c.args.mode room) (whole_part t (make_directory accounts c.args.mode room) old) k1 _ _
-    c.from_residual.ensures.1 (refuses t OwnLabel old k1 _ c.in_err-own.field-0.0 left)
+    let left = subst (λ (r : Result _ _). OwnLent c.args.kernel.now c.args.unix.now.caller.now.thread r c.lend_own_label.follows.lender-at-none)
+    c.in_err-own.was c.lend_own_label.follows.holds-at-none in
+    ends_in_so (ask OwnLabel) (after_own c.args.unix.now.users.now c.args.mode c.args.room)
+    (whole_part c.args.unix.now.caller.now.thread (make_directory c.args.unix.now.users.now c.args.mode c.args.room) c.args.kernel.now)
+    c.lend_own_label.follows.lender-at-none _ _
+    c.from_residual.ensures.1 (refuses c.args.unix.now.caller.now.thread OwnLabel c.args.kernel.now c.lend_own_label.follows.lender-at-none _
+    c.in_err-own.field-0.0 left)
 
 pub returns-in_err-label : goal.returns-in_err-label
 returns-in_err-label g c =
-    let t = c.args.unix.now.caller.now.thread in
-    let accounts = c.args.unix.now.users.now in
-    let room = c.args.room in
-    let old = c.args.kernel.now in
-    let k1 = c.lend_own_label.follows.lender-at-none in
-    let left = subst (λ (r : Result _ _). OwnLent old t r k1) c.in_ok-own.was c.lend_own_label.follows.holds-at-none in
+    let left = subst (λ (r : Result _ _). OwnLent c.args.kernel.now c.args.unix.now.caller.now.thread r c.lend_own_label.follows.lender-at-none)
+    c.in_ok-own.was c.lend_own_label.follows.holds-at-none in
     let own : Levels × Levels = (c.in_ok-own.own.now, left.1.0) in
-    let whole = make_directory accounts c.args.mode room in
-    let adding = further_in (ask OwnLabel) (after_own accounts c.args.mode room) (whole_part t whole old) k1 own
-    (grants t OwnLabel old k1 own left.0 left.1.1) in
-    fails_so t whole old k1 Stopped _ c.from_residual-in_err-label.ensures.1
-    (adding.leads k1 (Err Stopped) (before_adding t (label_made accounts own.0 c.args.mode) room k1))
+    let whole = make_directory c.args.unix.now.users.now c.args.mode c.args.room in
+    let adding = further_in (ask OwnLabel) (after_own c.args.unix.now.users.now c.args.mode c.args.room)
+    (whole_part c.args.unix.now.caller.now.thread whole c.args.kernel.now) c.lend_own_label.follows.lender-at-none own
+    (grants c.args.unix.now.caller.now.thread OwnLabel c.args.kernel.now c.lend_own_label.follows.lender-at-none own left.0 left.1.1) in
+    fails_so c.args.unix.now.caller.now.thread whole c.args.kernel.now c.lend_own_label.follows.lender-at-none Stopped _
+    c.from_residual-in_err-label.ensures.1
+    (adding.leads c.lend_own_label.follows.lender-at-none (Err Stopped) (before_adding c.args.unix.now.caller.now.thread
+    (label_made c.args.unix.now.users.now own.0 c.args.mode) c.args.room c.lend_own_label.follows.lender-at-none))
 
 pub returns : goal.returns
 returns g c =
-    let t = c.args.unix.now.caller.now.thread in
-    let accounts = c.args.unix.now.users.now in
-    let room = c.args.room in
-    let old = c.args.kernel.now in
-    let k1 = c.lend_own_label.follows.lender-at-none in
-    let left = subst (λ (r : Result _ _). OwnLent old t r k1) c.in_ok-own.was c.lend_own_label.follows.holds-at-none in
+    let left = subst (λ (r : Result _ _). OwnLent c.args.kernel.now c.args.unix.now.caller.now.thread r c.lend_own_label.follows.lender-at-none)
+    c.in_ok-own.was c.lend_own_label.follows.holds-at-none in
     let own : Levels × Levels = (c.in_ok-own.own.now, left.1.0) in
-    let whole = make_directory accounts c.args.mode room in
-    let adding = further_in (ask OwnLabel) (after_own accounts c.args.mode room) (whole_part t whole old) k1 own
-    (grants t OwnLabel old k1 own left.0 left.1.1) in
+    let whole = make_directory c.args.unix.now.users.now c.args.mode c.args.room in
+    let adding = further_in (ask OwnLabel) (after_own c.args.unix.now.users.now c.args.mode c.args.room)
+    (whole_part c.args.unix.now.caller.now.thread whole c.args.kernel.now) c.lend_own_label.follows.lender-at-none own
+    (grants c.args.unix.now.caller.now.thread OwnLabel c.args.kernel.now c.lend_own_label.follows.lender-at-none own left.0 left.1.1) in
     let end = c.add_directory.new.kernel in
     adding.leads end c.add_directory.result
-    (adds_so t k1 end c.in_ok-label.label (label_made accounts own.0 c.args.mode) room c.in_ok-label.ensures c.add_directory.result
+    (adds_so c.args.unix.now.caller.now.thread c.lend_own_label.follows.lender-at-none end c.in_ok-label.label
+    (label_made c.args.unix.now.users.now own.0 c.args.mode) c.args.room c.in_ok-label.ensures c.add_directory.result
     c.add_directory.ensures)

@@ -21,79 +21,66 @@ object_in place target = record { container = place.container; object = object_o
 pub returns-in_default : goal.returns-in_default
 unfolding find_object
 returns-in_default g c =
-    let t = c.args.thread in
     let k = c.args.kernel.now in
     let roots = c.args.roots.now in
-    part_as t (find_object roots c.args.path.now) k k (find_object roots []) (ap (find_object roots) (no_names c.args.path.now (omega arith))) _
-    (subst (λ root. RunsPart (find_object roots []) k k t
+    part_as c.args.thread (find_object roots c.args.path.now) k k (find_object roots [])
+    (ap (find_object roots) (no_names c.args.path.now (omega arith))) _
+    (subst (λ root. RunsPart (find_object roots []) k k c.args.thread
     (Ok (record { container = root; object = roots.slash.container; is_directory = true })))
     (sym c.new.ensures)
-    (hands t k (record { container = root_number; object = roots.slash.container; is_directory = true })))
+    (hands c.args.thread k (record { container = root_number; object = roots.slash.container; is_directory = true })))
 
 pub returns-in_err-place : goal.returns-in_err-place
 unfolding find_object
 returns-in_err-place g c =
-    let t = c.args.thread in
     let part = find_object c.args.roots.now in
-    let names = c.args.path.now in
-    let name = c.name-item.result in
-    let parent = take (length names - 1) (drop 1 names) in
-    let split = first_of_names names name (omega arith) c.name-item.is in
-    fails_so t (part c.args.path.now) c.args.kernel.now c.find_place.new.kernel c.in_err-place.field-0.0 _ c.from_residual.ensures.1
-    (place_fails t c.args.roots.now c.args.kernel.now c.find_place.new.kernel part c.args.path.now name parent split
+    let parent = take (length c.args.path.now - 1) (drop 1 c.args.path.now) in
+    let split = first_of_names c.args.path.now c.name-item.result (omega arith) c.name-item.is in
+    fails_so c.args.thread (part c.args.path.now) c.args.kernel.now c.find_place.new.kernel c.in_err-place.field-0.0 _ c.from_residual.ensures.1
+    (place_fails c.args.thread c.args.roots.now c.args.kernel.now c.find_place.new.kernel part c.args.path.now c.name-item.result parent split
     entry_at object_in refl c.in_err-place.field-0.0 c.in_err-place.ensures)
 
 pub returns-in_err-found : goal.returns-in_err-found
 unfolding find_object
 returns-in_err-found g c =
-    let t = c.args.thread in
     let part = find_object c.args.roots.now in
-    let names = c.args.path.now in
-    let name = c.name-item.result in
-    let parent = take (length names - 1) (drop 1 names) in
-    let split = first_of_names names name (omega arith) c.name-item.is in
-    fails_so t (part c.args.path.now) c.args.kernel.now c.look_in.new.kernel c.in_err-found.field-0.0 _ c.from_residual-in_err-found.ensures.1
-    (look_fails t c.args.roots.now c.args.kernel.now c.look_in.new.kernel part c.args.path.now name parent split
+    let parent = take (length c.args.path.now - 1) (drop 1 c.args.path.now) in
+    let split = first_of_names c.args.path.now c.name-item.result (omega arith) c.name-item.is in
+    fails_so c.args.thread (part c.args.path.now) c.args.kernel.now c.look_in.new.kernel c.in_err-found.field-0.0 _
+    c.from_residual-in_err-found.ensures.1
+    (look_fails c.args.thread c.args.roots.now c.args.kernel.now c.look_in.new.kernel part c.args.path.now c.name-item.result parent split
     entry_at object_in refl c.find_place.new.kernel c.in_ok-place.place c.in_ok-place.ensures
     c.in_err-found.field-0.0 c.in_err-found.ensures)
 
 pub returns-in_err-target : goal.returns-in_err-target
 unfolding find_object
 returns-in_err-target g c =
-    let t = c.args.thread in
     let part = find_object c.args.roots.now in
-    let old = c.args.kernel.now in
-    let end = c.look_in.new.kernel in
-    let names = c.args.path.now in
-    let name = c.name-item.result in
-    let parent = take (length names - 1) (drop 1 names) in
-    let split = first_of_names names name (omega arith) c.name-item.is in
+    let parent = take (length c.args.path.now - 1) (drop 1 c.args.path.now) in
+    let split = first_of_names c.args.path.now c.name-item.result (omega arith) c.name-item.is in
     let errno = c.in_err-target.field-0.0 in
-    fails_so t (part c.args.path.now) old end (Refused errno) _ c.from_residual-in_err-target.ensures.1
-    (led t c.args.roots.now old end part c.args.path.now name parent split entry_at object_in refl
+    fails_so c.args.thread (part c.args.path.now) c.args.kernel.now c.look_in.new.kernel (Refused errno) _ c.from_residual-in_err-target.ensures.1
+    (led c.args.thread c.args.roots.now c.args.kernel.now c.look_in.new.kernel part c.args.path.now c.name-item.result parent split entry_at object_in
+    refl
     c.find_place.new.kernel c.in_ok-place.place c.in_ok-place.ensures c.in_ok-found.found c.in_ok-found.ensures
     (Err (Refused errno))
-    (decides_not t end (object_in c.in_ok-place.place) (entry_at c.in_ok-found.found) errno c.in_err-target.ensures))
+    (decides_not c.args.thread c.look_in.new.kernel (object_in c.in_ok-place.place) (entry_at c.in_ok-found.found) errno c.in_err-target.ensures))
 
 pub returns : goal.returns
 unfolding find_object
 returns g c =
-    let t = c.args.thread in
     let part = find_object c.args.roots.now in
-    let old = c.args.kernel.now in
-    let end = c.look_in.new.kernel in
-    let names = c.args.path.now in
-    let name = c.name-item.result in
-    let parent = take (length names - 1) (drop 1 names) in
-    let split = first_of_names names name (omega arith) c.name-item.is in
+    let parent = take (length c.args.path.now - 1) (drop 1 c.args.path.now) in
+    let split = first_of_names c.args.path.now c.name-item.result (omega arith) c.name-item.is in
     let target = c.in_ok-target.target in
-    subst (λ (found : FoundObject). RunsPart (part c.args.path.now) old end t (Ok found))
+    subst (λ (found : FoundObject). RunsPart (part c.args.path.now) c.args.kernel.now c.look_in.new.kernel c.args.thread (Ok found))
     (λ i. record {
       container = c.in_ok-place.place.container;
       object = sym c.object.ensures i;
       is_directory = sym c.is_directory.ensures i;
     })
-    (led t c.args.roots.now old end part c.args.path.now name parent split entry_at object_in refl
+    (led c.args.thread c.args.roots.now c.args.kernel.now c.look_in.new.kernel part c.args.path.now c.name-item.result parent split entry_at object_in
+    refl
     c.find_place.new.kernel c.in_ok-place.place c.in_ok-place.ensures c.in_ok-found.found c.in_ok-found.ensures
     (Ok (object_in c.in_ok-place.place target))
-    (decides t end (object_in c.in_ok-place.place) (entry_at c.in_ok-found.found) target c.in_ok-target.ensures))
+    (decides c.args.thread c.look_in.new.kernel (object_in c.in_ok-place.place) (entry_at c.in_ok-found.found) target c.in_ok-target.ensures))

@@ -11,57 +11,54 @@ use Rattle.histar_calls.proofs.stat.stat.Goals as goal
 pub returns-in_err-found : goal.returns-in_err-found
 unfolding stat_program
 returns-in_err-found g c =
-    let t = c.args.unix.now.caller.now.thread in
-    let old = c.args.kernel.now in
     let end = c.find_object.new.kernel in
-    call_fails_so t (stat_program c.args.unix.now.users.now c.args.unix.now.roots.now c.args.path.now) old end c.in_err-found.field-0.0 _
+    call_fails_so c.args.unix.now.caller.now.thread (stat_program c.args.unix.now.users.now c.args.unix.now.roots.now c.args.path.now)
+    c.args.kernel.now end c.in_err-found.field-0.0 _
     c.from_residual.ensures.1
-    (call_fails t (find_object c.args.unix.now.roots.now c.args.path.now) old end _ c.in_err-found.field-0.0 c.in_err-found.ensures)
+    (call_fails c.args.unix.now.caller.now.thread (find_object c.args.unix.now.roots.now c.args.path.now) c.args.kernel.now end _
+    c.in_err-found.field-0.0 c.in_err-found.ensures)
 
 pub returns-in_err-label : goal.returns-in_err-label
 unfolding stat_program
 returns-in_err-label g c =
-    let t = c.args.unix.now.caller.now.thread in
-    let old = c.args.kernel.now in
-    let mid = c.find_object.new.kernel in
-    let end = c.label_of.new.self in
-    let found = c.in_ok-found.found in
-    let call = LabelOf found.container found.object in
-    call_fails_so t (stat_program c.args.unix.now.users.now c.args.unix.now.roots.now c.args.path.now) old end _ _
+    let call = LabelOf c.in_ok-found.found.container c.in_ok-found.found.object in
+    call_fails_so c.args.unix.now.caller.now.thread (stat_program c.args.unix.now.users.now c.args.unix.now.roots.now c.args.path.now)
+    c.args.kernel.now c.label_of.new.self _ _
     c.from_residual-in_err-label.ensures.1
-    (then_call t (find_object c.args.unix.now.roots.now c.args.path.now) old end _ mid found c.in_ok-found.ensures _
-    (call_fails t (ask call) mid end (λ label. class_reply found.is_directory (class_shown c.args.unix.now.users.now label)) _
-    (refuses t call mid end _ c.in_err-label.field-0.0 c.in_err-label.ensures)))
+    (then_call c.args.unix.now.caller.now.thread (find_object c.args.unix.now.roots.now c.args.path.now) c.args.kernel.now c.label_of.new.self _
+    c.find_object.new.kernel c.in_ok-found.found c.in_ok-found.ensures _
+    (call_fails c.args.unix.now.caller.now.thread (ask call) c.find_object.new.kernel c.label_of.new.self
+    (λ label. class_reply c.in_ok-found.found.is_directory (class_shown c.args.unix.now.users.now label)) _
+    (refuses c.args.unix.now.caller.now.thread call c.find_object.new.kernel c.label_of.new.self _ c.in_err-label.field-0.0 c.in_err-label.ensures)))
 
 pub returns-in_default : goal.returns-in_default
 unfolding stat_program
 returns-in_default g c =
-    let t = c.args.unix.now.caller.now.thread in
-    let old = c.args.kernel.now in
-    let mid = c.find_object.new.kernel in
-    let end = c.label_of.new.self in
-    let found = c.in_ok-found.found in
     let label = c.in_ok-label.label in
-    let call = LabelOf found.container found.object in
-    then_call t (find_object c.args.unix.now.roots.now c.args.path.now) old end _ mid found c.in_ok-found.ensures _
-    (then_call t (ask call) mid end (λ label. class_reply found.is_directory (class_shown c.args.unix.now.users.now label)) end
-    label (grants t call mid end label c.in_ok-label.ensures.0 c.in_ok-label.ensures.1) _
-    (runs_as t _ (class_reply found.is_directory None) end end _
-    (ap (class_reply found.is_directory) (sym c.shown_class.ensures ∙ c.in_default.is)) (stops t end)))
+    let call = LabelOf c.in_ok-found.found.container c.in_ok-found.found.object in
+    then_call c.args.unix.now.caller.now.thread (find_object c.args.unix.now.roots.now c.args.path.now) c.args.kernel.now c.label_of.new.self _
+    c.find_object.new.kernel c.in_ok-found.found c.in_ok-found.ensures _
+    (then_call c.args.unix.now.caller.now.thread (ask call) c.find_object.new.kernel c.label_of.new.self
+    (λ label. class_reply c.in_ok-found.found.is_directory (class_shown c.args.unix.now.users.now label)) c.label_of.new.self
+    label (grants c.args.unix.now.caller.now.thread call c.find_object.new.kernel c.label_of.new.self label c.in_ok-label.ensures.0
+    c.in_ok-label.ensures.1) _
+    (runs_as c.args.unix.now.caller.now.thread _ (class_reply c.in_ok-found.found.is_directory None) c.label_of.new.self c.label_of.new.self _
+    (ap (class_reply c.in_ok-found.found.is_directory) (sym c.shown_class.ensures ∙ c.in_default.is))
+    (stops c.args.unix.now.caller.now.thread c.label_of.new.self)))
 
 pub returns : goal.returns
 unfolding stat_program
 returns g c =
-    let t = c.args.unix.now.caller.now.thread in
-    let old = c.args.kernel.now in
-    let mid = c.find_object.new.kernel in
-    let end = c.label_of.new.self in
-    let found = c.in_ok-found.found in
     let label = c.in_ok-label.label in
-    let call = LabelOf found.container found.object in
-    then_call t (find_object c.args.unix.now.roots.now c.args.path.now) old end _ mid found c.in_ok-found.ensures _
-    (then_call t (ask call) mid end (λ label. class_reply found.is_directory (class_shown c.args.unix.now.users.now label)) end
-    label (grants t call mid end label c.in_ok-label.ensures.0 c.in_ok-label.ensures.1) _
-    (runs_as t _ (class_reply found.is_directory (Some c.in-Some.class)) end end _
-    (ap (class_reply found.is_directory) (sym c.shown_class.ensures ∙ c.in-Some.is))
-    (replies_so t end (Stats (stat_of c.in-Some.class found.is_directory)) (Stats c.stat.result) (ap Stats c.stat.ensures))))
+    let call = LabelOf c.in_ok-found.found.container c.in_ok-found.found.object in
+    then_call c.args.unix.now.caller.now.thread (find_object c.args.unix.now.roots.now c.args.path.now) c.args.kernel.now c.label_of.new.self _
+    c.find_object.new.kernel c.in_ok-found.found c.in_ok-found.ensures _
+    (then_call c.args.unix.now.caller.now.thread (ask call) c.find_object.new.kernel c.label_of.new.self
+    (λ label. class_reply c.in_ok-found.found.is_directory (class_shown c.args.unix.now.users.now label)) c.label_of.new.self
+    label (grants c.args.unix.now.caller.now.thread call c.find_object.new.kernel c.label_of.new.self label c.in_ok-label.ensures.0
+    c.in_ok-label.ensures.1) _
+    (runs_as c.args.unix.now.caller.now.thread _ (class_reply c.in_ok-found.found.is_directory (Some c.in-Some.class)) c.label_of.new.self
+    c.label_of.new.self _
+    (ap (class_reply c.in_ok-found.found.is_directory) (sym c.shown_class.ensures ∙ c.in-Some.is))
+    (replies_so c.args.unix.now.caller.now.thread c.label_of.new.self (Stats (stat_of c.in-Some.class c.in_ok-found.found.is_directory))
+    (Stats c.stat.result) (ap Stats c.stat.ensures))))

@@ -20,18 +20,16 @@ arguments-init c = record {
 
 pub arguments-preserved : goal.arguments-preserved
 arguments-preserved c =
-    let arguments = c.args.form.now.arguments.now in
     let bare = new_app c.args.form.now.name.now in
-    subst (Has c.in_ok-command.command bare) (sym (take_more arguments c.arguments.argument-index _ c.arguments-test.true))
+    subst (Has c.in_ok-command.command bare) (sym (take_more c.args.form.now.arguments.now c.arguments.argument-index _ c.arguments-test.true))
     (has_more c.arguments.command c.in_ok-command.command c.in_ok-arg.arg bare _ _ c.arguments.invariant
     c.in_ok-command.ensures c.in_ok-arg.ensures.rule c.in_ok-arg.ensures.local)
 
 pub returns-clause-app : goal.returns-clause-app
 returns-clause-app c =
-    let arguments = c.args.form.now.arguments.now in
     c.arguments.invariant.app
     ∙ ap (λ given. fold with_rule (new_app c.args.form.now.name.now) (map argument_rule given))
-    (take_all c.arguments.argument-index arguments c.arguments-test.false)
+    (take_all c.arguments.argument-index c.args.form.now.arguments.now c.arguments-test.false)
 
 pub returns-clause-local : goal.returns-clause-local
 returns-clause-local c = c.arguments.invariant.local

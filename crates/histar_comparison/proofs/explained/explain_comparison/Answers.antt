@@ -15,13 +15,12 @@ observe-requires c = can_run c.args.job.now c.args.text.now c.in_ok-script.scrip
 
 pub returns-then-not-is_started-clause-exact : goal.returns-then-not-is_started-clause-exact
 returns-then-not-is_started-clause-exact c =
-    let job = c.args.job.now in
-    let script = c.in_ok-script.script in
     let none : c.first.inside.replies.is_started ≡ false = search rules in
     let seen = ap (λ (o : ObservationModel). o.replies.is_started) (sym c.first.view_is) ∙ none in
-    let found = compared_none job c.args.text.now script c.in_ok-script.ensures.exact c.in_ok-first.first c.in_ok-first.ensures seen in
-    explained_as job c.args.text.now script c.in_ok-script.ensures.exact NoJob _ _
-    (verdict_is job c.args.text.now script c.in_ok-script.ensures.exact NoJob found) (search rules) (search rules)
+    let found = compared_none c.args.job.now c.args.text.now c.in_ok-script.script c.in_ok-script.ensures.exact c.in_ok-first.first
+    c.in_ok-first.ensures seen in
+    explained_as c.args.job.now c.args.text.now c.in_ok-script.script c.in_ok-script.ensures.exact NoJob _ _
+    (verdict_is c.args.job.now c.args.text.now c.in_ok-script.script c.in_ok-script.ensures.exact NoJob found) (search rules) (search rules)
 
 pub observe-requires-2 : goal.observe-requires-2
 observe-requires-2 c =
@@ -31,18 +30,19 @@ observe-requires-2 c =
 
 pub returns-clause-exact : goal.returns-clause-exact
 returns-clause-exact c =
-    let job = c.args.job.now in
     let text = c.args.text.now in
-    let script = c.in_ok-script.script in
     let read = c.in_ok-script.ensures.exact in
     let v = difference c.in_ok-first.first c.in_ok-second.second in
     let some : c.first.inside.replies.is_started ≡ true = search rules in
     let seen = ap (λ (o : ObservationModel). o.replies.is_started) (sym c.first.view_is) ∙ some in
-    let again = read_again text script c.in_ok-read_script.field-0 read c.in_ok-read_script.ensures.exact in
-    let second = c.in_ok-second.ensures ∙ ap (observation job) (c.without-rest.ensures ∙ ap (without_job job) again) in
-    let found = compared_found job text script read finds_first_path c.in_ok-first.first c.in_ok-second.second c.in_ok-first.ensures second
+    let again = read_again text c.in_ok-script.script c.in_ok-read_script.field-0 read c.in_ok-read_script.ensures.exact in
+    let second = c.in_ok-second.ensures ∙ ap (observation c.args.job.now) (c.without-rest.ensures ∙ ap (without_job c.args.job.now) again) in
+    let found = compared_found c.args.job.now text c.in_ok-script.script read finds_first_path c.in_ok-first.first c.in_ok-second.second
+    c.in_ok-first.ensures second
     seen v refl in
-    let with_job = ap (λ (o : ObservationModel). seen_of o v) c.in_ok-first.ensures ∙ seen_printed job script v in
-    let without = ap (λ (o : ObservationModel). seen_of o v) second ∙ seen_printed job (without_job job script) v in
+    let with_job = ap (λ (o : ObservationModel). seen_of o v) c.in_ok-first.ensures ∙ seen_printed c.args.job.now c.in_ok-script.script v in
+    let without = ap (λ (o : ObservationModel). seen_of o v) second ∙ seen_printed c.args.job.now (without_job c.args.job.now c.in_ok-script.script) v
+    in
     rw c.in_ok-explain_difference.ensures
-    (explained_as job text script read v _ _ (verdict_is job text script read v found) with_job without)
+    (explained_as c.args.job.now text c.in_ok-script.script read v _ _ (verdict_is c.args.job.now text c.in_ok-script.script read v found) with_job
+    without)

@@ -36,33 +36,31 @@ returns-in_default c =
 
 pub returns-in-None : goal.returns-in-None
 returns-in-None c =
-    let name = c.in-Some.name in
     let path = reverse c.loop.names.items in
-    let is : name_of (split_at_first slash c.loop.rest.now).0 ≡ Some name =
+    let is : name_of (split_at_first slash c.loop.rest.now).0 ≡ Some c.in-Some.name =
     ap name_of (sym c.split_at_first.ensures.before) ∙ sym c.read_name.ensures ∙ c.in-Some.is in
     let end : (split_at_first slash c.loop.rest.now).1 ≡ None = sym c.split_at_first.ensures.after ∙ ap option_copied c.in-None.is in
     let left : 0 < 8 - c.loop.counter = omega (arith, c.loop-test.true) in
-    ap Some (c.along.ensures ∙ turned c.loop.names.items c.push.new.self.items name c.in_ok-push.ensures.items)
-    ∙ sym (last_name (8 - c.loop.counter) path c.loop.rest.now name left is end) ∙ c.loop.invariant.0
+    ap Some (c.along.ensures ∙ turned c.loop.names.items c.push.new.self.items c.in-Some.name c.in_ok-push.ensures.items)
+    ∙ sym (last_name (8 - c.loop.counter) path c.loop.rest.now c.in-Some.name left is end) ∙ c.loop.invariant.0
 
 pub loop-preserved : goal.loop-preserved
 loop-preserved c =
-    let name = c.in-Some.name in
     let path = reverse c.loop.names.items in
     let others = c.in-Some-after.others.now in
-    let is : name_of (split_at_first slash c.loop.rest.now).0 ≡ Some name =
+    let is : name_of (split_at_first slash c.loop.rest.now).0 ≡ Some c.in-Some.name =
     ap name_of (sym c.split_at_first.ensures.before) ∙ sym c.read_name.ensures ∙ c.in-Some.is in
     let on : (split_at_first slash c.loop.rest.now).1 ≡ Some others =
     sym c.split_at_first.ensures.after ∙ ap option_copied c.in-Some-after.is in
     let left : 0 < 8 - c.loop.counter = omega (arith, c.loop-test.true) in
     let less : 8 - (c.loop.counter + 1) ≡ 8 - c.loop.counter - 1 = omega arith in
-    let longer = turned c.loop.names.items c.push.new.self.items name c.in_ok-push.ensures.items in (
-      (λ i. path_from (less i) (longer i) others) ∙ sym (next_name (8 - c.loop.counter) path c.loop.rest.now others name left is on)
+    let longer = turned c.loop.names.items c.push.new.self.items c.in-Some.name c.in_ok-push.ensures.items in (
+      (λ i. path_from (less i) (longer i) others) ∙ sym (next_name (8 - c.loop.counter) path c.loop.rest.now others c.in-Some.name left is on)
           ∙ c.loop.invariant.0,
       ap length longer ∙ omega (arith, c.loop.invariant.1),
       subst (λ (p : Path). IsTrue (is_path p)) (sym longer)
-          (leads_on name path (omega (arith, c.loop.invariant.1, c.loop-test.true))
-          (spelled (split_at_first slash c.loop.rest.now).0 name is) c.loop.invariant.2),
+          (leads_on c.in-Some.name path (omega (arith, c.loop.invariant.1, c.loop-test.true))
+          (spelled (split_at_first slash c.loop.rest.now).0 c.in-Some.name is) c.loop.invariant.2),
     )
 
 pub returns : goal.returns

@@ -13,24 +13,23 @@ returns-in_err-read_name c =
 
 pub returns-in-None : goal.returns-in-None
 returns-in-None c =
-    let name = c.in_ok-read_name.field-0 in
-    let is : name_of (split_at_first slash c.loop.rest.now).0 ≡ Some name =
+    let is : name_of (split_at_first slash c.loop.rest.now).0 ≡ Some c.in_ok-read_name.field-0 =
     ap name_of (sym c.split_at_first.ensures.before) ∙ sym c.read_name.ensures ∙ c.in_ok-read_name.was in
     let end : (split_at_first slash c.loop.rest.now).1 ≡ None = sym c.split_at_first.ensures.after ∙ ap option_copied c.in-None.is in
     let left : 0 < 8 - c.loop.counter = omega (arith, c.loop-test.true) in
-    ap (λ path. Some path) c.enter.ensures ∙ sym (last_name (8 - c.loop.counter) c.loop.path c.loop.rest.now name left is end) ∙ c.loop.invariant.0
+    ap (λ path. Some path) c.enter.ensures ∙ sym (last_name (8 - c.loop.counter) c.loop.path c.loop.rest.now c.in_ok-read_name.field-0 left is end) ∙
+    c.loop.invariant.0
 
 pub loop-preserved : goal.loop-preserved
 loop-preserved c =
-    let name = c.in_ok-read_name.field-0 in
     let names = c.in-Some.names.now in
-    let is : name_of (split_at_first slash c.loop.rest.now).0 ≡ Some name =
+    let is : name_of (split_at_first slash c.loop.rest.now).0 ≡ Some c.in_ok-read_name.field-0 =
     ap name_of (sym c.split_at_first.ensures.before) ∙ sym c.read_name.ensures ∙ c.in_ok-read_name.was in
     let on : (split_at_first slash c.loop.rest.now).1 ≡ Some names = sym c.split_at_first.ensures.after ∙ ap option_copied c.in-Some.is in
     let left : 0 < 8 - c.loop.counter = omega (arith, c.loop-test.true) in
     let less : 8 - (c.loop.counter + 1) ≡ 8 - c.loop.counter - 1 = omega arith in
     rw (c.enter.ensures, less) (
-      sym (next_name (8 - c.loop.counter) c.loop.path c.loop.rest.now names name left is on) ∙ c.loop.invariant.0,
+      sym (next_name (8 - c.loop.counter) c.loop.path c.loop.rest.now names c.in_ok-read_name.field-0 left is on) ∙ c.loop.invariant.0,
       omega (arith, c.loop.invariant.1),
     )
 

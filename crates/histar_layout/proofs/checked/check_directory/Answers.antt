@@ -12,7 +12,6 @@ entries-init c = nothing_checked c.args.bytes.now (λ i. omega (arith, c.type_in
 
 pub returns-in_default : goal.returns-in_default
 returns-in_default c =
-    let empty = c.is_empty.ensures in
     let there : 0 < length c.entries.rest.now = grind (arith, nat_tests) in
     no_entry _ _ _ _ c.entries.invariant.read there c.in_default.ensures.entry
 
@@ -31,7 +30,6 @@ entries-preserved c =
 
 pub returns-then-count-eq-MOST_ENTRIES : goal.returns-then-count-eq-MOST_ENTRIES
 returns-then-count-eq-MOST_ENTRIES c =
-    let empty = c.is_empty.ensures in
     let there : 0 < length c.entries.rest.now = grind (arith, nat_tests) in
     elim c.then-count-eq-MOST_ENTRIES.branch [
       | then-count-eq-MOST_ENTRIES-via-then-count-eq-MOST_ENTRIES w ↦
@@ -46,6 +44,5 @@ returns-then-count-eq-MOST_ENTRIES c =
 
 pub returns : goal.returns
 returns c =
-    let empty = c.is_empty.ensures in
     let none : length c.entries.rest.now ≡ 0 = grind (arith, nat_tests) in
     whole_checked _ _ _ _ c.entries.invariant none

@@ -15,24 +15,21 @@ lies_before name bytes end test room is =
 
 pub returns-then-bytes-end : goal.returns-then-bytes-end
 returns-then-bytes-end c =
-    let name = c.args.name.now in
     let bytes = c.args.bytes.now in
     let end = c.args.end in
-    let place : end - length name + (length name - 1) ≡ end - 1 = omega (arith, c.requires.room, c.requires.some) in
-    lies_before name bytes end _ c.requires.room
-    (other_bytes name bytes (end - length name) (length name - 1) (omega (arith, c.requires.some))
+    let place : end - length c.args.name.now + (length c.args.name.now - 1) ≡ end - 1 = omega (arith, c.requires.room, c.requires.some) in
+    lies_before c.args.name.now bytes end _ c.requires.room
+    (other_bytes c.args.name.now bytes (end - length c.args.name.now) (length c.args.name.now - 1) (omega (arith, c.requires.some))
     (λ e. c.if-bytes-end.true (sym (e ∙ ap (λ k. get_or bytes k 0) place) ∙ sym c.requires.last)))
 
 pub returns-then-name-left : goal.returns-then-name-left
 returns-then-name-left c =
-    let name = c.args.name.now in
-    lies_before name c.args.bytes.now c.args.end _ c.requires.room
-    (other_bytes name c.args.bytes.now (c.args.end - length name) (c.bytes.left - 1)
+    lies_before c.args.name.now c.args.bytes.now c.args.end _ c.requires.room
+    (other_bytes c.args.name.now c.args.bytes.now (c.args.end - length c.args.name.now) (c.bytes.left - 1)
     (omega (arith, c.bytes.invariant.0, c.bytes-test.true)) c.if-name-left.true)
 
 pub returns : goal.returns
 returns c =
-    let name = c.args.name.now in
-    lies_before name c.args.bytes.now c.args.end _ c.requires.room
-    (same_bytes name c.args.bytes.now (c.args.end - length name) (omega (arith, c.requires.room, c.requires.within))
+    lies_before c.args.name.now c.args.bytes.now c.args.end _ c.requires.room
+    (same_bytes c.args.name.now c.args.bytes.now (c.args.end - length c.args.name.now) (omega (arith, c.requires.room, c.requires.within))
     (λ k below. c.bytes.invariant.1 k (omega (arith, c.bytes-test.false)) below))

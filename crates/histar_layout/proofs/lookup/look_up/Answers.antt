@@ -31,29 +31,26 @@ entries-init c = all_left c.args.bytes.now c.args.name.now
 
 pub entries-preserved : goal.entries-preserved
 entries-preserved c =
-    let bytes = c.args.bytes.now in
-    let start = c.entries.start in
-    let there : start < length bytes = omega (arith, c.if-bytes-size.false, c.entries-test.true) in
-    let read = slice_get-get_or bytes start 0 there in
-    stepped_over bytes c.args.name.now start (get_or bytes start 0) read c.entries.invariant
+    let there : c.entries.start < length bytes = omega (arith, c.if-bytes-size.false, c.entries-test.true) in
+    let read = slice_get-get_or c.args.bytes.now c.entries.start 0 there in
+    stepped_over c.args.bytes.now c.args.name.now c.entries.start (get_or c.args.bytes.now c.entries.start 0) read c.entries.invariant
     (λ e. c.if-len-wanted.false (sym e ∙ ap length (sym c.as_bytes-wanted.ensures.value)))
 
 pub entries-preserved-else-is_before : goal.entries-preserved-else-is_before
 entries-preserved-else-is_before c =
-    let bytes = c.args.bytes.now in
-    let start = c.entries.start in
-    let there : start < length bytes = omega (arith, c.if-bytes-size.false, c.entries-test.true) in
-    let read = slice_get-get_or bytes start 0 there in
-    left_over bytes c.args.name.now start (get_or bytes start 0) read c.entries.invariant
+    let there : c.entries.start < length bytes = omega (arith, c.if-bytes-size.false, c.entries-test.true) in
+    let read = slice_get-get_or c.args.bytes.now c.entries.start 0 there in
+    left_over c.args.bytes.now c.args.name.now c.entries.start (get_or c.args.bytes.now c.entries.start 0) read c.entries.invariant
     (omega (arith, c.if-bytes-size.false, c.entries-test.true, c.if-len-wanted.true))
-    (compared bytes c.as_bytes-wanted.result.now c.args.name.now start (get_or bytes start 0) c.is_before.result _
+    (compared c.args.bytes.now c.as_bytes-wanted.result.now c.args.name.now c.entries.start (get_or c.args.bytes.now c.entries.start 0)
+    c.is_before.result _
     c.as_bytes-wanted.ensures.value c.if-len-wanted.true c.is_before.ensures c.if-is_before.false)
 
 pub returns-then-bytes-size-clause-found : goal.returns-then-bytes-size-clause-found
 returns-then-bytes-size-clause-found c =
-    let bytes = c.args.bytes.now in
     let name = c.args.name.now in
-    sym (out_of_reach bytes 0 name (all_left bytes name) (omega (arith, c.if-bytes-size.true, ap length c.as_bytes-wanted.ensures.value)))
+    sym (out_of_reach c.args.bytes.now 0 name (all_left c.args.bytes.now name)
+    (omega (arith, c.if-bytes-size.true, ap length c.as_bytes-wanted.ensures.value)))
 
 pub returns-then-bytes-size-clause-entry : goal.returns-then-bytes-size-clause-entry
 returns-then-bytes-size-clause-entry c dir is =
@@ -61,14 +58,13 @@ returns-then-bytes-size-clause-entry c dir is =
 
 pub returns-then-is_before-clause-found : goal.returns-then-is_before-clause-found
 returns-then-is_before-clause-found c =
-    let bytes = c.args.bytes.now in
-    let start = c.entries.start in
-    let there : start < length bytes = omega (arith, c.if-bytes-size.false, c.entries-test.true) in
-    let read = slice_get-get_or bytes start 0 there in
+    let there : c.entries.start < length bytes = omega (arith, c.if-bytes-size.false, c.entries-test.true) in
+    let read = slice_get-get_or c.args.bytes.now c.entries.start 0 there in
     c.target_from.ensures
-    ∙ sym (found_there bytes c.args.name.now start (get_or bytes start 0) read c.entries.invariant
+    ∙ sym (found_there c.args.bytes.now c.args.name.now c.entries.start (get_or c.args.bytes.now c.entries.start 0) read c.entries.invariant
     (omega (arith, c.if-bytes-size.false, c.entries-test.true, c.if-len-wanted.true))
-    (compared bytes c.as_bytes-wanted.result.now c.args.name.now start (get_or bytes start 0) c.is_before.result _
+    (compared c.args.bytes.now c.as_bytes-wanted.result.now c.args.name.now c.entries.start (get_or c.args.bytes.now c.entries.start 0)
+    c.is_before.result _
     c.as_bytes-wanted.ensures.value c.if-len-wanted.true c.is_before.ensures c.if-is_before.true))
 
 pub returns-then-is_before-clause-entry : goal.returns-then-is_before-clause-entry

@@ -10,44 +10,42 @@ use Rattle.histar_layout.proofs.shown.shown_group.Goals as goal
 
 pub loop-place-preserved : goal.loop-place-preserved
 loop-place-preserved c =
-    let label = c.args.label.now in
-    let group = c.index-groups-place.result in
     let below = subst (λ (groups : List Group). c.loop-place.place < length groups) c.groups-groups.ensures.groups c.loop-place-test.true in
-    let at = subst (λ (groups : List Group). group ≡ get_or groups c.loop-place.place group) c.groups-groups.ensures.groups c.index-groups-place.is in
+    let at = subst (λ (groups : List Group). c.index-groups-place.result ≡ get_or groups c.loop-place.place c.index-groups-place.result)
+    c.groups-groups.ensures.groups c.index-groups-place.is in
     let number : c.group_owner-number.result ≡ length c.args.users.now.users + 1 + c.loop-place.place =
     c.group_owner-number.ensures ∙ ap (λ (n : ℕ). n + (c.loop-place.place + 1)) c.len.ensures.len
     ∙ behind (length c.args.users.now.users) c.loop-place.place in
-    let read = c.get-read.ensures ∙ ap (level_of label) (c.read_category.ensures ∙ ap read_category number) in
-    let write = c.get-write.ensures ∙ ap (level_of label) (c.write_category.ensures ∙ ap write_category number) in
+    let read = c.get-read.ensures ∙ ap (level_of c.args.label.now) (c.read_category.ensures ∙ ap read_category number) in
+    let write = c.get-write.ensures ∙ ap (level_of c.args.label.now) (c.write_category.ensures ∙ ap write_category number) in
     let next : length c.args.users.now.users + 1 + c.loop-place.place + 1
     ≡ length c.args.users.now.users + 1 + (c.loop-place.place + 1) =
     omega arith in
-    let unnamed : is_unnamed label (length c.args.users.now.users + 1 + c.loop-place.place) ≡ true =
+    let unnamed : is_unnamed c.args.label.now (length c.args.users.now.users + 1 + c.loop-place.place) ≡ true =
     (λ i. is_plain_level (sym read i) && is_plain_level (sym write i)) ∙ sym c.are_plain.ensures
     ∙ c.if-not-are_plain.false in
     c.loop-place.invariant
-    ∙ group_passed_over label (length c.args.users.now.users + 1) c.args.users.now.groups c.loop-place.place group
+    ∙ group_passed_over c.args.label.now (length c.args.users.now.users + 1) c.args.users.now.groups c.loop-place.place c.index-groups-place.result
     below at unnamed
-    ∙ ap (λ (first : ℕ). group_class_from label first (drop (c.loop-place.place + 1) c.args.users.now.groups)) next
+    ∙ ap (λ (first : ℕ). group_class_from c.args.label.now first (drop (c.loop-place.place + 1) c.args.users.now.groups)) next
 
 pub returns-then-not-are_plain : goal.returns-then-not-are_plain
 returns-then-not-are_plain c =
-    let label = c.args.label.now in
-    let group = c.index-groups-place.result in
     let below = subst (λ (groups : List Group). c.loop-place.place < length groups) c.groups-groups.ensures.groups c.loop-place-test.true in
-    let at = subst (λ (groups : List Group). group ≡ get_or groups c.loop-place.place group) c.groups-groups.ensures.groups c.index-groups-place.is in
+    let at = subst (λ (groups : List Group). c.index-groups-place.result ≡ get_or groups c.loop-place.place c.index-groups-place.result)
+    c.groups-groups.ensures.groups c.index-groups-place.is in
     let number : c.group_owner-number.result ≡ length c.args.users.now.users + 1 + c.loop-place.place =
     c.group_owner-number.ensures ∙ ap (λ (n : ℕ). n + (c.loop-place.place + 1)) c.len.ensures.len
     ∙ behind (length c.args.users.now.users) c.loop-place.place in
-    let read = c.get-read.ensures ∙ ap (level_of label) (c.read_category.ensures ∙ ap read_category number) in
-    let write = c.get-write.ensures ∙ ap (level_of label) (c.write_category.ensures ∙ ap write_category number) in
-    let named : is_unnamed label (length c.args.users.now.users + 1 + c.loop-place.place) ≡ false =
+    let read = c.get-read.ensures ∙ ap (level_of c.args.label.now) (c.read_category.ensures ∙ ap read_category number) in
+    let write = c.get-write.ensures ∙ ap (level_of c.args.label.now) (c.write_category.ensures ∙ ap write_category number) in
+    let named : is_unnamed c.args.label.now (length c.args.users.now.users + 1 + c.loop-place.place) ≡ false =
     (λ i. is_plain_level (sym read i) && is_plain_level (sym write i)) ∙ sym c.are_plain.ensures
     ∙ c.if-not-are_plain.true in
     c.group_class_at.ensures ∙ (λ i. group_class_at (c.name.ensures i) (read i) (write i))
     ∙ sym (c.loop-place.invariant
-    ∙ group_revealed_here label (length c.args.users.now.users + 1) c.args.users.now.groups c.loop-place.place
-    group below at named)
+    ∙ group_revealed_here c.args.label.now (length c.args.users.now.users + 1) c.args.users.now.groups c.loop-place.place
+    c.index-groups-place.result below at named)
 
 pub returns-then-is_all_plain : goal.returns-then-is_all_plain
 returns-then-is_all_plain c =

@@ -15,9 +15,8 @@ returns-in_err-make_user_table-clause-err g c =
 
 pub make_slash-requires : goal.make_slash-requires
 make_slash-requires g c =
-    let way = c.requires.begins in
-    slash_allowed c.args.accounts.now way.0 c.args.kernel.now way.1 way.3 c.make_user_table.new.kernel
-    c.in_ok-make_user_table.ensures.0 way.2 c.requires.some
+    slash_allowed c.args.accounts.now c.requires.begins.0 c.args.kernel.now c.requires.begins.1 c.requires.begins.3 c.make_user_table.new.kernel
+    c.in_ok-make_user_table.ensures.0 c.requires.begins.2 c.requires.some
 
 pub returns-in_err-container-clause-err : goal.returns-in_err-container-clause-err
 returns-in_err-container-clause-err g c =
@@ -29,9 +28,9 @@ returns-in_err-container-clause-err g c =
 
 pub make_listing-requires : goal.make_listing-requires
 make_listing-requires g c =
-    let way = c.requires.begins in
-    listing_allowed c.args.accounts.now way.0 c.args.kernel.now way.1 way.3 c.make_user_table.new.kernel c.in_ok-make_user_table.ensures.0
-    c.in_ok-container.container c.make_slash.new.kernel c.in_ok-container.ensures.0 c.in_ok-container.ensures.1.0 way.2 c.requires.some
+    listing_allowed c.args.accounts.now c.requires.begins.0 c.args.kernel.now c.requires.begins.1 c.requires.begins.3 c.make_user_table.new.kernel
+    c.in_ok-make_user_table.ensures.0
+    c.in_ok-container.container c.make_slash.new.kernel c.in_ok-container.ensures.0 c.in_ok-container.ensures.1.0 c.requires.begins.2 c.requires.some
 
 pub returns-in_err-listing-clause-err : goal.returns-in_err-listing-clause-err
 returns-in_err-listing-clause-err g c =

@@ -8,8 +8,7 @@ use Rattle.histar_login.proofs.boot_calls.make_process.Goals as goal
 
 pub make_category-requires : goal.make_category-requires
 make_category-requires g c =
-    let way = c.requires in
-    read_allowed way.0 c.args.kernel.now way.1 way.3 way.2
+    read_allowed c.requires.0 c.args.kernel.now c.requires.1 c.requires.3 c.requires.2
 
 pub returns-in_err-read-clause-err : goal.returns-in_err-read-clause-err
 returns-in_err-read-clause-err g c =
@@ -19,10 +18,9 @@ returns-in_err-read-clause-err g c =
 
 pub make_category-requires-2 : goal.make_category-requires-2
 make_category-requires-2 g c =
-    let way = c.requires in
-    write_allowed way.0 c.args.kernel.now way.1 way.3
+    write_allowed c.requires.0 c.args.kernel.now c.requires.1 c.requires.3
     c.in_ok-read.read c.make_category.new.kernel c.in_ok-read.ensures.0 c.in_ok-read.ensures.1
-    way.2
+    c.requires.2
 
 pub returns-in_err-write-clause-err : goal.returns-in_err-write-clause-err
 returns-in_err-write-clause-err g c =
@@ -34,11 +32,10 @@ returns-in_err-write-clause-err g c =
 
 pub make_outer-requires : goal.make_outer-requires
 make_outer-requires g c =
-    let way = c.requires in
-    outer_allowed way.0 c.args.kernel.now way.1 way.3
+    outer_allowed c.requires.0 c.args.kernel.now c.requires.1 c.requires.3
     c.in_ok-read.read c.make_category.new.kernel c.in_ok-read.ensures.0 c.in_ok-read.ensures.1
     c.in_ok-write.write c.make_category-2.new.kernel c.in_ok-write.ensures.0 c.in_ok-write.ensures.1
-    way.2
+    c.requires.2
 
 pub returns-in_err-outer-clause-err : goal.returns-in_err-outer-clause-err
 returns-in_err-outer-clause-err g c =
@@ -51,12 +48,11 @@ returns-in_err-outer-clause-err g c =
 
 pub make_internal-requires : goal.make_internal-requires
 make_internal-requires g c =
-    let way = c.requires in
-    inner_allowed way.0 c.args.kernel.now way.1 way.3
+    inner_allowed c.requires.0 c.args.kernel.now c.requires.1 c.requires.3
     c.in_ok-read.read c.make_category.new.kernel c.in_ok-read.ensures.0 c.in_ok-read.ensures.1
     c.in_ok-write.write c.make_category-2.new.kernel c.in_ok-write.ensures.0 c.in_ok-write.ensures.1
     c.in_ok-outer.outer c.make_outer.new.kernel c.in_ok-outer.ensures.0 c.in_ok-outer.ensures.1.0
-    way.2
+    c.requires.2
 
 pub returns-in_err-internal-clause-err : goal.returns-in_err-internal-clause-err
 returns-in_err-internal-clause-err g c =
@@ -70,13 +66,12 @@ returns-in_err-internal-clause-err g c =
 
 pub make_first_thread-requires : goal.make_first_thread-requires
 make_first_thread-requires g c =
-    let way = c.requires in
-    birth_allowed way.0 c.args.kernel.now way.1 way.3
+    birth_allowed c.requires.0 c.args.kernel.now c.requires.1 c.requires.3
     c.in_ok-read.read c.make_category.new.kernel c.in_ok-read.ensures.0 c.in_ok-read.ensures.1
     c.in_ok-write.write c.make_category-2.new.kernel c.in_ok-write.ensures.0 c.in_ok-write.ensures.1
     c.in_ok-outer.outer c.make_outer.new.kernel c.in_ok-outer.ensures.0 c.in_ok-outer.ensures.1.0
     c.in_ok-internal.internal c.make_internal.new.kernel c.in_ok-internal.ensures.0 c.in_ok-internal.ensures.1.0
-    way.2
+    c.requires.2
 
 pub returns-in_err-thread-clause-err : goal.returns-in_err-thread-clause-err
 returns-in_err-thread-clause-err g c =
@@ -91,14 +86,13 @@ returns-in_err-thread-clause-err g c =
 
 pub make_status-requires : goal.make_status-requires
 make_status-requires g c =
-    let way = c.requires in
-    status_allowed way.0 c.args.kernel.now way.1 way.3
+    status_allowed c.requires.0 c.args.kernel.now c.requires.1 c.requires.3
     c.in_ok-read.read c.make_category.new.kernel c.in_ok-read.ensures.0 c.in_ok-read.ensures.1
     c.in_ok-write.write c.make_category-2.new.kernel c.in_ok-write.ensures.0 c.in_ok-write.ensures.1
     c.in_ok-outer.outer c.make_outer.new.kernel c.in_ok-outer.ensures.0 c.in_ok-outer.ensures.1.0
     c.in_ok-internal.internal c.make_internal.new.kernel c.in_ok-internal.ensures.0 c.in_ok-internal.ensures.1.0
     c.in_ok-thread.thread c.make_first_thread.new.kernel c.in_ok-thread.ensures.0 c.in_ok-thread.ensures.1.0
-    way.2
+    c.requires.2
 
 pub returns-in_err-segment-clause-err : goal.returns-in_err-segment-clause-err
 returns-in_err-segment-clause-err g c =

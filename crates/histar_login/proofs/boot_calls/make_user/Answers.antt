@@ -17,9 +17,9 @@ returns-in_err-owners-clause-err g c =
 
 pub make_password-requires : goal.make_password-requires
 make_password-requires g c =
-    let way = c.requires.begins in
     rw c.as_bytes.ensures.value
-    (password_allowed c.args.accounts.now c.args.number c.args.user.now way.0 c.args.kernel.now way.1 way.3 way.2
+    (password_allowed c.args.accounts.now c.args.number c.args.user.now c.requires.begins.0 c.args.kernel.now c.requires.begins.1 c.requires.begins.3
+    c.requires.begins.2
     c.ranges.number.fits c.requires.number
     (omega (arith, short_password c.args.user.now.password c.as_bytes.ensures.right)))
 
@@ -32,15 +32,15 @@ returns-in_err-make_password-clause-err g c =
 
 pub make_login_gate-requires : goal.make_login_gate-requires
 make_login_gate-requires g c =
-    let way = c.requires.begins in
     gate_allowed_for c.make_password.new.kernel c.args.number c.as_slice.result.now c.in_ok-owners.owners.items
     (owners_of c.args.accounts.now c.args.number c.args.user.now.name)
     c.as_slice.ensures.value (c.in_ok-owners.ensures
     ∙ (λ i. owners_among (length (c.users-users.ensures.users i)) (c.groups-groups.ensures.groups i)
     c.args.number c.args.user.now.name))
-    (login_allowed c.args.accounts.now c.args.number c.args.user.now way.0 c.args.kernel.now way.1 way.3 c.make_password.new.kernel
+    (login_allowed c.args.accounts.now c.args.number c.args.user.now c.requires.begins.0 c.args.kernel.now c.requires.begins.1 c.requires.begins.3
+    c.make_password.new.kernel
     (password_made c.args.kernel.now c.make_password.new.kernel c.args.number _ _ c.as_bytes.ensures.value c.in_ok-make_password.ensures.0)
-    way.2 c.ranges.number.fits c.requires.number)
+    c.requires.begins.2 c.ranges.number.fits c.requires.number)
 
 pub returns-in_err-make_login_gate-clause-err : goal.returns-in_err-make_login_gate-clause-err
 returns-in_err-make_login_gate-clause-err g c =

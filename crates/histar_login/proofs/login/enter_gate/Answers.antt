@@ -11,33 +11,26 @@ use Rattle.histar_login.proofs.login.enter_gate.Goals as goal
 
 pub returns-in_err-wanted : goal.returns-in_err-wanted
 returns-in_err-wanted g c =
-    let t = c.args.thread in
-    let old = c.args.kernel.now in
     let call = entering c.args.given.now.owners.now c.args.number c.args.own.now.0 c.args.own.now.1 in
-    fails_so t (ask call) old old Stopped _ c.from_residual.ensures.1 (before_ask t call old)
+    fails_so c.args.thread (ask call) c.args.kernel.now c.args.kernel.now Stopped _ c.from_residual.ensures.1
+    (before_ask c.args.thread call c.args.kernel.now)
 
 pub returns-in_err-entry : goal.returns-in_err-entry
 returns-in_err-entry g c =
-    let t = c.args.thread in
-    let old = c.args.kernel.now in
-    let new = c.enter.new.self in
-    let own = c.args.own.now in
-    let call = entering c.args.given.now.owners.now c.args.number own.0 own.1 in
+    let call = entering c.args.given.now.owners.now c.args.number c.args.own.now.0 c.args.own.now.1 in
     let labels : Levels × Levels = (c.in_ok-wanted.wanted, c.in_ok-wanted.clearance) in
-    let raw = Enter c.new.result c.new-gate.result labels.0 labels.1 own.0 in
-    fails_so t (ask call) old new _ _ c.from_residual-in_err-entry.ensures.1
-    (enters t old new _ c.args.given.now.owners.now c.args.number own c.new.result c.new-gate.result labels c.new.ensures
+    let raw = Enter c.new.result c.new-gate.result labels.0 labels.1 c.args.own.now.0 in
+    fails_so c.args.thread (ask call) c.args.kernel.now c.enter.new.self _ _ c.from_residual-in_err-entry.ensures.1
+    (enters c.args.thread c.args.kernel.now c.enter.new.self _ c.args.given.now.owners.now c.args.number c.args.own.now c.new.result c.new-gate.result
+    labels c.new.ensures
     (c.new-gate.ensures ∙ ap (λ (n : ℕ). 2 + 2 * n) c.from.ensures) c.in_ok-wanted.ensures
-    (refuses t raw old new _ c.in_err-entry.field-0.0 c.in_err-entry.ensures))
+    (refuses c.args.thread raw c.args.kernel.now c.enter.new.self _ c.in_err-entry.field-0.0 c.in_err-entry.ensures))
 
 pub returns : goal.returns
 returns g c =
-    let t = c.args.thread in
-    let old = c.args.kernel.now in
-    let new = c.enter.new.self in
-    let own = c.args.own.now in
     let labels : Levels × Levels = (c.in_ok-wanted.wanted, c.in_ok-wanted.clearance) in
-    let raw = Enter c.new.result c.new-gate.result labels.0 labels.1 own.0 in
-    enters t old new _ c.args.given.now.owners.now c.args.number own c.new.result c.new-gate.result labels c.new.ensures
+    let raw = Enter c.new.result c.new-gate.result labels.0 labels.1 c.args.own.now.0 in
+    enters c.args.thread c.args.kernel.now c.enter.new.self _ c.args.given.now.owners.now c.args.number c.args.own.now c.new.result c.new-gate.result
+    labels c.new.ensures
     (c.new-gate.ensures ∙ ap (λ (n : ℕ). 2 + 2 * n) c.from.ensures) c.in_ok-wanted.ensures
-    (grants t raw old new c.in_ok-entry.entry c.in_ok-entry.ensures.0 c.in_ok-entry.ensures.1)
+    (grants c.args.thread raw c.args.kernel.now c.enter.new.self c.in_ok-entry.entry c.in_ok-entry.ensures.0 c.in_ok-entry.ensures.1)

@@ -9,54 +9,39 @@ use Rattle.histar_login.proofs.login.take_due.Goals as goal
 
 pub returns-in_err-label : goal.returns-in_err-label
 returns-in_err-label g c =
-    let t = c.args.caller.now.thread in
-    let caller = c.args.caller.now in
-    let owners = c.args.given.owners.now in
-    let old = c.args.kernel.now in
-    fails_so t (take_due c.args.right caller owners c.args.own) old old Stopped _ c.from_residual.ensures.1
-    (takes_none t c.args.right caller owners c.args.own old old Stopped
-    (before_ask t (SetLabel (label_if c.args.right caller owners c.args.own.0)) old))
+    fails_so c.args.caller.now.thread (take_due c.args.right c.args.caller.now c.args.given.owners.now c.args.own) c.args.kernel.now c.args.kernel.now
+    Stopped _ c.from_residual.ensures.1
+    (takes_none c.args.caller.now.thread c.args.right c.args.caller.now c.args.given.owners.now c.args.own c.args.kernel.now c.args.kernel.now Stopped
+    (before_ask c.args.caller.now.thread (SetLabel (label_if c.args.right c.args.caller.now c.args.given.owners.now c.args.own.0)) c.args.kernel.now))
 
 pub returns-in_err-set_label : goal.returns-in_err-set_label
 returns-in_err-set_label g c =
-    let t = c.args.caller.now.thread in
-    let caller = c.args.caller.now in
-    let owners = c.args.given.owners.now in
-    let old = c.args.kernel.now in
-    let mid = c.set_label.new.self in
-    let label = c.in_ok-label.label in
-    fails_so t (take_due c.args.right caller owners c.args.own) old mid _ _ c.from_residual-in_err-set_label.ensures.1
-    (takes_none t c.args.right caller owners c.args.own old mid _
-    (takes_label t old mid _ label _ c.in_ok-label.ensures.0
-    (refuses t (SetLabel label) old mid _ c.in_err-set_label.field-0.0 c.in_err-set_label.ensures)))
+    fails_so c.args.caller.now.thread (take_due c.args.right c.args.caller.now c.args.given.owners.now c.args.own) c.args.kernel.now
+    c.set_label.new.self _ _ c.from_residual-in_err-set_label.ensures.1
+    (takes_none c.args.caller.now.thread c.args.right c.args.caller.now c.args.given.owners.now c.args.own c.args.kernel.now c.set_label.new.self _
+    (takes_label c.args.caller.now.thread c.args.kernel.now c.set_label.new.self _ c.in_ok-label.label _ c.in_ok-label.ensures.0
+    (refuses c.args.caller.now.thread (SetLabel c.in_ok-label.label) c.args.kernel.now c.set_label.new.self _ c.in_err-set_label.field-0.0
+    c.in_err-set_label.ensures)))
 
 pub returns-in_err-set_clearance : goal.returns-in_err-set_clearance
 returns-in_err-set_clearance g c =
-    let t = c.args.caller.now.thread in
-    let caller = c.args.caller.now in
-    let owners = c.args.given.owners.now in
-    let old = c.args.kernel.now in
-    let mid = c.set_label.new.self in
-    let new = c.set_clearance.new.self in
-    let label = c.in_ok-label.label in
-    let clearance = c.in_ok-label.clearance in
-    fails_so t (take_due c.args.right caller owners c.args.own) old new _ _ c.from_residual-in_err-set_clearance.ensures.1
-    (takes_due t c.args.right caller owners c.args.own old new mid
-    (takes_label t old mid _ label _ c.in_ok-label.ensures.0 (grants t (SetLabel label) old mid tt c.in_ok-set_label.ensures.0 tt)) (Err _)
-    (takes_clearance t mid new _ clearance _ c.in_ok-label.ensures.1
-    (refuses t (SetClearance clearance) mid new _ c.in_err-set_clearance.field-0.0 c.in_err-set_clearance.ensures)))
+    fails_so c.args.caller.now.thread (take_due c.args.right c.args.caller.now c.args.given.owners.now c.args.own) c.args.kernel.now
+    c.set_clearance.new.self _ _ c.from_residual-in_err-set_clearance.ensures.1
+    (takes_due c.args.caller.now.thread c.args.right c.args.caller.now c.args.given.owners.now c.args.own c.args.kernel.now c.set_clearance.new.self
+    c.set_label.new.self
+    (takes_label c.args.caller.now.thread c.args.kernel.now c.set_label.new.self _ c.in_ok-label.label _ c.in_ok-label.ensures.0
+    (grants c.args.caller.now.thread (SetLabel c.in_ok-label.label) c.args.kernel.now c.set_label.new.self tt c.in_ok-set_label.ensures.0 tt))
+    (Err _)
+    (takes_clearance c.args.caller.now.thread c.set_label.new.self c.set_clearance.new.self _ c.in_ok-label.clearance _ c.in_ok-label.ensures.1
+    (refuses c.args.caller.now.thread (SetClearance c.in_ok-label.clearance) c.set_label.new.self c.set_clearance.new.self _
+    c.in_err-set_clearance.field-0.0 c.in_err-set_clearance.ensures)))
 
 pub returns : goal.returns
 returns g c =
-    let t = c.args.caller.now.thread in
-    let caller = c.args.caller.now in
-    let owners = c.args.given.owners.now in
-    let old = c.args.kernel.now in
-    let mid = c.set_label.new.self in
-    let new = c.set_clearance.new.self in
-    let label = c.in_ok-label.label in
-    let clearance = c.in_ok-label.clearance in
-    takes_due t c.args.right caller owners c.args.own old new mid
-    (takes_label t old mid _ label _ c.in_ok-label.ensures.0 (grants t (SetLabel label) old mid tt c.in_ok-set_label.ensures.0 tt)) _
-    (takes_clearance t mid new _ clearance _ c.in_ok-label.ensures.1
-    (grants t (SetClearance clearance) mid new tt c.in_ok-set_clearance.ensures.0 tt))
+    takes_due c.args.caller.now.thread c.args.right c.args.caller.now c.args.given.owners.now c.args.own c.args.kernel.now c.set_clearance.new.self
+    c.set_label.new.self
+    (takes_label c.args.caller.now.thread c.args.kernel.now c.set_label.new.self _ c.in_ok-label.label _ c.in_ok-label.ensures.0
+    (grants c.args.caller.now.thread (SetLabel c.in_ok-label.label) c.args.kernel.now c.set_label.new.self tt c.in_ok-set_label.ensures.0 tt)) _
+    (takes_clearance c.args.caller.now.thread c.set_label.new.self c.set_clearance.new.self _ c.in_ok-label.clearance _ c.in_ok-label.ensures.1
+    (grants c.args.caller.now.thread (SetClearance c.in_ok-label.clearance) c.set_label.new.self c.set_clearance.new.self tt
+    c.in_ok-set_clearance.ensures.0 tt))

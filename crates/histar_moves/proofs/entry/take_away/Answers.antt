@@ -8,24 +8,21 @@ use Rattle.histar_moves.proofs.entry.take_away.Goals as goal
 
 pub returns-in_err-unlink : goal.returns-in_err-unlink
 returns-in_err-unlink g c =
-    let t = c.args.thread in
-    let entry = c.args.entry in
-    let old = c.args.kernel.now in
     let end = c.unlink.new.self in
-    fails_so t (take_away entry) old end _ _ c.from_residual.ensures.1
-    (unlink_fails t old end entry _ (unlinks t old end entry c.object.result c.object.ensures _ (refuses t
-    (Unlink entry.place.container c.object.result) old end _ c.in_err-unlink.field-0.0
+    fails_so c.args.thread (take_away c.args.entry) c.args.kernel.now end _ _ c.from_residual.ensures.1
+    (unlink_fails c.args.thread c.args.kernel.now end c.args.entry _ (unlinks c.args.thread c.args.kernel.now end c.args.entry c.object.result
+    c.object.ensures _ (refuses c.args.thread
+    (Unlink c.args.entry.place.container c.object.result) c.args.kernel.now end _ c.in_err-unlink.field-0.0
     c.in_err-unlink.ensures)))
 
 pub returns : goal.returns
 returns g c =
-    let t = c.args.thread in
-    let entry = c.args.entry in
-    let old = c.args.kernel.now in
     let mid = c.unlink.new.self in
     let end = c.write_entries.new.kernel in
-    takes_away t old end entry mid (unlinks t old mid entry c.object.result c.object.ensures _ (grants t
-    (Unlink entry.place.container c.object.result) old mid tt c.in_ok-unlink.ensures.0
+    takes_away c.args.thread c.args.kernel.now end c.args.entry mid (unlinks c.args.thread c.args.kernel.now mid c.args.entry c.object.result
+    c.object.ensures _ (grants c.args.thread
+    (Unlink c.args.entry.place.container c.object.result) c.args.kernel.now mid tt c.in_ok-unlink.ensures.0
     c.in_ok-unlink.ensures.1)) c.write_entries.result
-    (writes_due t mid end entry.place c.remove.new.self (map.remove entry.entries entry.name) c.remove.ensures.without
+    (writes_due c.args.thread mid end c.args.entry.place c.remove.new.self (map.remove c.args.entry.entries c.args.entry.name)
+    c.remove.ensures.without
     c.write_entries.result c.write_entries.ensures)

@@ -11,19 +11,23 @@ use Rattle.histar_page.proofs.session.own_lines.Goals as goal
 
 pub split_at-requires-2 : goal.split_at-requires-2
 split_at-requires-2 c =
-    let later = c.split_at.result.1.now in
-    let now : Bor (List ℕ) → List ℕ = λ line. line.now in
-    omega (arith, c.own_count.ensures, prefix_len-le-length (is_own c.args.word.now) (texts later), length-map later now)
-
-pub returns-clause-fits : goal.returns-clause-fits
-returns-clause-fits c =
-    let later = c.split_at.result.1.now in
     let now : Bor (List ℕ) → List ℕ = λ line. line.now in
     omega (
       arith,
       c.own_count.ensures,
-      prefix_len-le-length (is_own c.args.word.now) (texts later),
-      length-map later now,
+      prefix_len-le-length (is_own c.args.word.now) (texts c.split_at.result.1.now),
+      length-map
+          c.split_at.result.1.now now,
+    )
+
+pub returns-clause-fits : goal.returns-clause-fits
+returns-clause-fits c =
+    let now : Bor (List ℕ) → List ℕ = λ line. line.now in
+    omega (
+      arith,
+      c.own_count.ensures,
+      prefix_len-le-length (is_own c.args.word.now) (texts c.split_at.result.1.now),
+      length-map c.split_at.result.1.now now,
       c.split_at.ensures.back_len,
       c.split_at-2.ensures.front_len,
     )
@@ -39,13 +43,12 @@ returns-clause-taken c =
 
 pub returns-clause-own : goal.returns-clause-own
 returns-clause-own c =
-    let later = c.split_at.result.1.now in
     let own = is_own c.args.word.now in
     let now : Bor (List ℕ) → List ℕ = λ line. line.now in
     ap (λ l. list_all own (texts l)) c.split_at-2.ensures.front
-    ∙ ap (list_all own) (sym (take-map now c.own_count.result later))
-    ∙ ap (λ k. list_all own (take k (texts later))) c.own_count.ensures
-    ∙ own_pass own (texts later)
+    ∙ ap (list_all own) (sym (take-map now c.own_count.result c.split_at.result.1.now))
+    ∙ ap (λ k. list_all own (take k (texts c.split_at.result.1.now))) c.own_count.ensures
+    ∙ own_pass own (texts c.split_at.result.1.now)
 
 pub returns-clause-rest : goal.returns-clause-rest
 returns-clause-rest c =

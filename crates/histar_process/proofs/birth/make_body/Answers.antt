@@ -9,18 +9,16 @@ use Rattle.histar_process.proofs.birth.make_body.Goals as goal
 
 pub returns-in_err-container : goal.returns-in_err-container
 returns-in_err-container g c =
-    let newborn = c.args.newborn.now in
-    let kin = kin_of_newborn newborn in
-    let own : ℕ × ℕ = (newborn.read, newborn.write) in
+    let kin = kin_of_newborn c.args.newborn.now in
+    let own : ℕ × ℕ = (c.args.newborn.now.read, c.args.newborn.now.write) in
     ends_in_so (make_containers c.args.parent kin.jobs own.0 own.1) (after_containers kin own)
     (whole_part c.args.thread (make_body c.args.parent kin own) c.args.kernel.now) c.make_containers.new.kernel
     c.in_err-container.field-0.0 _ c.from_residual.ensures.1 c.in_err-container.ensures
 
 pub returns-in_err-child : goal.returns-in_err-child
 returns-in_err-child g c =
-    let newborn = c.args.newborn.now in
-    let kin = kin_of_newborn newborn in
-    let own : ℕ × ℕ = (newborn.read, newborn.write) in
+    let kin = kin_of_newborn c.args.newborn.now in
+    let own : ℕ × ℕ = (c.args.newborn.now.read, c.args.newborn.now.write) in
     let made : ℕ × ℕ = (c.in_ok-container.container, c.in_ok-container.internal) in
     let making = further_in (make_containers c.args.parent kin.jobs own.0 own.1) (after_containers kin own)
     (whole_part c.args.thread (make_body c.args.parent kin own) c.args.kernel.now) c.make_containers.new.kernel made c.in_ok-container.ensures in
@@ -30,9 +28,8 @@ returns-in_err-child g c =
 
 pub returns : goal.returns
 returns g c =
-    let newborn = c.args.newborn.now in
-    let kin = kin_of_newborn newborn in
-    let own : ℕ × ℕ = (newborn.read, newborn.write) in
+    let kin = kin_of_newborn c.args.newborn.now in
+    let own : ℕ × ℕ = (c.args.newborn.now.read, c.args.newborn.now.write) in
     let made : ℕ × ℕ = (c.in_ok-container.container, c.in_ok-container.internal) in
     let making = further_in (make_containers c.args.parent kin.jobs own.0 own.1) (after_containers kin own)
     (whole_part c.args.thread (make_body c.args.parent kin own) c.args.kernel.now) c.make_containers.new.kernel made c.in_ok-container.ensures in

@@ -7,29 +7,22 @@ use Rattle.histar_process.proofs.birth.make_categories.Goals as goal
 
 pub returns-in_err-read : goal.returns-in_err-read
 returns-in_err-read g c =
-    let t = c.args.thread in
-    let old = c.args.kernel.now in
     let end = c.make_category.new.self in
-    fails_so t make_categories old end _ _ c.from_residual.ensures.1
-    (no_read t old end _ (refuses t MakeCategory old end _ c.in_err-read.field-0.0 c.in_err-read.ensures))
+    fails_so c.args.thread make_categories c.args.kernel.now end _ _ c.from_residual.ensures.1
+    (no_read c.args.thread c.args.kernel.now end _ (refuses c.args.thread MakeCategory c.args.kernel.now end _ c.in_err-read.field-0.0
+    c.in_err-read.ensures))
 
 pub returns-in_err-write : goal.returns-in_err-write
 returns-in_err-write g c =
-    let t = c.args.thread in
-    let old = c.args.kernel.now in
-    let mid = c.make_category.new.self in
-    let end = c.make_category-2.new.self in
-    fails_so t make_categories old end _ _ c.from_residual-in_err-write.ensures.1
-    (no_write t old end mid c.in_ok-read.read (grants t MakeCategory old mid c.in_ok-read.read c.in_ok-read.ensures.0 c.in_ok-read.ensures.1) _
-    (refuses t MakeCategory mid end _ c.in_err-write.field-0.0 c.in_err-write.ensures))
+    fails_so c.args.thread make_categories c.args.kernel.now c.make_category-2.new.self _ _ c.from_residual-in_err-write.ensures.1
+    (no_write c.args.thread c.args.kernel.now c.make_category-2.new.self c.make_category.new.self c.in_ok-read.read
+    (grants c.args.thread MakeCategory c.args.kernel.now c.make_category.new.self c.in_ok-read.read c.in_ok-read.ensures.0 c.in_ok-read.ensures.1) _
+    (refuses c.args.thread MakeCategory c.make_category.new.self c.make_category-2.new.self _ c.in_err-write.field-0.0 c.in_err-write.ensures))
 
 pub returns : goal.returns
 returns g c =
-    let t = c.args.thread in
-    let old = c.args.kernel.now in
-    let mid = c.make_category.new.self in
-    let end = c.make_category-2.new.self in
-    categories t old end mid c.in_ok-read.read
-    (grants t MakeCategory old mid c.in_ok-read.read c.in_ok-read.ensures.0 c.in_ok-read.ensures.1)
+    categories c.args.thread c.args.kernel.now c.make_category-2.new.self c.make_category.new.self c.in_ok-read.read
+    (grants c.args.thread MakeCategory c.args.kernel.now c.make_category.new.self c.in_ok-read.read c.in_ok-read.ensures.0 c.in_ok-read.ensures.1)
     c.in_ok-write.write
-    (grants t MakeCategory mid end c.in_ok-write.write c.in_ok-write.ensures.0 c.in_ok-write.ensures.1)
+    (grants c.args.thread MakeCategory c.make_category.new.self c.make_category-2.new.self c.in_ok-write.write c.in_ok-write.ensures.0
+    c.in_ok-write.ensures.1)

@@ -10,28 +10,22 @@ use Rattle.histar_process.proofs.birth.make_guarded.Goals as goal
 
 pub returns-in_err-label : goal.returns-in_err-label
 returns-in_err-label g c =
-    let t = c.args.thread in
-    let old = c.args.kernel.now in
     let call = MakeContainer c.args.container (guarded_by (c.args.guard.now.own.now ++ c.args.guard.now.jobs.now) (c.args.guard.now.write ∷ [])) in
-    fails_so t (ask call) old old Stopped _ c.from_residual.ensures.1 (before_ask t call old)
+    fails_so c.args.thread (ask call) c.args.kernel.now c.args.kernel.now Stopped _ c.from_residual.ensures.1
+    (before_ask c.args.thread call c.args.kernel.now)
 
 pub returns-in_err-made : goal.returns-in_err-made
 returns-in_err-made g c =
-    let t = c.args.thread in
-    let old = c.args.kernel.now in
-    let end = c.make_container.new.self in
     let due = guarded_by (c.args.guard.now.own.now ++ c.args.guard.now.jobs.now) (c.args.guard.now.write ∷ []) in
-    fails_so t (ask (MakeContainer c.args.container due)) old end _ _ c.from_residual-in_err-made.ensures.1
-    (container_so t old end c.args.container _ due c.in_ok-label.ensures _
-    (refuses t (MakeContainer c.args.container c.in_ok-label.label) old end _ c.in_err-made.field-0.0
+    fails_so c.args.thread (ask (MakeContainer c.args.container due)) c.args.kernel.now c.make_container.new.self _ _
+    c.from_residual-in_err-made.ensures.1
+    (container_so c.args.thread c.args.kernel.now c.make_container.new.self c.args.container _ due c.in_ok-label.ensures _
+    (refuses c.args.thread (MakeContainer c.args.container c.in_ok-label.label) c.args.kernel.now c.make_container.new.self _ c.in_err-made.field-0.0
     c.in_err-made.ensures))
 
 pub returns : goal.returns
 returns g c =
-    let t = c.args.thread in
-    let old = c.args.kernel.now in
-    let end = c.make_container.new.self in
     let due = guarded_by (c.args.guard.now.own.now ++ c.args.guard.now.jobs.now) (c.args.guard.now.write ∷ []) in
-    container_so t old end c.args.container _ due c.in_ok-label.ensures _
-    (grants t (MakeContainer c.args.container c.in_ok-label.label) old end c.in_ok-made.made
+    container_so c.args.thread c.args.kernel.now c.make_container.new.self c.args.container _ due c.in_ok-label.ensures _
+    (grants c.args.thread (MakeContainer c.args.container c.in_ok-label.label) c.args.kernel.now c.make_container.new.self c.in_ok-made.made
     c.in_ok-made.ensures.0 c.in_ok-made.ensures.1.0)

@@ -11,58 +11,49 @@ use Rattle.histar_process.proofs.birth.make_objects.Goals as goal
 
 pub returns-in_err-body : goal.returns-in_err-body
 returns-in_err-body g c status revealed =
-    let parent = c.args.parent.now.home.now in
-    let newborn = c.args.newborn.now in
-    let kin = kin_of_newborn newborn in
-    let own : ℕ × ℕ = (newborn.read, newborn.write) in
-    ends_in_so (make_body parent.container kin own) (after_body kin own parent status)
-    (whole_part c.args.thread (make_objects parent status kin own) c.args.kernel.now) c.make_body.new.kernel
+    let kin = kin_of_newborn c.args.newborn.now in
+    let own : ℕ × ℕ = (c.args.newborn.now.read, c.args.newborn.now.write) in
+    ends_in_so (make_body c.args.parent.now.home.now.container kin own) (after_body kin own c.args.parent.now.home.now status)
+    (whole_part c.args.thread (make_objects c.args.parent.now.home.now status kin own) c.args.kernel.now) c.make_body.new.kernel
     c.in_err-body.field-0.0 _ c.from_residual.ensures.1 c.in_err-body.ensures
 
 pub returns-in_err-segment : goal.returns-in_err-segment
 returns-in_err-segment g c status revealed =
-    let parent = c.args.parent.now.home.now in
-    let newborn = c.args.newborn.now in
-    let kin = kin_of_newborn newborn in
-    let own : ℕ × ℕ = (newborn.read, newborn.write) in
-    let body = c.in_ok-body.body in
-    let making = further_in (make_body parent.container kin own) (after_body kin own parent status)
-    (whole_part c.args.thread (make_objects parent status kin own) c.args.kernel.now) c.make_body.new.kernel body c.in_ok-body.ensures in
-    ends_in_so (make_segment body.container kin.jobs own.1 body.internal body.thread) (after_segment kin own parent status body) making
+    let kin = kin_of_newborn c.args.newborn.now in
+    let own : ℕ × ℕ = (c.args.newborn.now.read, c.args.newborn.now.write) in
+    let making = further_in (make_body c.args.parent.now.home.now.container kin own) (after_body kin own c.args.parent.now.home.now status)
+    (whole_part c.args.thread (make_objects c.args.parent.now.home.now status kin own) c.args.kernel.now) c.make_body.new.kernel c.in_ok-body.body
+    c.in_ok-body.ensures in
+    ends_in_so (make_segment c.in_ok-body.body.container kin.jobs own.1 c.in_ok-body.body.internal c.in_ok-body.body.thread)
+    (after_segment kin own c.args.parent.now.home.now status c.in_ok-body.body) making
     c.make_segment.new.kernel c.in_err-segment.field-0.0 _ c.from_residual-in_err-segment.ensures.1 c.in_err-segment.ensures
 
 pub returns-in_err-grown : goal.returns-in_err-grown
 returns-in_err-grown g c status revealed =
-    let t = c.args.thread in
-    let parent = c.args.parent.now.home.now in
-    let newborn = c.args.newborn.now in
-    let kin = kin_of_newborn newborn in
-    let own : ℕ × ℕ = (newborn.read, newborn.write) in
-    let whole = make_objects parent status kin own in
-    let body = c.in_ok-body.body in
-    let making = further_in (make_body parent.container kin own) (after_body kin own parent status)
-    (whole_part t whole c.args.kernel.now) c.make_body.new.kernel body c.in_ok-body.ensures in
-    let k2 = c.make_segment.new.kernel in
+    let kin = kin_of_newborn c.args.newborn.now in
+    let own : ℕ × ℕ = (c.args.newborn.now.read, c.args.newborn.now.write) in
+    let whole = make_objects c.args.parent.now.home.now status kin own in
+    let making = further_in (make_body c.args.parent.now.home.now.container kin own) (after_body kin own c.args.parent.now.home.now status)
+    (whole_part c.args.thread whole c.args.kernel.now) c.make_body.new.kernel c.in_ok-body.body c.in_ok-body.ensures in
     let segment = c.in_ok-segment.segment in
-    let listing = further_in (make_segment body.container kin.jobs own.1 body.internal body.thread)
-    (after_segment kin own parent status body) making k2 segment c.in_ok-segment.ensures in
-    let due = status_bytes (with_child_listed body.container segment status) in
-    fails_so t whole c.args.kernel.now k2 Stopped _ c.from_residual-in_err-grown.ensures.1
-    (listing.leads k2 (Err Stopped) (before_ask t (Write parent.container parent.segment 0 due) k2))
+    let listing = further_in (make_segment c.in_ok-body.body.container kin.jobs own.1 c.in_ok-body.body.internal c.in_ok-body.body.thread)
+    (after_segment kin own c.args.parent.now.home.now status c.in_ok-body.body) making c.make_segment.new.kernel segment c.in_ok-segment.ensures in
+    let due = status_bytes (with_child_listed c.in_ok-body.body.container segment status) in
+    fails_so c.args.thread whole c.args.kernel.now c.make_segment.new.kernel Stopped _ c.from_residual-in_err-grown.ensures.1
+    (listing.leads c.make_segment.new.kernel (Err Stopped) (before_ask c.args.thread
+    (Write c.args.parent.now.home.now.container c.args.parent.now.home.now.segment 0 due) c.make_segment.new.kernel))
 
 pub returns : goal.returns
 returns g c status revealed =
-    let t = c.args.thread in
-    let parent = c.args.parent.now.home.now in
-    let newborn = c.args.newborn.now in
-    let kin = kin_of_newborn newborn in
-    let own : ℕ × ℕ = (newborn.read, newborn.write) in
-    let body = c.in_ok-body.body in
-    let making = further_in (make_body parent.container kin own) (after_body kin own parent status)
-    (whole_part t (make_objects parent status kin own) c.args.kernel.now) c.make_body.new.kernel body c.in_ok-body.ensures in
-    let k2 = c.make_segment.new.kernel in
-    let listing = further_in (make_segment body.container kin.jobs own.1 body.internal body.thread)
-    (after_segment kin own parent status body) making k2 c.in_ok-segment.segment c.in_ok-segment.ensures in
+    let kin = kin_of_newborn c.args.newborn.now in
+    let own : ℕ × ℕ = (c.args.newborn.now.read, c.args.newborn.now.write) in
+    let making = further_in (make_body c.args.parent.now.home.now.container kin own) (after_body kin own c.args.parent.now.home.now status)
+    (whole_part c.args.thread (make_objects c.args.parent.now.home.now status kin own) c.args.kernel.now) c.make_body.new.kernel c.in_ok-body.body
+    c.in_ok-body.ensures in
+    let listing = further_in (make_segment c.in_ok-body.body.container kin.jobs own.1 c.in_ok-body.body.internal c.in_ok-body.body.thread)
+    (after_segment kin own c.args.parent.now.home.now status c.in_ok-body.body) making c.make_segment.new.kernel c.in_ok-segment.segment
+    c.in_ok-segment.ensures in
     let end = c.write_segment.new.kernel in
     listing.leads end c.write_segment.result
-    (written_so t k2 end parent _ _ (c.in_ok-grown.ensures status revealed) c.write_segment.result c.write_segment.ensures)
+    (written_so c.args.thread c.make_segment.new.kernel end c.args.parent.now.home.now _ _ (c.in_ok-grown.ensures status revealed)
+    c.write_segment.result c.write_segment.ensures)

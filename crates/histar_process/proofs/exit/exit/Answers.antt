@@ -11,30 +11,29 @@ use Rattle.histar_process.proofs.exit.exit.Goals as goal
 
 pub returns-in_err-segment : goal.returns-in_err-segment
 returns-in_err-segment g c =
-    let caller = c.args.unix.now.caller.now in
-    let begin = begun caller.home c.args.number caller.thread c.args.kernel.now in
-    ends_so (read_status caller.home) (after_status caller.home c.args.number) begin c.read_segment.new.kernel
+    let begin = begun c.args.unix.now.caller.now.home c.args.number c.args.unix.now.caller.now.thread c.args.kernel.now in
+    ends_so (read_status c.args.unix.now.caller.now.home) (after_status c.args.unix.now.caller.now.home c.args.number) begin c.read_segment.new.kernel
     c.in_err-segment.field-0.0 _ c.from_residual.ensures.1 c.in_err-segment.ensures
 
 pub returns-in_err-end_process : goal.returns-in_err-end_process
 returns-in_err-end_process g c =
-    let caller = c.args.unix.now.caller.now in
-    let begin = begun caller.home c.args.number caller.thread c.args.kernel.now in
-    let status = c.in_ok-segment.ensures.0 in
-    let ending = further (read_status caller.home) (after_status caller.home c.args.number) begin c.read_segment.new.kernel
-    status c.in_ok-segment.ensures.2 in
-    ends_so (end_process caller.home status c.args.number) (λ (done : Unit {0}). Answers Done) ending c.end_process.new.kernel
+    let begin = begun c.args.unix.now.caller.now.home c.args.number c.args.unix.now.caller.now.thread c.args.kernel.now in
+    let ending = further (read_status c.args.unix.now.caller.now.home) (after_status c.args.unix.now.caller.now.home c.args.number) begin
+    c.read_segment.new.kernel
+    c.in_ok-segment.ensures.0 c.in_ok-segment.ensures.2 in
+    ends_so (end_process c.args.unix.now.caller.now.home c.in_ok-segment.ensures.0 c.args.number) (λ (done : Unit {0}). Answers Done) ending
+    c.end_process.new.kernel
     c.in_err-end_process.field-0.0 _ c.from_residual-in_err-end_process.ensures.1
-    (c.in_err-end_process.ensures status c.in_ok-segment.ensures.1)
+    (c.in_err-end_process.ensures c.in_ok-segment.ensures.0 c.in_ok-segment.ensures.1)
 
 pub returns : goal.returns
 returns g c =
-    let caller = c.args.unix.now.caller.now in
-    let begin = begun caller.home c.args.number caller.thread c.args.kernel.now in
-    let status = c.in_ok-segment.ensures.0 in
-    let ending = further (read_status caller.home) (after_status caller.home c.args.number) begin c.read_segment.new.kernel
-    status c.in_ok-segment.ensures.2 in
+    let begin = begun c.args.unix.now.caller.now.home c.args.number c.args.unix.now.caller.now.thread c.args.kernel.now in
+    let ending = further (read_status c.args.unix.now.caller.now.home) (after_status c.args.unix.now.caller.now.home c.args.number) begin
+    c.read_segment.new.kernel
+    c.in_ok-segment.ensures.0 c.in_ok-segment.ensures.2 in
     let end = c.end_process.new.kernel in
-    let ended = further (end_process caller.home status c.args.number) (λ (done : Unit {0}). Answers Done) ending end tt
-    (c.in_ok-end_process.ensures status c.in_ok-segment.ensures.1) in
-    ended.leads end (Ok Done) (says caller.thread end Done)
+    let ended = further (end_process c.args.unix.now.caller.now.home c.in_ok-segment.ensures.0 c.args.number) (λ (done : Unit {0}). Answers Done)
+    ending end tt
+    (c.in_ok-end_process.ensures c.in_ok-segment.ensures.0 c.in_ok-segment.ensures.1) in
+    ended.leads end (Ok Done) (says c.args.unix.now.caller.now.thread end Done)

@@ -15,59 +15,43 @@ returns-in_default g t c =
 
 pub returns-in_err-home : goal.returns-in_err-home
 returns-in_err-home g s c =
-    let t = c.args.thread in
-    let first = c.args.first in
-    let old = c.args.kernel.now in
-    let numbers = c.args.numbers.now in
     let end = c.find_home.new.kernel in
-    fails_so t (find_home first numbers) old end c.in_err-home.field-0.0 _ c.from_residual.ensures.1
-    (find_fails t first old end numbers (get_or c.args.numbers.now 0 0)
+    fails_so c.args.thread (find_home c.args.first c.args.numbers.now) c.args.kernel.now end c.in_err-home.field-0.0 _ c.from_residual.ensures.1
+    (find_fails c.args.thread c.args.first c.args.kernel.now end c.args.numbers.now (get_or c.args.numbers.now 0 0)
     (take (length c.args.numbers.now - 1) (drop 1 c.args.numbers.now))
     (first_of_numbers c.args.numbers.now 0 (omega arith)) c.in_err-home.field-0.0 c.in_err-home.ensures)
 
 pub returns-in_err-found : goal.returns-in_err-found
 returns-in_err-found g s c =
-    let t = c.args.thread in
-    let first = c.args.first in
-    let old = c.args.kernel.now in
-    let mid = c.find_home.new.kernel in
-    let numbers = c.args.numbers.now in
-    let end = c.look_up.new.kernel in
-    fails_so t (find_home first numbers) old end c.in_err-found.field-0.0 _ c.from_residual-in_err-found.ensures.1
-    (finds_on t first old end numbers (get_or c.args.numbers.now 0 0)
+    fails_so c.args.thread (find_home c.args.first c.args.numbers.now) c.args.kernel.now c.look_up.new.kernel c.in_err-found.field-0.0 _
+    c.from_residual-in_err-found.ensures.1
+    (finds_on c.args.thread c.args.first c.args.kernel.now c.look_up.new.kernel c.args.numbers.now (get_or c.args.numbers.now 0 0)
     (take (length c.args.numbers.now - 1) (drop 1 c.args.numbers.now))
-    (first_of_numbers c.args.numbers.now 0 (omega arith)) mid c.in_ok-home.home c.in_ok-home.ensures
+    (first_of_numbers c.args.numbers.now 0 (omega arith)) c.find_home.new.kernel c.in_ok-home.home c.in_ok-home.ensures
     (Err c.in_err-found.field-0.0)
-    (into_fails t mid end (get_or c.args.numbers.now 0 0) c.in_ok-home.home c.in_err-found.field-0.0 c.in_err-found.ensures))
+    (into_fails c.args.thread c.find_home.new.kernel c.look_up.new.kernel (get_or c.args.numbers.now 0 0) c.in_ok-home.home c.in_err-found.field-0.0
+    c.in_err-found.ensures))
 
 pub returns-in_err-child : goal.returns-in_err-child
 returns-in_err-child g s c =
-    let t = c.args.thread in
-    let first = c.args.first in
-    let old = c.args.kernel.now in
-    let mid = c.find_home.new.kernel in
-    let numbers = c.args.numbers.now in
-    let end = c.look_up.new.kernel in
-    fails_so t (find_home first numbers) old end (Refused c.in_err-child.field-0.0) _ c.from_residual-in_err-child.ensures.1
-    (finds_on t first old end numbers (get_or c.args.numbers.now 0 0)
+    fails_so c.args.thread (find_home c.args.first c.args.numbers.now) c.args.kernel.now c.look_up.new.kernel (Refused c.in_err-child.field-0.0) _
+    c.from_residual-in_err-child.ensures.1
+    (finds_on c.args.thread c.args.first c.args.kernel.now c.look_up.new.kernel c.args.numbers.now (get_or c.args.numbers.now 0 0)
     (take (length c.args.numbers.now - 1) (drop 1 c.args.numbers.now))
-    (first_of_numbers c.args.numbers.now 0 (omega arith)) mid c.in_ok-home.home c.in_ok-home.ensures
+    (first_of_numbers c.args.numbers.now 0 (omega arith)) c.find_home.new.kernel c.in_ok-home.home c.in_ok-home.ensures
     (Err (Refused c.in_err-child.field-0.0))
-    (into_none t mid end (get_or c.args.numbers.now 0 0) c.in_ok-home.home c.in_ok-found.found c.in_ok-found.ensures
+    (into_none c.args.thread c.find_home.new.kernel c.look_up.new.kernel (get_or c.args.numbers.now 0 0) c.in_ok-home.home c.in_ok-found.found
+    c.in_ok-found.ensures
     c.in_err-child.field-0.0 c.in_err-child.ensures))
 
 pub returns : goal.returns
 returns g s c =
-    let t = c.args.thread in
-    let first = c.args.first in
-    let old = c.args.kernel.now in
-    let mid = c.find_home.new.kernel in
-    let numbers = c.args.numbers.now in
-    let end = c.look_up.new.kernel in
-    finds_on t first old end numbers (get_or c.args.numbers.now 0 0)
+    finds_on c.args.thread c.args.first c.args.kernel.now c.look_up.new.kernel c.args.numbers.now (get_or c.args.numbers.now 0 0)
     (take (length c.args.numbers.now - 1) (drop 1 c.args.numbers.now))
-    (first_of_numbers c.args.numbers.now 0 (omega arith)) mid c.in_ok-home.home c.in_ok-home.ensures
+    (first_of_numbers c.args.numbers.now 0 (omega arith)) c.find_home.new.kernel c.in_ok-home.home c.in_ok-home.ensures
     (Ok c.home_of.result)
-    (subst (λ (h : Home). RunsPart (into (get_or c.args.numbers.now 0 0) c.in_ok-home.home) mid end t (Ok h)) (sym c.home_of.ensures)
-    (into_child t mid end (get_or c.args.numbers.now 0 0) c.in_ok-home.home c.in_ok-found.found c.in_ok-found.ensures
+    (subst (λ (h : Home). RunsPart (into (get_or c.args.numbers.now 0 0) c.in_ok-home.home) c.find_home.new.kernel c.look_up.new.kernel c.args.thread
+    (Ok h)) (sym c.home_of.ensures)
+    (into_child c.args.thread c.find_home.new.kernel c.look_up.new.kernel (get_or c.args.numbers.now 0 0) c.in_ok-home.home c.in_ok-found.found
+    c.in_ok-found.ensures
     c.in_ok-child.child c.in_ok-child.ensures))

@@ -10,34 +10,29 @@ use Rattle.histar_process.proofs.find.look_up.Goals as goal
 
 pub returns-in_err-bytes : goal.returns-in_err-bytes
 returns-in_err-bytes g c =
-    let t = c.args.thread in
-    let old = c.args.kernel.now in
-    let end = c.read.follows.lender-at-none in
-    let home = c.args.home.now in
-    let call = Read home.container home.segment in
-    let left = subst (λ (r : Result _ _). ReadsLent old t home.container home.segment r end) c.in_err-bytes.was c.read.follows.holds-at-none in
-    fails_so t (look_up home c.args.number) old end _ _ c.from_residual.ensures.1
-    (look_fails t old end home _ c.args.number (refuses t call old end _ c.in_err-bytes.field-0.0 left))
+    let call = Read c.args.home.now.container c.args.home.now.segment in
+    let left = subst (λ (r : Result _ _). ReadsLent c.args.kernel.now c.args.thread c.args.home.now.container c.args.home.now.segment r
+    c.read.follows.lender-at-none) c.in_err-bytes.was c.read.follows.holds-at-none in
+    fails_so c.args.thread (look_up c.args.home.now c.args.number) c.args.kernel.now c.read.follows.lender-at-none _ _ c.from_residual.ensures.1
+    (look_fails c.args.thread c.args.kernel.now c.read.follows.lender-at-none c.args.home.now _ c.args.number
+    (refuses c.args.thread call c.args.kernel.now c.read.follows.lender-at-none _ c.in_err-bytes.field-0.0 left))
 
 pub returns-in_err-child : goal.returns-in_err-child
 returns-in_err-child g c =
-    let t = c.args.thread in
-    let old = c.args.kernel.now in
-    let end = c.read.follows.lender-at-none in
-    let home = c.args.home.now in
-    let call = Read home.container home.segment in
-    let left = subst (λ (r : Result _ _). ReadsLent old t home.container home.segment r end) c.in_ok-bytes.was c.read.follows.holds-at-none in
-    fails_so t (look_up home c.args.number) old end Stopped _ c.from_residual-in_err-child.ensures.1
-    (look_none t old end home c.in_ok-bytes.bytes.now (grants t call old end c.in_ok-bytes.bytes.now left.0 left.1)
+    let call = Read c.args.home.now.container c.args.home.now.segment in
+    let left = subst (λ (r : Result _ _). ReadsLent c.args.kernel.now c.args.thread c.args.home.now.container c.args.home.now.segment r
+    c.read.follows.lender-at-none) c.in_ok-bytes.was c.read.follows.holds-at-none in
+    fails_so c.args.thread (look_up c.args.home.now c.args.number) c.args.kernel.now c.read.follows.lender-at-none Stopped _
+    c.from_residual-in_err-child.ensures.1
+    (look_none c.args.thread c.args.kernel.now c.read.follows.lender-at-none c.args.home.now c.in_ok-bytes.bytes.now
+    (grants c.args.thread call c.args.kernel.now c.read.follows.lender-at-none c.in_ok-bytes.bytes.now left.0 left.1)
     c.args.number c.in_err-child.field-0.0 c.in_err-child.ensures)
 
 pub returns : goal.returns
 returns g c =
-    let t = c.args.thread in
-    let old = c.args.kernel.now in
-    let end = c.read.follows.lender-at-none in
-    let home = c.args.home.now in
-    let call = Read home.container home.segment in
-    let left = subst (λ (r : Result _ _). ReadsLent old t home.container home.segment r end) c.in_ok-bytes.was c.read.follows.holds-at-none in
-    looks t old end home c.in_ok-bytes.bytes.now (grants t call old end c.in_ok-bytes.bytes.now left.0 left.1)
+    let call = Read c.args.home.now.container c.args.home.now.segment in
+    let left = subst (λ (r : Result _ _). ReadsLent c.args.kernel.now c.args.thread c.args.home.now.container c.args.home.now.segment r
+    c.read.follows.lender-at-none) c.in_ok-bytes.was c.read.follows.holds-at-none in
+    looks c.args.thread c.args.kernel.now c.read.follows.lender-at-none c.args.home.now c.in_ok-bytes.bytes.now
+    (grants c.args.thread call c.args.kernel.now c.read.follows.lender-at-none c.in_ok-bytes.bytes.now left.0 left.1)
     c.args.number c.in_ok-child.child c.in_ok-child.ensures

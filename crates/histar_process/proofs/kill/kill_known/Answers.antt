@@ -20,86 +20,67 @@ returns-in_err-found g c status is = absurd (no_fault c.args.parent.now.bytes.no
 
 pub returns-in_err-child : goal.returns-in_err-child
 returns-in_err-child g c status is =
-    let t = c.args.thread in
-    let home = c.args.parent.now.home.now in
-    let n = c.args.number in
-    let old = c.args.kernel.now in
     let errno = c.in_err-child.field-0.0 in
-    let child_is = c.in_err-child.ensures ∙ ap must_be_there (found_is c.args.parent.now.bytes.now status n c.in_ok-found.found is
+    let child_is = c.in_err-child.ensures ∙ ap must_be_there (found_is c.args.parent.now.bytes.now status c.args.number c.in_ok-found.found is
     c.in_ok-found.ensures) in
-    fails_so t (kill_known home status n) old old (Refused errno) _ c.from_residual-in_err-child.ensures.1
-    (no_child t home status n old old errno child_is)
+    fails_so c.args.thread (kill_known c.args.parent.now.home.now status c.args.number) c.args.kernel.now c.args.kernel.now (Refused errno) _
+    c.from_residual-in_err-child.ensures.1
+    (no_child c.args.thread c.args.parent.now.home.now status c.args.number c.args.kernel.now c.args.kernel.now errno child_is)
 
 pub returns-in_err-read_head : goal.returns-in_err-read_head
 returns-in_err-read_head g c status is =
-    let t = c.args.thread in
-    let home = c.args.parent.now.home.now in
-    let n = c.args.number in
-    let old = c.args.kernel.now in
-    let child = c.in_ok-child.child in
-    let child_is = c.in_ok-child.ensures ∙ ap must_be_there (found_is c.args.parent.now.bytes.now status n c.in_ok-found.found is
+    let child_is = c.in_ok-child.ensures ∙ ap must_be_there (found_is c.args.parent.now.bytes.now status c.args.number c.in_ok-found.found is
     c.in_ok-found.ensures) in
-    let its_is = c.home_of-its.ensures in
-    let k1 = c.read_head.new.kernel in
     let call_error = c.in_err-read_head.field-0.0 in
-    fails_so t (kill_known home status n) old k1 call_error _ c.from_residual-in_err-read_head.ensures.1
-    (not_read t home status n old k1 child child_is call_error
-    (subst (λ (h : Home). RunsPart (read_head h) old k1 t (Err call_error)) its_is c.in_err-read_head.ensures))
+    fails_so c.args.thread (kill_known c.args.parent.now.home.now status c.args.number) c.args.kernel.now c.read_head.new.kernel call_error _
+    c.from_residual-in_err-read_head.ensures.1
+    (not_read c.args.thread c.args.parent.now.home.now status c.args.number c.args.kernel.now c.read_head.new.kernel c.in_ok-child.child child_is
+    call_error
+    (subst (λ (h : Home). RunsPart (read_head h) c.args.kernel.now c.read_head.new.kernel c.args.thread (Err call_error)) c.home_of-its.ensures
+    c.in_err-read_head.ensures))
 
 pub returns-in_err-without : goal.returns-in_err-without
 returns-in_err-without g c status is =
-    let t = c.args.thread in
-    let home = c.args.parent.now.home.now in
-    let n = c.args.number in
-    let old = c.args.kernel.now in
-    let child = c.in_ok-child.child in
-    let child_is = c.in_ok-child.ensures ∙ ap must_be_there (found_is c.args.parent.now.bytes.now status n c.in_ok-found.found is
+    let child_is = c.in_ok-child.ensures ∙ ap must_be_there (found_is c.args.parent.now.bytes.now status c.args.number c.in_ok-found.found is
     c.in_ok-found.ensures) in
-    let its_is = c.home_of-its.ensures in
-    let k1 = c.read_head.new.kernel in
-    let head = c.in_ok-read_head.field-0 in
-    let head_read = subst (λ (h : Home). RunsPart (read_head h) old k1 t (Ok head)) its_is c.in_ok-read_head.ensures in
-    fails_so t (kill_known home status n) old k1 Stopped _ c.from_residual-in_err-without.ensures.1
-    (not_unlinked t home status n old k1 child child_is k1 head head_read Stopped (before_ask t (Unlink home.container child.container) k1))
+    let head_read = subst (λ (h : Home). RunsPart (read_head h) c.args.kernel.now c.read_head.new.kernel c.args.thread (Ok c.in_ok-read_head.field-0))
+    c.home_of-its.ensures c.in_ok-read_head.ensures in
+    fails_so c.args.thread (kill_known c.args.parent.now.home.now status c.args.number) c.args.kernel.now c.read_head.new.kernel Stopped _
+    c.from_residual-in_err-without.ensures.1
+    (not_unlinked c.args.thread c.args.parent.now.home.now status c.args.number c.args.kernel.now c.read_head.new.kernel c.in_ok-child.child child_is
+    c.read_head.new.kernel c.in_ok-read_head.field-0 head_read Stopped (before_ask c.args.thread
+    (Unlink c.args.parent.now.home.now.container c.in_ok-child.child.container) c.read_head.new.kernel))
 
 pub returns-in_err-unlink : goal.returns-in_err-unlink
 returns-in_err-unlink g c status is =
-    let t = c.args.thread in
-    let home = c.args.parent.now.home.now in
-    let n = c.args.number in
-    let old = c.args.kernel.now in
-    let child = c.in_ok-child.child in
-    let child_is = c.in_ok-child.ensures ∙ ap must_be_there (found_is c.args.parent.now.bytes.now status n c.in_ok-found.found is
+    let child_is = c.in_ok-child.ensures ∙ ap must_be_there (found_is c.args.parent.now.bytes.now status c.args.number c.in_ok-found.found is
     c.in_ok-found.ensures) in
-    let its_is = c.home_of-its.ensures in
-    let k1 = c.read_head.new.kernel in
-    let head = c.in_ok-read_head.field-0 in
-    let head_read = subst (λ (h : Home). RunsPart (read_head h) old k1 t (Ok head)) its_is c.in_ok-read_head.ensures in
-    let k2 = c.unlink.new.self in
-    let gone_is = ap (λ (h : Home). h.container) its_is in
-    fails_so t (kill_known home status n) old k2 _ _ c.from_residual-in_err-unlink.ensures.1
-    (not_unlinked t home status n old k2 child child_is k1 head head_read _
-    (unlinked_so t k1 k2 home.container home.container _ child.container refl gone_is _
-    (refuses t (Unlink home.container c.home_of-its.result.container) k1 k2 _ c.in_err-unlink.field-0.0 c.in_err-unlink.ensures)))
+    let head_read = subst (λ (h : Home). RunsPart (read_head h) c.args.kernel.now c.read_head.new.kernel c.args.thread (Ok c.in_ok-read_head.field-0))
+    c.home_of-its.ensures c.in_ok-read_head.ensures in
+    let gone_is = ap (λ (h : Home). h.container) c.home_of-its.ensures in
+    fails_so c.args.thread (kill_known c.args.parent.now.home.now status c.args.number) c.args.kernel.now c.unlink.new.self _ _
+    c.from_residual-in_err-unlink.ensures.1
+    (not_unlinked c.args.thread c.args.parent.now.home.now status c.args.number c.args.kernel.now c.unlink.new.self c.in_ok-child.child child_is
+    c.read_head.new.kernel c.in_ok-read_head.field-0 head_read _
+    (unlinked_so c.args.thread c.read_head.new.kernel c.unlink.new.self c.args.parent.now.home.now.container c.args.parent.now.home.now.container _
+    c.in_ok-child.child.container refl gone_is _
+    (refuses c.args.thread (Unlink c.args.parent.now.home.now.container c.home_of-its.result.container) c.read_head.new.kernel c.unlink.new.self _
+    c.in_err-unlink.field-0.0 c.in_err-unlink.ensures)))
 
 pub returns : goal.returns
 returns g c status is =
-    let t = c.args.thread in
-    let home = c.args.parent.now.home.now in
-    let n = c.args.number in
-    let old = c.args.kernel.now in
-    let child = c.in_ok-child.child in
-    let child_is = c.in_ok-child.ensures ∙ ap must_be_there (found_is c.args.parent.now.bytes.now status n c.in_ok-found.found is
+    let child_is = c.in_ok-child.ensures ∙ ap must_be_there (found_is c.args.parent.now.bytes.now status c.args.number c.in_ok-found.found is
     c.in_ok-found.ensures) in
-    let its_is = c.home_of-its.ensures in
-    let k1 = c.read_head.new.kernel in
-    let head = c.in_ok-read_head.field-0 in
-    let head_read = subst (λ (h : Home). RunsPart (read_head h) old k1 t (Ok head)) its_is c.in_ok-read_head.ensures in
-    let k2 = c.unlink.new.self in
-    let gone_is = ap (λ (h : Home). h.container) its_is in
+    let head_read = subst (λ (h : Home). RunsPart (read_head h) c.args.kernel.now c.read_head.new.kernel c.args.thread (Ok c.in_ok-read_head.field-0))
+    c.home_of-its.ensures c.in_ok-read_head.ensures in
+    let gone_is = ap (λ (h : Home). h.container) c.home_of-its.ensures in
     let k3 = c.write_segment.new.kernel in
-    let gone = unlinked_so t k1 k2 home.container home.container _ child.container refl gone_is (Ok tt)
-    (grants t (Unlink home.container c.home_of-its.result.container) k1 k2 tt c.in_ok-unlink.ensures.0 tt) in
-    unlinked t home status n old k3 child child_is k1 head head_read k2 gone c.write_segment.result
-    (written_so t k2 k3 home c.in_ok-without.without (status_bytes (without_child n status))
+    let gone = unlinked_so c.args.thread c.read_head.new.kernel c.unlink.new.self c.args.parent.now.home.now.container
+    c.args.parent.now.home.now.container _ c.in_ok-child.child.container refl gone_is (Ok tt)
+    (grants c.args.thread (Unlink c.args.parent.now.home.now.container c.home_of-its.result.container) c.read_head.new.kernel c.unlink.new.self tt
+    c.in_ok-unlink.ensures.0 tt) in
+    unlinked c.args.thread c.args.parent.now.home.now status c.args.number c.args.kernel.now k3 c.in_ok-child.child child_is c.read_head.new.kernel
+    c.in_ok-read_head.field-0 head_read c.unlink.new.self gone c.write_segment.result
+    (written_so c.args.thread c.unlink.new.self k3 c.args.parent.now.home.now c.in_ok-without.without
+    (status_bytes (without_child c.args.number status))
     (c.in_ok-without.ensures status is) c.write_segment.result c.write_segment.ensures)

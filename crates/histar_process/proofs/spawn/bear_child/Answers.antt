@@ -9,28 +9,24 @@ use Rattle.histar_process.proofs.spawn.bear_child.Goals as goal
 
 pub returns-in_err-jobs : goal.returns-in_err-jobs
 returns-in_err-jobs g c status is =
-    let t = c.args.unix.now.caller.now.thread in
-    let me = c.args.unix.now.caller.now.home in
-    let old = c.args.kernel.now in
     let kin = kin_of c.args.unix.now.users.now c.args.own.now in
-    fails_so t (birth me status kin) old old Stopped _ c.from_residual.ensures.1 (before_birth t me status kin old)
+    fails_so c.args.unix.now.caller.now.thread (birth c.args.unix.now.caller.now.home status kin) c.args.kernel.now c.args.kernel.now Stopped _
+    c.from_residual.ensures.1 (before_birth c.args.unix.now.caller.now.thread c.args.unix.now.caller.now.home status kin c.args.kernel.now)
 
 pub returns-in_err-owned : goal.returns-in_err-owned
 returns-in_err-owned g c status is =
-    let t = c.args.unix.now.caller.now.thread in
-    let me = c.args.unix.now.caller.now.home in
-    let old = c.args.kernel.now in
     let kin = kin_of c.args.unix.now.users.now c.args.own.now in
-    fails_so t (birth me status kin) old old Stopped _ c.from_residual-in_err-owned.ensures.1 (before_birth t me status kin old)
+    fails_so c.args.unix.now.caller.now.thread (birth c.args.unix.now.caller.now.home status kin) c.args.kernel.now c.args.kernel.now Stopped _
+    c.from_residual-in_err-owned.ensures.1 (before_birth c.args.unix.now.caller.now.thread c.args.unix.now.caller.now.home status kin
+    c.args.kernel.now)
 
 pub returns : goal.returns
 returns g c status is =
-    let t = c.args.unix.now.caller.now.thread in
-    let me = c.args.unix.now.caller.now.home in
     let accounts = c.args.unix.now.users.now in
     let own = c.args.own.now in
     let kin_so =
     kin_is own accounts c.user_of.result c.is_in_job.result c.as_slice.result.now c.as_slice-2.result.now
     c.user_of.ensures c.is_in_job.ensures (c.as_slice.ensures.value ∙ c.in_ok-owned.ensures)
     (c.as_slice-2.ensures.value ∙ c.in_ok-jobs.ensures) in
-    born_so t c.args.kernel.now c.give_birth.new.kernel me status _ (kin_of accounts own) kin_so c.give_birth.result (c.give_birth.ensures status is)
+    born_so c.args.unix.now.caller.now.thread c.args.kernel.now c.give_birth.new.kernel c.args.unix.now.caller.now.home status _ (kin_of accounts own)
+    kin_so c.give_birth.result (c.give_birth.ensures status is)

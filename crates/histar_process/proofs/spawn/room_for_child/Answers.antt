@@ -10,53 +10,37 @@ use Rattle.histar_process.proofs.spawn.room_for_child.Goals as goal
 
 pub returns-in_err-must_have_room-clause-runs : goal.returns-in_err-must_have_room-clause-runs
 returns-in_err-must_have_room-clause-runs g c =
-    let t = c.args.thread in
-    let name = c.args.name.now in
-    let home = c.args.home.now in
-    let old = c.args.kernel.now in
     let errno = c.in_err-must_have_room.field-0.0 in
     let depth_is = ap (λ (ns : List ℕ). must_have_room (nat_lt (length ns) most_numbers)) c.numbers.ensures.value in
-    room_fails_so t name home old old (Refused errno) _ c.from_residual.ensures.1
-    (depth_fails t name home old errno (c.in_err-must_have_room.ensures ∙ depth_is))
+    room_fails_so c.args.thread c.args.name.now c.args.home.now c.args.kernel.now c.args.kernel.now (Refused errno) _ c.from_residual.ensures.1
+    (depth_fails c.args.thread c.args.name.now c.args.home.now c.args.kernel.now errno (c.in_err-must_have_room.ensures ∙ depth_is))
 
 pub returns-in_err-segment-clause-runs : goal.returns-in_err-segment-clause-runs
 returns-in_err-segment-clause-runs g c =
-    let t = c.args.thread in
-    let name = c.args.name.now in
-    let home = c.args.home.now in
-    let old = c.args.kernel.now in
-    let end = c.read_segment.new.kernel in
     let depth_is = ap (λ (ns : List ℕ). must_have_room (nat_lt (length ns) most_numbers)) c.numbers.ensures.value in
-    room_fails_so t name home old end c.in_err-segment.field-0.0 _ c.from_residual-in_err-segment.ensures.1
-    (reading_fails t name home old end (c.in_ok-must_have_room.ensures ∙ depth_is) c.in_err-segment.field-0.0 c.in_err-segment.ensures)
+    room_fails_so c.args.thread c.args.name.now c.args.home.now c.args.kernel.now c.read_segment.new.kernel c.in_err-segment.field-0.0 _
+    c.from_residual-in_err-segment.ensures.1
+    (reading_fails c.args.thread c.args.name.now c.args.home.now c.args.kernel.now c.read_segment.new.kernel
+    (c.in_ok-must_have_room.ensures ∙ depth_is) c.in_err-segment.field-0.0 c.in_err-segment.ensures)
 
 pub returns-in_err-must_have_room-2-clause-runs : goal.returns-in_err-must_have_room-2-clause-runs
 returns-in_err-must_have_room-2-clause-runs g c =
-    let t = c.args.thread in
-    let name = c.args.name.now in
-    let home = c.args.home.now in
-    let old = c.args.kernel.now in
-    let end = c.read_segment.new.kernel in
     let errno = c.in_err-must_have_room-2.field-0.0 in
     let depth_is = ap (λ (ns : List ℕ). must_have_room (nat_lt (length ns) most_numbers)) c.numbers.ensures.value in
-    let status = c.in_ok-segment.ensures.0 in
     let room_is = ap (λ (h : StatusHead). must_have_room (nat_lt h.born most_children)) c.in_ok-segment.ensures.1.head in
-    room_fails_so t name home old end (Refused errno) _ c.from_residual-in_err-must_have_room-2.ensures.1
-    (room_fails t name home old end (c.in_ok-must_have_room.ensures ∙ depth_is) status c.in_ok-segment.ensures.2 errno
+    room_fails_so c.args.thread c.args.name.now c.args.home.now c.args.kernel.now c.read_segment.new.kernel (Refused errno) _
+    c.from_residual-in_err-must_have_room-2.ensures.1
+    (room_fails c.args.thread c.args.name.now c.args.home.now c.args.kernel.now c.read_segment.new.kernel (c.in_ok-must_have_room.ensures ∙ depth_is)
+    c.in_ok-segment.ensures.0 c.in_ok-segment.ensures.2 errno
     (c.in_err-must_have_room-2.ensures ∙ room_is))
 
 pub returns-clause-runs : goal.returns-clause-runs
 returns-clause-runs g c =
-    let t = c.args.thread in
-    let name = c.args.name.now in
-    let home = c.args.home.now in
-    let old = c.args.kernel.now in
-    let end = c.read_segment.new.kernel in
     let depth_is = ap (λ (ns : List ℕ). must_have_room (nat_lt (length ns) most_numbers)) c.numbers.ensures.value in
-    let status = c.in_ok-segment.ensures.0 in
     let room_is = ap (λ (h : StatusHead). must_have_room (nat_lt h.born most_children)) c.in_ok-segment.ensures.1.head in (
-      status,
+      c.in_ok-segment.ensures.0,
       c.in_ok-segment.ensures.1,
-      room_is_there t name home old end (c.in_ok-must_have_room.ensures ∙ depth_is)
-          status c.in_ok-segment.ensures.2 (c.in_ok-must_have_room-2.ensures ∙ room_is),
+      room_is_there c.args.thread c.args.name.now c.args.home.now c.args.kernel.now c.read_segment.new.kernel
+          (c.in_ok-must_have_room.ensures ∙ depth_is)
+          c.in_ok-segment.ensures.0 c.in_ok-segment.ensures.2 (c.in_ok-must_have_room-2.ensures ∙ room_is),
     )

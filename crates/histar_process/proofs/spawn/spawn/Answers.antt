@@ -11,40 +11,43 @@ use Rattle.histar_process.proofs.spawn.spawn.Goals as goal
 
 pub returns-in_err-head : goal.returns-in_err-head
 returns-in_err-head g c =
-    let unix = c.args.unix.now in
-    let me = unix.caller.now.home in
-    let name = unix.process.now in
-    let begin = begun unix.users.now me name unix.caller.now.thread c.args.kernel.now in
-    ends_so (room_for_child name me) (after_room unix.users.now me name) begin c.room_for_child.new.kernel
+    let begin = begun c.args.unix.now.users.now c.args.unix.now.caller.now.home c.args.unix.now.process.now c.args.unix.now.caller.now.thread
+    c.args.kernel.now in
+    ends_so (room_for_child c.args.unix.now.process.now c.args.unix.now.caller.now.home)
+    (after_room c.args.unix.now.users.now c.args.unix.now.caller.now.home c.args.unix.now.process.now) begin c.room_for_child.new.kernel
     c.in_err-head.field-0.0 _ c.from_residual.ensures.1 c.in_err-head.ensures.runs
 
 pub returns-in_err-make_child : goal.returns-in_err-make_child
 returns-in_err-make_child g c =
-    let unix = c.args.unix.now in
-    let me = unix.caller.now.home in
-    let name = unix.process.now in
-    let begin = begun unix.users.now me name unix.caller.now.thread c.args.kernel.now in
-    let status = c.in_ok-head.ensures.runs.0 in
-    let making = further (room_for_child name me) (after_room unix.users.now me name) begin c.room_for_child.new.kernel
-    status c.in_ok-head.ensures.runs.2 in
-    let status_is = subst (λ (bytes : List ℕ). status_in bytes ≡ Some status) (sym c.as_slice.ensures) c.in_ok-head.ensures.runs.1.status_is in
-    ends_so (make_child unix.users.now me status) (λ (done : Unit {0}). after_child unix.users.now me name status) making
+    let begin = begun c.args.unix.now.users.now c.args.unix.now.caller.now.home c.args.unix.now.process.now c.args.unix.now.caller.now.thread
+    c.args.kernel.now in
+    let making = further (room_for_child c.args.unix.now.process.now c.args.unix.now.caller.now.home)
+    (after_room c.args.unix.now.users.now c.args.unix.now.caller.now.home c.args.unix.now.process.now) begin c.room_for_child.new.kernel
+    c.in_ok-head.ensures.runs.0 c.in_ok-head.ensures.runs.2 in
+    let status_is = subst (λ (bytes : List ℕ). status_in bytes ≡ Some c.in_ok-head.ensures.runs.0) (sym c.as_slice.ensures)
+    c.in_ok-head.ensures.runs.1.status_is in
+    ends_so (make_child c.args.unix.now.users.now c.args.unix.now.caller.now.home c.in_ok-head.ensures.runs.0)
+    (λ (done : Unit {0}). after_child c.args.unix.now.users.now c.args.unix.now.caller.now.home c.args.unix.now.process.now
+    c.in_ok-head.ensures.runs.0) making
     c.make_child.new.kernel c.in_err-make_child.field-0.0 _ c.from_residual-in_err-make_child.ensures.1
-    (c.in_err-make_child.ensures status status_is)
+    (c.in_err-make_child.ensures c.in_ok-head.ensures.runs.0 status_is)
 
 pub returns : goal.returns
 returns g c =
-    let unix = c.args.unix.now in
-    let me = unix.caller.now.home in
-    let name = unix.process.now in
-    let begin = begun unix.users.now me name unix.caller.now.thread c.args.kernel.now in
-    let status = c.in_ok-head.ensures.runs.0 in
-    let making = further (room_for_child name me) (after_room unix.users.now me name) begin c.room_for_child.new.kernel
-    status c.in_ok-head.ensures.runs.2 in
-    let status_is = subst (λ (bytes : List ℕ). status_in bytes ≡ Some status) (sym c.as_slice.ensures) c.in_ok-head.ensures.runs.1.status_is in
+    let begin = begun c.args.unix.now.users.now c.args.unix.now.caller.now.home c.args.unix.now.process.now c.args.unix.now.caller.now.thread
+    c.args.kernel.now in
+    let making = further (room_for_child c.args.unix.now.process.now c.args.unix.now.caller.now.home)
+    (after_room c.args.unix.now.users.now c.args.unix.now.caller.now.home c.args.unix.now.process.now) begin c.room_for_child.new.kernel
+    c.in_ok-head.ensures.runs.0 c.in_ok-head.ensures.runs.2 in
+    let status_is = subst (λ (bytes : List ℕ). status_in bytes ≡ Some c.in_ok-head.ensures.runs.0) (sym c.as_slice.ensures)
+    c.in_ok-head.ensures.runs.1.status_is in
     let end = c.make_child.new.kernel in
-    let made = further (make_child unix.users.now me status) (λ (done : Unit {0}). after_child unix.users.now me name status) making end tt
-    (c.in_ok-make_child.ensures status status_is) in
-    let reply_is = ap (λ (p : List ℕ). Child p) (c.child.ensures ∙ ap (λ (h : StatusHead). (h.born + 1) ∷ name) c.in_ok-head.ensures.runs.1.head) in
+    let made = further (make_child c.args.unix.now.users.now c.args.unix.now.caller.now.home c.in_ok-head.ensures.runs.0)
+    (λ (done : Unit {0}). after_child c.args.unix.now.users.now c.args.unix.now.caller.now.home c.args.unix.now.process.now
+    c.in_ok-head.ensures.runs.0) making end tt
+    (c.in_ok-make_child.ensures c.in_ok-head.ensures.runs.0 status_is) in
+    let reply_is = ap (λ (p : List ℕ). Child p) (c.child.ensures ∙ ap (λ (h : StatusHead). (h.born + 1) ∷ c.args.unix.now.process.now)
+    c.in_ok-head.ensures.runs.1.head) in
     made.leads end (Ok (Child c.child.result))
-    (replies_so unix.caller.now.thread end (Child ((status.born + 1) ∷ name)) (Child c.child.result) reply_is)
+    (replies_so c.args.unix.now.caller.now.thread end (Child ((c.in_ok-head.ensures.runs.0.born + 1) ∷ c.args.unix.now.process.now))
+    (Child c.child.result) reply_is)

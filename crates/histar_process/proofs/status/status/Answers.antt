@@ -12,45 +12,36 @@ use Rattle.histar_process.proofs.status.status.Goals as goal
 pub returns-in_err-home : goal.returns-in_err-home
 unfolding status_program
 returns-in_err-home g c =
-    let t = c.args.unix.now.caller.now.thread in
-    let roots = c.args.unix.now.roots.now in
-    let name = c.args.name.now in
-    let old = c.args.kernel.now in
-    let mid = c.find_home.new.kernel in
-    call_fails_so t (status_program roots name) old mid c.in_err-home.field-0.0 _ c.from_residual.ensures.1
-    (call_fails t (find_home roots.home name) old mid _ c.in_err-home.field-0.0
-    (subst (λ (n : List ℕ). RunsPart (find_home roots.home n) old mid t (Err c.in_err-home.field-0.0))
+    call_fails_so c.args.unix.now.caller.now.thread (status_program c.args.unix.now.roots.now c.args.name.now) c.args.kernel.now
+    c.find_home.new.kernel c.in_err-home.field-0.0 _ c.from_residual.ensures.1
+    (call_fails c.args.unix.now.caller.now.thread (find_home c.args.unix.now.roots.now.home c.args.name.now) c.args.kernel.now c.find_home.new.kernel
+    _ c.in_err-home.field-0.0
+    (subst (λ (n : List ℕ). RunsPart (find_home c.args.unix.now.roots.now.home n) c.args.kernel.now c.find_home.new.kernel
+    c.args.unix.now.caller.now.thread (Err c.in_err-home.field-0.0))
     c.numbers.ensures.value c.in_err-home.ensures))
 
 pub returns-in_err-head : goal.returns-in_err-head
 unfolding status_program read_head
 returns-in_err-head g c =
-    let t = c.args.unix.now.caller.now.thread in
-    let roots = c.args.unix.now.roots.now in
-    let name = c.args.name.now in
-    let old = c.args.kernel.now in
-    let mid = c.find_home.new.kernel in
-    let end = c.read_head.new.kernel in
-    let home = c.in_ok-home.home in
-    call_fails_so t (status_program roots name) old end c.in_err-head.field-0.0 _ c.from_residual-in_err-head.ensures.1
-    (then_call t (find_home roots.home name) old end _ mid home (subst
-    (λ (n : List ℕ). RunsPart (find_home roots.home n) old mid t (Ok home)) c.numbers.ensures.value
+    call_fails_so c.args.unix.now.caller.now.thread (status_program c.args.unix.now.roots.now c.args.name.now) c.args.kernel.now
+    c.read_head.new.kernel c.in_err-head.field-0.0 _ c.from_residual-in_err-head.ensures.1
+    (then_call c.args.unix.now.caller.now.thread (find_home c.args.unix.now.roots.now.home c.args.name.now) c.args.kernel.now c.read_head.new.kernel _
+    c.find_home.new.kernel c.in_ok-home.home (subst
+    (λ (n : List ℕ). RunsPart (find_home c.args.unix.now.roots.now.home n) c.args.kernel.now c.find_home.new.kernel c.args.unix.now.caller.now.thread
+    (Ok c.in_ok-home.home)) c.numbers.ensures.value
     c.in_ok-home.ensures) _
-    (call_fails t (read_head home) mid end (λ (head : StatusHead). Answers (status_reply head.exited)) c.in_err-head.field-0.0 c.in_err-head.ensures))
+    (call_fails c.args.unix.now.caller.now.thread (read_head c.in_ok-home.home) c.find_home.new.kernel c.read_head.new.kernel
+    (λ (head : StatusHead). Answers (status_reply head.exited)) c.in_err-head.field-0.0 c.in_err-head.ensures))
 
 pub returns : goal.returns
 unfolding status_program read_head
 returns g c =
-    let t = c.args.unix.now.caller.now.thread in
-    let roots = c.args.unix.now.roots.now in
-    let name = c.args.name.now in
-    let old = c.args.kernel.now in
-    let mid = c.find_home.new.kernel in
-    let end = c.read_head.new.kernel in
-    let home = c.in_ok-home.home in
     let head = c.in_ok-head.head in
-    then_call t (find_home roots.home name) old end _ mid home (subst
-    (λ (n : List ℕ). RunsPart (find_home roots.home n) old mid t (Ok home)) c.numbers.ensures.value
+    then_call c.args.unix.now.caller.now.thread (find_home c.args.unix.now.roots.now.home c.args.name.now) c.args.kernel.now c.read_head.new.kernel _
+    c.find_home.new.kernel c.in_ok-home.home (subst
+    (λ (n : List ℕ). RunsPart (find_home c.args.unix.now.roots.now.home n) c.args.kernel.now c.find_home.new.kernel c.args.unix.now.caller.now.thread
+    (Ok c.in_ok-home.home)) c.numbers.ensures.value
     c.in_ok-home.ensures) _
-    (then_call t (read_head home) mid end (λ (head : StatusHead). Answers (status_reply head.exited)) end head c.in_ok-head.ensures _
-    (replies_so t end (status_reply head.exited) c.status_reply.result c.status_reply.ensures))
+    (then_call c.args.unix.now.caller.now.thread (read_head c.in_ok-home.home) c.find_home.new.kernel c.read_head.new.kernel
+    (λ (head : StatusHead). Answers (status_reply head.exited)) c.read_head.new.kernel head c.in_ok-head.ensures _
+    (replies_so c.args.unix.now.caller.now.thread c.read_head.new.kernel (status_reply head.exited) c.status_reply.result c.status_reply.ensures))

@@ -16,20 +16,18 @@ use Rattle.histar_process.proofs.whoami.whoami.Goals as goal
 pub returns-in_err-own : goal.returns-in_err-own
 unfolding whoami_program
 returns-in_err-own g c =
-    let t = c.args.unix.now.caller.now.thread in
-    let old = c.args.kernel.now in
-    let end = c.lend_own_label.follows.lender-at-none in
-    let left = subst (λ (r : Result _ _). OwnLent old t r end) c.in_err-own.was c.lend_own_label.follows.holds-at-none in
-    call_fails_so t (whoami_program c.args.unix.now.users.now) old end _ _ c.from_residual.ensures.1
-    (call_fails t (ask OwnLabel) old end _ _ (refuses t OwnLabel old end _ c.in_err-own.field-0.0 left))
+    let left = subst (λ (r : Result _ _). OwnLent c.args.kernel.now c.args.unix.now.caller.now.thread r c.lend_own_label.follows.lender-at-none)
+    c.in_err-own.was c.lend_own_label.follows.holds-at-none in
+    call_fails_so c.args.unix.now.caller.now.thread (whoami_program c.args.unix.now.users.now) c.args.kernel.now
+    c.lend_own_label.follows.lender-at-none _ _ c.from_residual.ensures.1
+    (call_fails c.args.unix.now.caller.now.thread (ask OwnLabel) c.args.kernel.now c.lend_own_label.follows.lender-at-none _ _
+    (refuses c.args.unix.now.caller.now.thread OwnLabel c.args.kernel.now c.lend_own_label.follows.lender-at-none _ c.in_err-own.field-0.0 left))
 
 pub returns : goal.returns
 unfolding whoami_program
 returns g c =
-    let t = c.args.unix.now.caller.now.thread in
-    let old = c.args.kernel.now in
-    let end = c.lend_own_label.follows.lender-at-none in
-    let left = subst (λ (r : Result _ _). OwnLent old t r end) c.in_ok-own.was c.lend_own_label.follows.holds-at-none in
+    let left = subst (λ (r : Result _ _). OwnLent c.args.kernel.now c.args.unix.now.caller.now.thread r c.lend_own_label.follows.lender-at-none)
+    c.in_ok-own.was c.lend_own_label.follows.holds-at-none in
     let accounts = c.args.unix.now.users.now in
     let users = accounts.users in
     let own = c.in_ok-own.own.now in
@@ -37,6 +35,9 @@ returns g c =
     let number = c.user_of-number.result in
     let number_is = sym (user_is own (length users) number c.user_of-number.ensures) in
     let name_is = c.user_name.ensures ∙ ap (user_name users) number_is in
-    then_call t (ask OwnLabel) old end _ end labels (grants t OwnLabel old end labels left.0 left.1.1) _
-    (replies_so t end (User (user_name users (user_of own (length users))) (not (is_empty (jobs_in own))))
+    then_call c.args.unix.now.caller.now.thread (ask OwnLabel) c.args.kernel.now c.lend_own_label.follows.lender-at-none _
+    c.lend_own_label.follows.lender-at-none labels (grants c.args.unix.now.caller.now.thread OwnLabel c.args.kernel.now
+    c.lend_own_label.follows.lender-at-none labels left.0 left.1.1) _
+    (replies_so c.args.unix.now.caller.now.thread c.lend_own_label.follows.lender-at-none
+    (User (user_name users (user_of own (length users))) (not (is_empty (jobs_in own))))
     (User c.user_name.result c.is_in_job.result) (λ i. User (name_is i) (c.is_in_job.ensures i)))

@@ -21,8 +21,7 @@ calls-preserved g c = record {
 
 pub returns-in_err-lines-clause-err : goal.returns-in_err-lines-clause-err
 returns-in_err-lines-clause-err g c =
-    let gives = c.into_iter-asked-iterator.ensures.into_iter_gives in
-    let all = YieldsList-from_vec c.args.calls.items gives.0 (search rules) in
+    let all = YieldsList-from_vec c.args.calls.items c.into_iter-asked-iterator.ensures.into_iter_gives.0 (search rules) in
     let so_far = YieldsList-so_far all c.calls.yielded c.calls.asked-iterator c.calls.yielded_by in
     let turn =
     YieldsList-turn all c.calls.yielded c.calls.asked-iterator c.calls.yielded_by c.next.result c.next.new.self
@@ -33,8 +32,7 @@ returns-in_err-lines-clause-err g c =
 
 pub returns-in_err-extend_from_slice-clause-err : goal.returns-in_err-extend_from_slice-clause-err
 returns-in_err-extend_from_slice-clause-err g c =
-    let gives = c.into_iter-asked-iterator.ensures.into_iter_gives in
-    let all = YieldsList-from_vec c.args.calls.items gives.0 (search rules) in
+    let all = YieldsList-from_vec c.args.calls.items c.into_iter-asked-iterator.ensures.into_iter_gives.0 (search rules) in
     let so_far = YieldsList-so_far all c.calls.yielded c.calls.asked-iterator c.calls.yielded_by in
     let turn =
     YieldsList-turn all c.calls.yielded c.calls.asked-iterator c.calls.yielded_by c.next.result c.next.new.self

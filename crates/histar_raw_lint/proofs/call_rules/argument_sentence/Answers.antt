@@ -9,22 +9,21 @@ use Rattle.histar_raw_lint.proofs.call_rules.argument_sentence.Goals as goal
 
 pub returns-in_default : goal.returns-in_default
 returns-in_default c =
-    let kinds = c.args.kinds.now in
     sym (c.kinds.invariant ∙ ap (λ (o : Option (Bor (List ℕ))). first_sentence
-    (argument_rules (drop c.kinds.kind-index kinds) (option_copied o))) c.in_default.is
-    ∙ ap first_sentence (rules_none kinds c.kinds.kind-index Container c.kinds-test.true))
+    (argument_rules (drop c.kinds.kind-index c.args.kinds.now) (option_copied o))) c.in_default.is
+    ∙ ap first_sentence (rules_none c.args.kinds.now c.kinds.kind-index Container c.kinds-test.true))
 
 pub returns-in-Some-2 : goal.returns-in-Some-2
 returns-in-Some-2 c =
-    let kinds = c.args.kinds.now in
     sym (c.kinds.invariant ∙ ap (λ (o : Option (Bor (List ℕ))). first_sentence
-    (argument_rules (drop c.kinds.kind-index kinds) (option_copied o))) c.in-Some.is
-    ∙ argument_front (λ v. v.items) kinds _ c.in-Some.text.now c.kinds-test.true c.split_word.ensures.word c.in_ok-said.ensures c.in-Some-2.is)
+    (argument_rules (drop c.kinds.kind-index c.args.kinds.now) (option_copied o))) c.in-Some.is
+    ∙ argument_front (λ v. v.items) c.args.kinds.now _ c.in-Some.text.now c.kinds-test.true c.split_word.ensures.word c.in_ok-said.ensures
+    c.in-Some-2.is)
 
 pub kinds-preserved : goal.kinds-preserved
 kinds-preserved c =
-    let kinds = c.args.kinds.now in
     c.kinds.invariant ∙ ap (λ (o : Option (Bor (List ℕ))). first_sentence
-    (argument_rules (drop c.kinds.kind-index kinds) (option_copied o))) c.in-Some.is
-    ∙ argument_behind (λ v. v.items) kinds _ c.in-Some.text.now c.kinds-test.true c.split_word.ensures.word c.in_ok-said.ensures c.in_default-2.is
-    ∙ ap (λ (o : Option (List ℕ)). first_sentence (argument_rules (drop (c.kinds.kind-index + 1) kinds) o)) (sym c.split_word.ensures.rest)
+    (argument_rules (drop c.kinds.kind-index c.args.kinds.now) (option_copied o))) c.in-Some.is
+    ∙ argument_behind (λ v. v.items) c.args.kinds.now _ c.in-Some.text.now c.kinds-test.true c.split_word.ensures.word c.in_ok-said.ensures
+    c.in_default-2.is
+    ∙ ap (λ (o : Option (List ℕ)). first_sentence (argument_rules (drop (c.kinds.kind-index + 1) c.args.kinds.now) o)) (sym c.split_word.ensures.rest)

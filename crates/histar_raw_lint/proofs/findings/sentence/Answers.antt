@@ -7,12 +7,12 @@ use Rattle.histar_raw_lint.proofs.findings.sentence.Goals as goal
 
 pub returns-in-Some : goal.returns-in-Some
 returns-in-Some c =
-    let line = c.args.line.now in
-    front_says (λ v. v.items) (byte_rules line) (word_rules line ++ (thread_rules (word_of line) ++ call_rules (rest_of line))) c.in_ok-said.field-0
+    front_says (λ v. v.items) (byte_rules c.args.line.now) (word_rules c.args.line.now ++
+    (thread_rules (word_of c.args.line.now) ++ call_rules (rest_of c.args.line.now))) c.in_ok-said.field-0
     c.in_ok-said.ensures c.in-Some.said c.in-Some.is
 
 pub returns-in-None : goal.returns-in-None
 returns-in-None c =
-    let line = c.args.line.now in
-    behind_says (λ v. v.items) (byte_rules line) (word_rules line ++ (thread_rules (word_of line) ++ call_rules (rest_of line))) c.in_ok-said.field-0
+    behind_says (λ v. v.items) (byte_rules c.args.line.now) (word_rules c.args.line.now ++
+    (thread_rules (word_of c.args.line.now) ++ call_rules (rest_of c.args.line.now))) c.in_ok-said.field-0
     c.in_ok-said.ensures c.printable_sentence.result c.in-None.is c.printable_sentence.ensures

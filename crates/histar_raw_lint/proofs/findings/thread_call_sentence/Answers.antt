@@ -8,14 +8,12 @@ use Rattle.histar_raw_lint.proofs.findings.thread_call_sentence.Goals as goal
 
 pub returns-in-Some : goal.returns-in-Some
 returns-in-Some c =
-    let line = c.args.line.now in
-    front_says (λ v. v.items) (thread_rules (word_of line)) (call_rules (rest_of line)) c.in_ok-said.field-0
+    front_says (λ v. v.items) (thread_rules (word_of c.args.line.now)) (call_rules (rest_of c.args.line.now)) c.in_ok-said.field-0
     (c.in_ok-said.ensures ∙ ap (λ (w : List ℕ). first_sentence (thread_rules w)) c.split_word.ensures.word) c.in-Some.said c.in-Some.is
 
 pub returns-in-None : goal.returns-in-None
 returns-in-None c =
-    let line = c.args.line.now in
-    behind_says (λ v. v.items) (thread_rules (word_of line)) (call_rules (rest_of line)) c.in_ok-said.field-0
+    behind_says (λ v. v.items) (thread_rules (word_of c.args.line.now)) (call_rules (rest_of c.args.line.now)) c.in_ok-said.field-0
     (c.in_ok-said.ensures ∙ ap (λ (w : List ℕ). first_sentence (thread_rules w)) c.split_word.ensures.word) c.call_sentence.result c.in-None.is
     (IfOk-weaker c.call_sentence.result _ _ (λ said is. is
     ∙ ap (λ (w : List ℕ). first_sentence (call_rules w)) c.rest_of.ensures) c.call_sentence.ensures)

@@ -7,15 +7,11 @@ use Rattle.histar_raw_lint.proofs.numbers.is_beyond.Goals as goal
 
 pub returns-in-Some : goal.returns-in-Some
 returns-in-Some c =
-    let most = c.args.most in
-    let small = c.ranges.most.fits in
-    let tested : ltb most c.in-Some.number ≡ not (leb c.in-Some.number most) = grind (arith, nat_tests) in
-    tested ∙ ap (λ (o : Option ℕ). not (option_map_or (λ n. leb n most) o false)) c.in-Some.ensures
-    ∙ sym (beyond_is most c.args.word.now (omega (arith, small)))
+    let tested : ltb c.args.most c.in-Some.number ≡ not (leb c.in-Some.number c.args.most) = grind (arith, nat_tests) in
+    tested ∙ ap (λ (o : Option ℕ). not (option_map_or (λ n. leb n c.args.most) o false)) c.in-Some.ensures
+    ∙ sym (beyond_is c.args.most c.args.word.now (omega (arith, c.ranges.most.fits)))
 
 pub returns-in-None : goal.returns-in-None
 returns-in-None c =
-    let most = c.args.most in
-    let small = c.ranges.most.fits in
-    ap (λ (o : Option ℕ). not (option_map_or (λ n. leb n most) o false)) c.in-None.ensures
-    ∙ sym (beyond_is most c.args.word.now (omega (arith, small)))
+    ap (λ (o : Option ℕ). not (option_map_or (λ n. leb n c.args.most) o false)) c.in-None.ensures
+    ∙ sym (beyond_is c.args.most c.args.word.now (omega (arith, c.ranges.most.fits)))

@@ -6,28 +6,22 @@ use Rattle.histar_raw_session.proofs.read_session.read_lines.Goals as goal
 
 pub loop-rest-preserved-in_ok-push : goal.loop-rest-preserved-in_ok-push
 loop-rest-preserved-in_ok-push c =
-    let so = c.loop-rest.invariant.so_far in
-    let counted = c.loop-rest.invariant.counted in
-    let shorter = c.split_line.ensures.shorter in
     let line = c.split_line.result.0.now in record {
       so_far =
           rw c.in_ok-push.ensures.items (read_one c.args.text.now c.loop-rest.rest.now c.split_line.result.1.now line c.loop-rest.count
-          c.loop-rest.calls.items c.in_ok-read_call.field-0 so c.split_line.ensures.first
+          c.loop-rest.calls.items c.in_ok-read_call.field-0 c.loop-rest.invariant.so_far c.split_line.ensures.first
           c.in_ok-read_call.ensures.ok);
-      counted = omega (arith, counted, shorter);
+      counted = omega (arith, c.loop-rest.invariant.counted, c.split_line.ensures.shorter);
     }
 
 pub loop-rest-preserved : goal.loop-rest-preserved
 loop-rest-preserved c =
-    let so = c.loop-rest.invariant.so_far in
-    let counted = c.loop-rest.invariant.counted in
-    let shorter = c.split_line.ensures.shorter in
     let line = c.split_line.result.0.now in
     let comment : is_comment line ≡ true = sym c.if-not-is_comment.ensures in record {
       so_far =
           read_comment c.args.text.now c.loop-rest.rest.now c.split_line.result.1.now line c.loop-rest.count
-          c.loop-rest.calls.items so c.split_line.ensures.first comment;
-      counted = omega (arith, counted, shorter);
+          c.loop-rest.calls.items c.loop-rest.invariant.so_far c.split_line.ensures.first comment;
+      counted = omega (arith, c.loop-rest.invariant.counted, c.split_line.ensures.shorter);
     }
 
 pub returns-clause-ok : goal.returns-clause-ok

@@ -19,23 +19,18 @@ returns-in-Ok-clause-made g c =
 
 pub returns-in-Err-Denied-clause-prints : goal.returns-in-Err-Denied-clause-prints
 returns-in-Err-Denied-clause-prints g c =
-    let old = c.begin.new.self in
-    let t = c.args.asked.thread in
-    let call = c.args.asked.call in
     let called =
-    subst (λ (refusal : Refusal). Answered old c.call.new.self t call (Err refusal)
-    (λ revealed. IsAnswerValue (state old) t call revealed)) c.in-Err-Denied.field-0-is
+    subst (λ (refusal : Refusal). Answered c.begin.new.self c.call.new.self c.args.asked.thread c.args.asked.call (Err refusal)
+    (λ revealed. IsAnswerValue (state c.begin.new.self) c.args.asked.thread c.args.asked.call revealed)) c.in-Err-Denied.field-0-is
     c.in-Err-Denied.ensures.answered in
-    denied (state c.args.kernel.now) old c.call.new.self c.args.asked c.in-Err-Denied.denied (λ line. line.items)
+    denied (state c.args.kernel.now) c.begin.new.self c.call.new.self c.args.asked c.in-Err-Denied.denied (λ line. line.items)
     c.denial_line.result (ap state c.begin.ensures) called c.denial_line.ensures
 
 pub returns-in-Err-Denied-clause-made : goal.returns-in-Err-Denied-clause-made
 returns-in-Err-Denied-clause-made g c =
-    let old = c.begin.new.self in
-    let t = c.args.asked.thread in
-    let call = c.args.asked.call in
     let called =
-    subst (λ (refusal : Refusal). Answered old c.call.new.self t call (Err refusal)
-    (λ revealed. IsAnswerValue (state old) t call revealed)) c.in-Err-Denied.field-0-is
+    subst (λ (refusal : Refusal). Answered c.begin.new.self c.call.new.self c.args.asked.thread c.args.asked.call (Err refusal)
+    (λ revealed. IsAnswerValue (state c.begin.new.self) c.args.asked.thread c.args.asked.call revealed)) c.in-Err-Denied.field-0-is
     c.in-Err-Denied.ensures.answered in
-    made_on_line c.args.kernel.now old c.call.new.self c.args.asked (Some c.in-Err-Denied.denied) c.denial_line.result c.begin.ensures called
+    made_on_line c.args.kernel.now c.begin.new.self c.call.new.self c.args.asked (Some c.in-Err-Denied.denied) c.denial_line.result c.begin.ensures
+    called

@@ -19,28 +19,24 @@ births-preserved-in_default g t c =
 
 pub returns-then-numbers-eq-MOST_NUMBERS : goal.returns-then-numbers-eq-MOST_NUMBERS
 returns-then-numbers-eq-MOST_NUMBERS g t c =
-    let accounts = c.args.users.now in
     let s = state c.args.kernel.now in
-    let me = c.args.found.now.name in
-    let home = c.args.found.now.home in
-    let node = c.in_ok-node.node in
-    after_node accounts s me home node c.in_ok-node.ensures c.args.processes.now.items c.push.new.self.items
+    after_node c.args.users.now s c.args.found.now.name c.args.found.now.home c.in_ok-node.node c.in_ok-node.ensures c.args.processes.now.items
+    c.push.new.self.items
     c.births.processes.items c.in_ok-push.ensures.items (Err NoProcess)
-    (no_level_more accounts s me home.segment node.born c.births.births c.push.new.self.items c.births.processes.items
+    (no_level_more c.args.users.now s c.args.found.now.name c.args.found.now.home.segment c.in_ok-node.node.born c.births.births c.push.new.self.items
+    c.births.processes.items
     c.births.processes.items c.births-test.true c.births.invariant c.in-Some.child
     (sym c.child_of.ensures ∙ c.in-Some.is)
     (sym (ap length c.numbers.ensures.value) ∙ c.if-numbers-eq-MOST_NUMBERS.true))
 
 pub returns-in_err-push_process : goal.returns-in_err-push_process
 returns-in_err-push_process g t c =
-    let accounts = c.args.users.now in
     let s = state c.args.kernel.now in
-    let me = c.args.found.now.name in
-    let home = c.args.found.now.home in
-    let node = c.in_ok-node.node in
-    after_node accounts s me home node c.in_ok-node.ensures c.args.processes.now.items c.push.new.self.items
+    after_node c.args.users.now s c.args.found.now.name c.args.found.now.home c.in_ok-node.node c.in_ok-node.ensures c.args.processes.now.items
+    c.push.new.self.items
     c.push_process.new.processes.items c.in_ok-push.ensures.items c.from_residual-in_err-push_process.result
-    (fails_below accounts s me home.segment node.born c.births.births c.push.new.self.items c.births.processes.items
+    (fails_below c.args.users.now s c.args.found.now.name c.args.found.now.home.segment c.in_ok-node.node.born c.births.births c.push.new.self.items
+    c.births.processes.items
     c.push_process.new.processes.items c.births-test.true c.births.invariant c.in-Some.child
     (sym c.child_of.ensures ∙ c.in-Some.is)
     c.requires (λ e. c.if-numbers-eq-MOST_NUMBERS.false (ap length c.numbers.ensures.value ∙ e)) c.child.result
@@ -60,12 +56,10 @@ births-preserved g t c =
 
 pub returns : goal.returns
 returns g t c =
-    let accounts = c.args.users.now in
     let s = state c.args.kernel.now in
-    let me = c.args.found.now.name in
-    let home = c.args.found.now.home in
-    let node = c.in_ok-node.node in
-    let last : c.births.births ≡ node.born = omega arith in
-    after_node accounts s me home node c.in_ok-node.ensures c.args.processes.now.items c.push.new.self.items
+    let last : c.births.births ≡ c.in_ok-node.node.born = omega arith in
+    after_node c.args.users.now s c.args.found.now.name c.args.found.now.home c.in_ok-node.node c.in_ok-node.ensures c.args.processes.now.items
+    c.push.new.self.items
     c.births.processes.items c.in_ok-push.ensures.items (Ok tt)
-    (adds_all accounts s me home.segment node.born c.births.births c.push.new.self.items c.births.processes.items last c.births.invariant)
+    (adds_all c.args.users.now s c.args.found.now.name c.args.found.now.home.segment c.in_ok-node.node.born c.births.births c.push.new.self.items
+    c.births.processes.items last c.births.invariant)

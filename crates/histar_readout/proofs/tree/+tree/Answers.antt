@@ -30,19 +30,17 @@ push_below-entries-init g t c =
 
 pub push_below-returns-then-depth-eq-MOST_NAMES : goal.push_below-returns-then-depth-eq-MOST_NAMES
 push_below-returns-then-depth-eq-MOST_NAMES g t c =
-    let items = c.deref-entry-items.result.now in
-    let turn = next_left items c.entries.entry-index c.entry-item.result (omega arith) c.entry-item.is in
+    let turn = next_left c.deref-entry-items.result.now c.entries.entry-index c.entry-item.result (omega arith) c.entry-item.is in
     no_level_more c.args.source.now.users.now (state c.args.source.now.kernel.now) c.args.path.now c.args.listing
-    (drop c.entries.entry-index items) (drop (c.entries.entry-index + 1) items) c.entry-item.result
+    (drop c.entries.entry-index c.deref-entry-items.result.now) (drop (c.entries.entry-index + 1) c.deref-entry-items.result.now) c.entry-item.result
     c.args.tree.now.items c.entries.tree.items turn c.entries.invariant
     (sym c.depth.ensures.value ∙ c.if-depth-eq-MOST_NAMES.true)
 
 pub push_below-entries-preserved : goal.push_below-entries-preserved
 push_below-entries-preserved g t c =
-    let items = c.deref-entry-items.result.now in
-    let turn = next_left items c.entries.entry-index c.entry-item.result (omega arith) c.entry-item.is in
+    let turn = next_left c.deref-entry-items.result.now c.entries.entry-index c.entry-item.result (omega arith) c.entry-item.is in
     entry_more c.args.source.now.users.now (state c.args.source.now.kernel.now) c.args.path.now c.args.listing
-    (drop c.entries.entry-index items) (drop (c.entries.entry-index + 1) items) c.entry-item.result
+    (drop c.entries.entry-index c.deref-entry-items.result.now) (drop (c.entries.entry-index + 1) c.deref-entry-items.result.now) c.entry-item.result
     c.args.tree.now.items c.entries.tree.items _ turn c.entries.invariant
     c.requires (λ e. c.if-depth-eq-MOST_NAMES.false (c.depth.ensures.value ∙ e))
     (subst (λ (q : Path).
@@ -51,13 +49,12 @@ push_below-entries-preserved g t c =
 
 pub push_below-returns-in_err-push_tree : goal.push_below-returns-in_err-push_tree
 push_below-returns-in_err-push_tree g t c =
-    let items = c.deref-entry-items.result.now in
-    let turn = next_left items c.entries.entry-index c.entry-item.result (omega arith) c.entry-item.is in
+    let turn = next_left c.deref-entry-items.result.now c.entries.entry-index c.entry-item.result (omega arith) c.entry-item.is in
     fails_below c.args.source.now.users.now (state c.args.source.now.kernel.now) c.args.path.now c.args.listing c.args.tree.now.items
     c.push_tree.new.tree.items c.in_err-push_tree.field-0.0 c.from_residual-in_err-push_tree.result
     c.from_residual-in_err-push_tree.ensures.1
     (no_entry_more c.args.source.now.users.now (state c.args.source.now.kernel.now) c.args.path.now c.args.listing
-    (drop c.entries.entry-index items) (drop (c.entries.entry-index + 1) items) c.entry-item.result
+    (drop c.entries.entry-index c.deref-entry-items.result.now) (drop (c.entries.entry-index + 1) c.deref-entry-items.result.now) c.entry-item.result
     c.args.tree.now.items c.entries.tree.items c.push_tree.new.tree.items c.in_err-push_tree.field-0.0 turn
     c.entries.invariant
     c.requires (λ e. c.if-depth-eq-MOST_NAMES.false (c.depth.ensures.value ∙ e))
@@ -68,10 +65,9 @@ push_below-returns-in_err-push_tree g t c =
 
 pub push_below-returns : goal.push_below-returns
 push_below-returns g t c =
-    let items = c.deref-entry-items.result.now in
     entries_all c.args.source.now.users.now (state c.args.source.now.kernel.now) c.args.path.now c.args.listing
-    (drop c.entries.entry-index items) c.args.tree.now.items c.entries.tree.items
-    (none_left items c.entries.entry-index (omega arith)) c.entries.invariant
+    (drop c.entries.entry-index c.deref-entry-items.result.now) c.args.tree.now.items c.entries.tree.items
+    (none_left c.deref-entry-items.result.now c.entries.entry-index (omega arith)) c.entries.invariant
 
 pub push_tree-returns-in-Directory : goal.push_tree-returns-in-Directory
 push_tree-returns-in-Directory g t c =

@@ -30,24 +30,20 @@ below_raised-requires-clause-upper_stands g c =
 
 pub returns-then-below_raised-clause-answer : goal.returns-then-below_raised-clause-answer
 returns-then-below_raised-clause-answer g c =
-    let found = c.in_ok-found.found in
-    let label = c.in_ok-label.label in
     read_found (g.S.LabelStore.labels c.args.store.now) c.args.table.now c.args.access.now.thread c.args.access.now.container c.args.access.now.object
-    c.in_ok-found.ensures.answer found.own found.own_clearance c.in_ok-found.ensures.thread label
+    c.in_ok-found.ensures.answer c.in_ok-found.found.own c.in_ok-found.found.own_clearance c.in_ok-found.ensures.thread c.in_ok-label.label
     c.in_ok-label.bytes.now c.below_raised.result c.in_ok-label.ensures.found
     (c.below_raised.ensures.answer
     ∙ ap (λ (labels : g.row.S-Id.Denot → Option Levels).
-    is_below_raised (label_at labels label) (label_at labels found.own)) c.in_ok-found.ensures.unchanged)
+    is_below_raised (label_at labels c.in_ok-label.label) (label_at labels c.in_ok-found.found.own)) c.in_ok-found.ensures.unchanged)
     ∙ ap (λ b. unless b Observe) c.if-below_raised.true
 
 pub returns-else-below_raised-clause-answer : goal.returns-else-below_raised-clause-answer
 returns-else-below_raised-clause-answer g c =
-    let found = c.in_ok-found.found in
-    let label = c.in_ok-label.label in
     read_found (g.S.LabelStore.labels c.args.store.now) c.args.table.now c.args.access.now.thread c.args.access.now.container c.args.access.now.object
-    c.in_ok-found.ensures.answer found.own found.own_clearance c.in_ok-found.ensures.thread label
+    c.in_ok-found.ensures.answer c.in_ok-found.found.own c.in_ok-found.found.own_clearance c.in_ok-found.ensures.thread c.in_ok-label.label
     c.in_ok-label.bytes.now c.below_raised.result c.in_ok-label.ensures.found
     (c.below_raised.ensures.answer
     ∙ ap (λ (labels : g.row.S-Id.Denot → Option Levels).
-    is_below_raised (label_at labels label) (label_at labels found.own)) c.in_ok-found.ensures.unchanged)
+    is_below_raised (label_at labels c.in_ok-label.label) (label_at labels c.in_ok-found.found.own)) c.in_ok-found.ensures.unchanged)
     ∙ ap (λ b. unless b Observe) c.if-below_raised.false

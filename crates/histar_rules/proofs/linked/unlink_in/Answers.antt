@@ -24,24 +24,22 @@ below-requires-clause-upper_stands g c =
 
 pub returns-then-below-clause-answer : goal.returns-then-below-clause-answer
 returns-then-below-clause-answer g c =
-    let found = c.in_ok-found.found in
     unlink_found (g.S.LabelStore.labels c.args.store.now) c.args.table.now c.args.access.now.thread c.args.access.now.container
     c.args.access.now.object
-    c.in_ok-found.ensures.answer found.own found.own_clearance c.in_ok-found.ensures.thread found.label
-    found.links.now c.below.result c.in_ok-found.ensures.container
+    c.in_ok-found.ensures.answer c.in_ok-found.found.own c.in_ok-found.found.own_clearance c.in_ok-found.ensures.thread c.in_ok-found.found.label
+    c.in_ok-found.found.links.now c.below.result c.in_ok-found.ensures.container
     (c.below.ensures.answer
     ∙ ap (λ (labels : g.row.S-Id.Denot → Option Levels).
-    is_below (label_at labels found.own) (label_at labels found.label)) c.in_ok-found.ensures.unchanged)
+    is_below (label_at labels c.in_ok-found.found.own) (label_at labels c.in_ok-found.found.label)) c.in_ok-found.ensures.unchanged)
     ∙ ap (λ b. unless b Modify) c.if-below.true
 
 pub returns-else-below-clause-answer : goal.returns-else-below-clause-answer
 returns-else-below-clause-answer g c =
-    let found = c.in_ok-found.found in
     unlink_found (g.S.LabelStore.labels c.args.store.now) c.args.table.now c.args.access.now.thread c.args.access.now.container
     c.args.access.now.object
-    c.in_ok-found.ensures.answer found.own found.own_clearance c.in_ok-found.ensures.thread found.label
-    found.links.now c.below.result c.in_ok-found.ensures.container
+    c.in_ok-found.ensures.answer c.in_ok-found.found.own c.in_ok-found.found.own_clearance c.in_ok-found.ensures.thread c.in_ok-found.found.label
+    c.in_ok-found.found.links.now c.below.result c.in_ok-found.ensures.container
     (c.below.ensures.answer
     ∙ ap (λ (labels : g.row.S-Id.Denot → Option Levels).
-    is_below (label_at labels found.own) (label_at labels found.label)) c.in_ok-found.ensures.unchanged)
+    is_below (label_at labels c.in_ok-found.found.own) (label_at labels c.in_ok-found.found.label)) c.in_ok-found.ensures.unchanged)
     ∙ ap (λ b. unless b Modify) c.if-below.false

@@ -10,18 +10,16 @@ returns-in_err-found-clause-answer g c = behind_refusal _ _ _ c.from_residual.re
 
 pub returns-then-contains-clause-answer : goal.returns-then-contains-clause-answer
 returns-then-contains-clause-answer g c =
-    let found = c.in_ok-found.found in
     linking_found (g.S.LabelStore.labels c.args.store.now) c.args.table.now c.args.access.now.thread c.args.access.now.container
     c.args.access.now.object
-    found.label found.links.now c.contains.result c.in_ok-found.ensures.answer c.in_ok-found.ensures.container
+    c.in_ok-found.found.label c.in_ok-found.found.links.now c.contains.result c.in_ok-found.ensures.answer c.in_ok-found.ensures.container
     c.contains.ensures
     ∙ ap (λ b. unless b NoEntry) c.if-contains.true
 
 pub returns-else-contains-clause-answer : goal.returns-else-contains-clause-answer
 returns-else-contains-clause-answer g c =
-    let found = c.in_ok-found.found in
     linking_found (g.S.LabelStore.labels c.args.store.now) c.args.table.now c.args.access.now.thread c.args.access.now.container
     c.args.access.now.object
-    found.label found.links.now c.contains.result c.in_ok-found.ensures.answer c.in_ok-found.ensures.container
+    c.in_ok-found.found.label c.in_ok-found.found.links.now c.contains.result c.in_ok-found.ensures.answer c.in_ok-found.ensures.container
     c.contains.ensures
     ∙ ap (λ b. unless b NoEntry) c.if-contains.false

@@ -14,36 +14,32 @@ returns-in_err-found-clause-answer g c = behind_refusal _ _ _ c.from_residual.re
 
 pub below-requires-clause-lower_stands : goal.below-requires-clause-lower_stands
 below-requires-clause-lower_stands g c =
-    let found = c.in_ok-found.found in
-    subst (λ (labels : g.row.S-Id.Denot → Option Levels). IsSome (labels found.own)) (sym c.in_ok-found.ensures.unchanged)
+    subst (λ (labels : g.row.S-Id.Denot → Option Levels). IsSome (labels c.in_ok-found.found.own)) (sym c.in_ok-found.ensures.unchanged)
     (label_stands (g.S.LabelStore.labels c.args.store.now) c.args.table.now c.requires c.args.maker.now.thread
-    (thread_of found.own found.own_clearance) c.in_ok-found.ensures.thread)
+    (thread_of c.in_ok-found.found.own c.in_ok-found.found.own_clearance) c.in_ok-found.ensures.thread)
 
 pub below-requires-clause-upper_stands : goal.below-requires-clause-upper_stands
 below-requires-clause-upper_stands g c =
-    let found = c.in_ok-found.found in
-    subst (λ (labels : g.row.S-Id.Denot → Option Levels). IsSome (labels found.label)) (sym c.in_ok-found.ensures.unchanged)
+    subst (λ (labels : g.row.S-Id.Denot → Option Levels). IsSome (labels c.in_ok-found.found.label)) (sym c.in_ok-found.ensures.unchanged)
     (label_stands (g.S.LabelStore.labels c.args.store.now) c.args.table.now c.requires c.args.maker.now.container
-    (container_of found.label found.links.now) c.in_ok-found.ensures.container)
+    (container_of c.in_ok-found.found.label c.in_ok-found.found.links.now) c.in_ok-found.ensures.container)
 
 pub returns-then-below-clause-answer : goal.returns-then-below-clause-answer
 returns-then-below-clause-answer g c =
-    let found = c.in_ok-found.found in
-    making_found (g.S.LabelStore.labels c.args.store.now) c.args.table.now c.args.maker.now.thread c.args.maker.now.container found.own
-    found.own_clearance found.label found.links.now c.below.result c.in_ok-found.ensures.answer
+    making_found (g.S.LabelStore.labels c.args.store.now) c.args.table.now c.args.maker.now.thread c.args.maker.now.container c.in_ok-found.found.own
+    c.in_ok-found.found.own_clearance c.in_ok-found.found.label c.in_ok-found.found.links.now c.below.result c.in_ok-found.ensures.answer
     c.in_ok-found.ensures.thread c.in_ok-found.ensures.container
     (c.below.ensures.answer
     ∙ ap (λ (labels : g.row.S-Id.Denot → Option Levels).
-    is_below (label_at labels found.own) (label_at labels found.label)) c.in_ok-found.ensures.unchanged)
+    is_below (label_at labels c.in_ok-found.found.own) (label_at labels c.in_ok-found.found.label)) c.in_ok-found.ensures.unchanged)
     ∙ ap (λ b. unless b Modify) c.if-below.true
 
 pub returns-else-below-clause-answer : goal.returns-else-below-clause-answer
 returns-else-below-clause-answer g c =
-    let found = c.in_ok-found.found in
-    making_found (g.S.LabelStore.labels c.args.store.now) c.args.table.now c.args.maker.now.thread c.args.maker.now.container found.own
-    found.own_clearance found.label found.links.now c.below.result c.in_ok-found.ensures.answer
+    making_found (g.S.LabelStore.labels c.args.store.now) c.args.table.now c.args.maker.now.thread c.args.maker.now.container c.in_ok-found.found.own
+    c.in_ok-found.found.own_clearance c.in_ok-found.found.label c.in_ok-found.found.links.now c.below.result c.in_ok-found.ensures.answer
     c.in_ok-found.ensures.thread c.in_ok-found.ensures.container
     (c.below.ensures.answer
     ∙ ap (λ (labels : g.row.S-Id.Denot → Option Levels).
-    is_below (label_at labels found.own) (label_at labels found.label)) c.in_ok-found.ensures.unchanged)
+    is_below (label_at labels c.in_ok-found.found.own) (label_at labels c.in_ok-found.found.label)) c.in_ok-found.ensures.unchanged)
     ∙ ap (λ b. unless b Modify) c.if-below.false

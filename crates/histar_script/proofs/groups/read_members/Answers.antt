@@ -15,27 +15,25 @@ returns-in_default-clause-names c =
 
 pub returns-in-None-clause-names : goal.returns-in-None-clause-names
 returns-in-None-clause-names c =
-    let name = c.in-Some.name in
-    let is : user_name_of (split_word c.loop.rest.now).0 ≡ Some name =
+    let is : user_name_of (split_word c.loop.rest.now).0 ≡ Some c.in-Some.name =
     ap user_name_of (sym c.split_word.ensures.word) ∙ sym c.read_user_name.ensures ∙ c.in-Some.is in
     let end : (split_word c.loop.rest.now).1 ≡ None = sym c.split_word.ensures.rest ∙ ap option_copied c.in-None.is in
     let left : 0 < 16 - c.loop.counter = omega (arith, c.loop-test.true) in
     ap (λ members. Some members) c.in_ok-push.ensures.items
-    ∙ sym (last_member (16 - c.loop.counter) c.loop.members.items c.loop.rest.now name left is end)
+    ∙ sym (last_member (16 - c.loop.counter) c.loop.members.items c.loop.rest.now c.in-Some.name left is end)
     ∙ c.loop.invariant.so_far
 
 pub loop-preserved : goal.loop-preserved
 loop-preserved c =
-    let name = c.in-Some.name in
     let names = c.in-Some-after.names.now in
-    let is : user_name_of (split_word c.loop.rest.now).0 ≡ Some name =
+    let is : user_name_of (split_word c.loop.rest.now).0 ≡ Some c.in-Some.name =
     ap user_name_of (sym c.split_word.ensures.word) ∙ sym c.read_user_name.ensures ∙ c.in-Some.is in
     let on : (split_word c.loop.rest.now).1 ≡ Some names = sym c.split_word.ensures.rest ∙ ap option_copied c.in-Some-after.is in
     let left : 0 < 16 - c.loop.counter = omega (arith, c.loop-test.true) in
     let less : 16 - (c.loop.counter + 1) ≡ 16 - c.loop.counter - 1 = omega arith in
     rw (c.in_ok-push.ensures.items, less) (record {
-      so_far = sym (next_member (16 - c.loop.counter) c.loop.members.items c.loop.rest.now names name left is on) ∙ c.loop.invariant.so_far;
-      counted = length-append c.loop.members.items (name ∷ []) ∙ ap (λ n. n + 1) c.loop.invariant.counted;
+      so_far = sym (next_member (16 - c.loop.counter) c.loop.members.items c.loop.rest.now names c.in-Some.name left is on) ∙ c.loop.invariant.so_far;
+      counted = length-append c.loop.members.items (c.in-Some.name ∷ []) ∙ ap (λ n. n + 1) c.loop.invariant.counted;
     })
 
 pub returns-clause-names : goal.returns-clause-names

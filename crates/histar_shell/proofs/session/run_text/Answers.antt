@@ -35,19 +35,17 @@ returns-in-Err-clause-reads g c = no_read_failed c.in-Err.fault c.in-Err.ensures
 
 pub returns-in-Err-clause-runs : goal.returns-in-Err-clause-runs
 returns-in-Err-clause-runs g c =
-    let given = c.in_ok-script.ensures.exact in
     let starts = starts_with c.args.options c.in-Ok.machine c.in_ok-script.script _ c.into_parts-accounts.ensures.accounts c.in-Ok.ensures.starts in
     let begun =
     begins_script c.args.options _ _ c.in_ok-script.script c.in-Ok.machine _ starts
-    c.into_parts-accounts.ensures.calls c.in-Err.ensures.err _ given in
+    c.into_parts-accounts.ensures.calls c.in-Err.ensures.err _ c.in_ok-script.ensures.exact in
     begun_text c.args.options calls_refine c.args.text.items _ _ c.in-Err.fault
-    c.in_ok-script.script given c.in-Err.ensures.faults begun
+    c.in_ok-script.script c.in_ok-script.ensures.exact c.in-Err.ensures.faults begun
 
 pub returns-in-Ok-answer_all-clause-runs : goal.returns-in-Ok-answer_all-clause-runs
 returns-in-Ok-answer_all-clause-runs g c =
-    let given = c.in_ok-script.ensures.exact in
     let starts = starts_with c.args.options c.in-Ok.machine c.in_ok-script.script _ c.into_parts-accounts.ensures.accounts c.in-Ok.ensures.starts in
     let answers =
     answers_script c.args.options _ _ c.in_ok-script.script c.in-Ok.machine c.answer_all.new.machine _ _ starts
-    c.into_parts-accounts.ensures.calls c.in-Ok-answer_all.ensures.ok c.leak_into_trace.ensures.trace _ given in
-    answered_text c.args.options calls_refine c.args.text.items _ _ _ c.in_ok-script.script given answers
+    c.into_parts-accounts.ensures.calls c.in-Ok-answer_all.ensures.ok c.leak_into_trace.ensures.trace _ c.in_ok-script.ensures.exact in
+    answered_text c.args.options calls_refine c.args.text.items _ _ _ c.in_ok-script.script c.in_ok-script.ensures.exact answers

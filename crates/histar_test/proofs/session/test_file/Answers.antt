@@ -22,14 +22,13 @@ returns-in_err-outcome-clause-err g c =
     let p = err_from_is_err_and c.from_residual-in_err-outcome.result c.from_residual-in_err-outcome.ensures.1 in
     let old = g.W.Sink.written c.args.writer.now in
     let new = g.W.Sink.written c.take_steps-outcome.new.writer in
-    let parts = c.into_parts-accounts.ensures in
     let begun =
     test_begun old new c.as_slice.result.now
     c.into_parts-accounts.result.1.items c.in_ok-run.ensures.ok (rw c.in_err-outcome.was at c.take_steps-outcome.ensures.err) in
     rw p.1
     (subst (λ (t : List ℕ × (Accounts × List Step)).
     AppendsFront old new (checks_text t.0 (c.args.tally.count + 1) (checks_from t.1.0 (boot t.1.0) None t.1.1)))
-    (λ i. (c.as_slice.ensures i, (parts.accounts i, parts.steps i))) begun)
+    (λ i. (c.as_slice.ensures i, (c.into_parts-accounts.ensures.accounts i, c.into_parts-accounts.ensures.steps i))) begun)
 
 pub returns-in_err-outcome-clause-count : goal.returns-in_err-outcome-clause-count
 returns-in_err-outcome-clause-count g c =
@@ -45,19 +44,17 @@ pub returns-clause-ok : goal.returns-clause-ok
 returns-clause-ok g c =
     let old = g.W.Sink.written c.args.writer.now in
     let new = g.W.Sink.written c.take_steps-outcome.new.writer in
-    let parts = c.into_parts-accounts.ensures in
     let taken = test_taken old new c.as_slice.result.now c.into_parts-accounts.result.1.items c.in_ok-run.ensures.ok
     (rw c.in_ok-outcome.was at c.take_steps-outcome.ensures.ok) in
     subst (λ (t : List ℕ × (Accounts × List Step)).
     Appends old new (checks_text t.0 (c.args.tally.count + 1) (checks_from t.1.0 (boot t.1.0) None t.1.1)))
-    (λ i. (c.as_slice.ensures i, (parts.accounts i, parts.steps i))) taken.0
+    (λ i. (c.as_slice.ensures i, (c.into_parts-accounts.ensures.accounts i, c.into_parts-accounts.ensures.steps i))) taken.0
 
 pub returns-clause-tally : goal.returns-clause-tally
 returns-clause-tally g c =
     let old = g.W.Sink.written c.args.writer.now in
     let new = g.W.Sink.written c.take_steps-outcome.new.writer in
-    let parts = c.into_parts-accounts.ensures in
     let taken = test_taken old new c.as_slice.result.now c.into_parts-accounts.result.1.items c.in_ok-run.ensures.ok
     (rw c.in_ok-outcome.was at c.take_steps-outcome.ensures.ok) in
     subst (λ (t : Accounts × List Step). c.finish-after.result ≡ tally_with c.args.tally (checks_from t.0 (boot t.0) None t.1))
-    (λ i. (parts.accounts i, parts.steps i)) (c.finish-after.ensures ∙ taken.1)
+    (λ i. (c.into_parts-accounts.ensures.accounts i, c.into_parts-accounts.ensures.steps i)) (c.finish-after.ensures ∙ taken.1)

@@ -47,18 +47,18 @@ returns-in_err-write_bytes-clause-writes g c =
 pub returns-in_err-write_bytes-clause-runs : goal.returns-in_err-write_bytes-clause-runs
 returns-in_err-write_bytes-clause-runs g c =
     let p = err_from_is_err_and c.from_residual-in_err-write_bytes.result c.from_residual-in_err-write_bytes.ensures.1 in
-    let is = c.in_ok-machine.ensures in
-    let shown : c.as_slice.result.now ≡ secrets_after is.script =
+    let shown : c.as_slice.result.now ≡ secrets_after c.in_ok-machine.ensures.script =
     c.as_slice.ensures.value
-    ∙ (rw c.in_ok-lines.was at c.secret_lines-shown.ensures) is.script.accounts (state_before None is.script)
-    (shows_reached None c.args.text.now c.in_ok-machine.machine is) in
+    ∙ (rw c.in_ok-lines.was at c.secret_lines-shown.ensures) c.in_ok-machine.ensures.script.accounts
+    (state_before None c.in_ok-machine.ensures.script)
+    (shows_reached None c.args.text.now c.in_ok-machine.machine c.in_ok-machine.ensures) in
     rw (p.1, p.2) (begun_text secrets_after c.in_ok-machine.ensures _ shown _ _ c.in_err-write_bytes.ensures.err)
 
 pub returns-clause-runs : goal.returns-clause-runs
 returns-clause-runs g c =
-    let is = c.in_ok-machine.ensures in
-    let shown : c.as_slice.result.now ≡ secrets_after is.script =
+    let shown : c.as_slice.result.now ≡ secrets_after c.in_ok-machine.ensures.script =
     c.as_slice.ensures.value
-    ∙ (rw c.in_ok-lines.was at c.secret_lines-shown.ensures) is.script.accounts (state_before None is.script)
-    (shows_reached None c.args.text.now c.in_ok-machine.machine is) in
+    ∙ (rw c.in_ok-lines.was at c.secret_lines-shown.ensures) c.in_ok-machine.ensures.script.accounts
+    (state_before None c.in_ok-machine.ensures.script)
+    (shows_reached None c.args.text.now c.in_ok-machine.machine c.in_ok-machine.ensures) in
     written_text secrets_after c.in_ok-machine.ensures _ shown _ _ c.in_ok-write_bytes.ensures.ok

@@ -11,69 +11,56 @@ use Rattle.histar_wrap.proofs.scratch.hold_job.Goals as goal
 
 pub returns-in_err-label : goal.returns-in_err-label
 returns-in_err-label g c =
-    let t = c.args.wrapper.now.thread in
-    let old = c.args.kernel.now in
-    let own = c.args.wrapper.now.own in
-    let own_clearance = c.args.wrapper.now.clearance in
-    let job = c.args.job in
-    fails_so t (hold_job (own, own_clearance) job) old old Stopped _ c.from_residual.ensures.1
-    (hold_fails t (own, own_clearance) job old old Stopped (before_ask t (SetLabel (with_level own job Star)) old))
+    fails_so c.args.wrapper.now.thread (hold_job (c.args.wrapper.now.own, c.args.wrapper.now.clearance) c.args.job) c.args.kernel.now
+    c.args.kernel.now Stopped _ c.from_residual.ensures.1
+    (hold_fails c.args.wrapper.now.thread (c.args.wrapper.now.own, c.args.wrapper.now.clearance) c.args.job c.args.kernel.now c.args.kernel.now
+    Stopped (before_ask c.args.wrapper.now.thread (SetLabel (with_level c.args.wrapper.now.own c.args.job Star)) c.args.kernel.now))
 
 pub returns-in_err-set_label : goal.returns-in_err-set_label
 returns-in_err-set_label g c =
-    let t = c.args.wrapper.now.thread in
-    let old = c.args.kernel.now in
-    let own = c.args.wrapper.now.own in
-    let own_clearance = c.args.wrapper.now.clearance in
-    let job = c.args.job in
-    let mid = c.set_label.new.self in
-    fails_so t (hold_job (own, own_clearance) job) old mid _ _ c.from_residual-in_err-set_label.ensures.1
-    (hold_fails t (own, own_clearance) job old mid _
-    (label_so t old mid _ (with_level own job Star) c.in_ok-label.ensures.value _
-    (refuses t (SetLabel c.in_ok-label.label) old mid _ c.in_err-set_label.field-0.0 c.in_err-set_label.ensures)))
+    fails_so c.args.wrapper.now.thread (hold_job (c.args.wrapper.now.own, c.args.wrapper.now.clearance) c.args.job) c.args.kernel.now
+    c.set_label.new.self _ _ c.from_residual-in_err-set_label.ensures.1
+    (hold_fails c.args.wrapper.now.thread (c.args.wrapper.now.own, c.args.wrapper.now.clearance) c.args.job c.args.kernel.now c.set_label.new.self _
+    (label_so c.args.wrapper.now.thread c.args.kernel.now c.set_label.new.self _ (with_level c.args.wrapper.now.own c.args.job Star)
+    c.in_ok-label.ensures.value _
+    (refuses c.args.wrapper.now.thread (SetLabel c.in_ok-label.label) c.args.kernel.now c.set_label.new.self _ c.in_err-set_label.field-0.0
+    c.in_err-set_label.ensures)))
 
 pub returns-in_err-clearance : goal.returns-in_err-clearance
 returns-in_err-clearance g c =
-    let t = c.args.wrapper.now.thread in
-    let old = c.args.kernel.now in
-    let own = c.args.wrapper.now.own in
-    let own_clearance = c.args.wrapper.now.clearance in
-    let job = c.args.job in
-    let mid = c.set_label.new.self in
-    fails_so t (hold_job (own, own_clearance) job) old mid Stopped _ c.from_residual-in_err-clearance.ensures.1
-    (hold_then t (own, own_clearance) job old mid mid
-    (label_so t old mid _ (with_level own job Star) c.in_ok-label.ensures.value _
-    (grants t (SetLabel c.in_ok-label.label) old mid tt c.in_ok-set_label.ensures.0 tt)) (Err Stopped)
-    (before_ask t (SetClearance (with_level own_clearance job L3)) mid))
+    fails_so c.args.wrapper.now.thread (hold_job (c.args.wrapper.now.own, c.args.wrapper.now.clearance) c.args.job) c.args.kernel.now
+    c.set_label.new.self Stopped _ c.from_residual-in_err-clearance.ensures.1
+    (hold_then c.args.wrapper.now.thread (c.args.wrapper.now.own, c.args.wrapper.now.clearance) c.args.job c.args.kernel.now c.set_label.new.self
+    c.set_label.new.self
+    (label_so c.args.wrapper.now.thread c.args.kernel.now c.set_label.new.self _ (with_level c.args.wrapper.now.own c.args.job Star)
+    c.in_ok-label.ensures.value _
+    (grants c.args.wrapper.now.thread (SetLabel c.in_ok-label.label) c.args.kernel.now c.set_label.new.self tt c.in_ok-set_label.ensures.0 tt))
+    (Err Stopped)
+    (before_ask c.args.wrapper.now.thread (SetClearance (with_level c.args.wrapper.now.clearance c.args.job L3)) c.set_label.new.self))
 
 pub returns-in_err-set_clearance : goal.returns-in_err-set_clearance
 returns-in_err-set_clearance g c =
-    let t = c.args.wrapper.now.thread in
-    let old = c.args.kernel.now in
-    let own = c.args.wrapper.now.own in
-    let own_clearance = c.args.wrapper.now.clearance in
-    let job = c.args.job in
-    let mid = c.set_label.new.self in
-    let end = c.set_clearance.new.self in
-    fails_so t (hold_job (own, own_clearance) job) old end _ _ c.from_residual-in_err-set_clearance.ensures.1
-    (hold_then t (own, own_clearance) job old end mid
-    (label_so t old mid _ (with_level own job Star) c.in_ok-label.ensures.value _
-    (grants t (SetLabel c.in_ok-label.label) old mid tt c.in_ok-set_label.ensures.0 tt)) _
-    (clearance_so t mid end _ (with_level own_clearance job L3) c.in_ok-clearance.ensures.value _
-    (refuses t (SetClearance c.in_ok-clearance.clearance) mid end _ c.in_err-set_clearance.field-0.0
+    fails_so c.args.wrapper.now.thread (hold_job (c.args.wrapper.now.own, c.args.wrapper.now.clearance) c.args.job) c.args.kernel.now
+    c.set_clearance.new.self _ _ c.from_residual-in_err-set_clearance.ensures.1
+    (hold_then c.args.wrapper.now.thread (c.args.wrapper.now.own, c.args.wrapper.now.clearance) c.args.job c.args.kernel.now c.set_clearance.new.self
+    c.set_label.new.self
+    (label_so c.args.wrapper.now.thread c.args.kernel.now c.set_label.new.self _ (with_level c.args.wrapper.now.own c.args.job Star)
+    c.in_ok-label.ensures.value _
+    (grants c.args.wrapper.now.thread (SetLabel c.in_ok-label.label) c.args.kernel.now c.set_label.new.self tt c.in_ok-set_label.ensures.0 tt)) _
+    (clearance_so c.args.wrapper.now.thread c.set_label.new.self c.set_clearance.new.self _ (with_level c.args.wrapper.now.clearance c.args.job L3)
+    c.in_ok-clearance.ensures.value _
+    (refuses c.args.wrapper.now.thread (SetClearance c.in_ok-clearance.clearance) c.set_label.new.self c.set_clearance.new.self _
+    c.in_err-set_clearance.field-0.0
     c.in_err-set_clearance.ensures)))
 
 pub returns : goal.returns
 returns g c =
-    let t = c.args.wrapper.now.thread in
-    let old = c.args.kernel.now in
-    let own = c.args.wrapper.now.own in
-    let own_clearance = c.args.wrapper.now.clearance in
-    let job = c.args.job in
-    let mid = c.set_label.new.self in
-    let end = c.set_clearance.new.self in
-    hold_then t (own, own_clearance) job old end mid
-    (label_so t old mid _ (with_level own job Star) c.in_ok-label.ensures.value _
-    (grants t (SetLabel c.in_ok-label.label) old mid tt c.in_ok-set_label.ensures.0 tt)) _
-    (clearance_so t mid end _ (with_level own_clearance job L3) c.in_ok-clearance.ensures.value _
-    (grants t (SetClearance c.in_ok-clearance.clearance) mid end tt c.in_ok-set_clearance.ensures.0 tt))
+    hold_then c.args.wrapper.now.thread (c.args.wrapper.now.own, c.args.wrapper.now.clearance) c.args.job c.args.kernel.now c.set_clearance.new.self
+    c.set_label.new.self
+    (label_so c.args.wrapper.now.thread c.args.kernel.now c.set_label.new.self _ (with_level c.args.wrapper.now.own c.args.job Star)
+    c.in_ok-label.ensures.value _
+    (grants c.args.wrapper.now.thread (SetLabel c.in_ok-label.label) c.args.kernel.now c.set_label.new.self tt c.in_ok-set_label.ensures.0 tt)) _
+    (clearance_so c.args.wrapper.now.thread c.set_label.new.self c.set_clearance.new.self _ (with_level c.args.wrapper.now.clearance c.args.job L3)
+    c.in_ok-clearance.ensures.value _
+    (grants c.args.wrapper.now.thread (SetClearance c.in_ok-clearance.clearance) c.set_label.new.self c.set_clearance.new.self tt
+    c.in_ok-set_clearance.ensures.0 tt))

@@ -20,30 +20,21 @@ returns-in_default-clause-runs g c =
 
 pub returns-in_err-restore-clause-runs : goal.returns-in_err-restore-clause-runs
 returns-in_err-restore-clause-runs g c =
-    let t = c.args.wrapper.now.thread in
     let call = MakeContainer c.args.above c.args.label in
-    let own = c.args.wrapper.now.own in
-    let own_clearance = c.args.wrapper.now.clearance in
-    let old = c.args.kernel.now in
-    let mid = c.make_container.new.self in
-    let end = c.restore.new.kernel in
-    let errno = c.in-Refused.errno in
     let call_error = c.in_err-restore.field-0.0 in
-    fails_so t (ask_or_give_back (own, own_clearance) call) old end call_error _ c.from_residual.ensures.1
-    (gives_back_not t old end (own, own_clearance) ℕ (ask_or_give_back (own, own_clearance) call) mid errno
-    (leads_back t call old mid (own, own_clearance) _ c.in-Err.refusal errno c.in-Err.ensures
+    fails_so c.args.wrapper.now.thread (ask_or_give_back (c.args.wrapper.now.own, c.args.wrapper.now.clearance) call) c.args.kernel.now
+    c.restore.new.kernel call_error _ c.from_residual.ensures.1
+    (gives_back_not c.args.wrapper.now.thread c.args.kernel.now c.restore.new.kernel (c.args.wrapper.now.own, c.args.wrapper.now.clearance) ℕ
+    (ask_or_give_back (c.args.wrapper.now.own, c.args.wrapper.now.clearance) call) c.make_container.new.self c.in-Refused.errno
+    (leads_back c.args.wrapper.now.thread call c.args.kernel.now c.make_container.new.self (c.args.wrapper.now.own, c.args.wrapper.now.clearance) _
+    c.in-Err.refusal c.in-Refused.errno c.in-Err.ensures
     (sym c.in-Refused.ensures)) call_error c.in_err-restore.ensures)
 
 pub returns-clause-runs : goal.returns-clause-runs
 returns-clause-runs g c =
-    let t = c.args.wrapper.now.thread in
     let call = MakeContainer c.args.above c.args.label in
-    let own = c.args.wrapper.now.own in
-    let own_clearance = c.args.wrapper.now.clearance in
-    let old = c.args.kernel.now in
-    let mid = c.make_container.new.self in
-    let end = c.restore.new.kernel in
-    let errno = c.in-Refused.errno in
-    gives_back t old end (own, own_clearance) ℕ (ask_or_give_back (own, own_clearance) call) mid errno
-    (leads_back t call old mid (own, own_clearance) _ c.in-Err.refusal errno c.in-Err.ensures
+    gives_back c.args.wrapper.now.thread c.args.kernel.now c.restore.new.kernel (c.args.wrapper.now.own, c.args.wrapper.now.clearance) ℕ
+    (ask_or_give_back (c.args.wrapper.now.own, c.args.wrapper.now.clearance) call) c.make_container.new.self c.in-Refused.errno
+    (leads_back c.args.wrapper.now.thread call c.args.kernel.now c.make_container.new.self (c.args.wrapper.now.own, c.args.wrapper.now.clearance) _
+    c.in-Err.refusal c.in-Refused.errno c.in-Err.ensures
     (sym c.in-Refused.ensures)) c.in_ok-restore.ensures

@@ -9,46 +9,36 @@ use Rattle.histar_wrap.proofs.scratch.restore.Goals as goal
 
 pub returns-in_err-copy : goal.returns-in_err-copy
 returns-in_err-copy g c =
-    let t = c.args.wrapper.now.thread in
-    let old = c.args.kernel.now in
-    let own = c.args.wrapper.now.own in
-    let own_clearance = c.args.wrapper.now.clearance in
-    fails_so t (restore (own, own_clearance)) old old Stopped _ c.from_residual.ensures.1
-    (label_fails t old old (own, own_clearance) Stopped (before_asking t (SetLabel own) old))
+    fails_so c.args.wrapper.now.thread (restore (c.args.wrapper.now.own, c.args.wrapper.now.clearance)) c.args.kernel.now c.args.kernel.now Stopped _
+    c.from_residual.ensures.1
+    (label_fails c.args.wrapper.now.thread c.args.kernel.now c.args.kernel.now (c.args.wrapper.now.own, c.args.wrapper.now.clearance) Stopped
+    (before_asking c.args.wrapper.now.thread (SetLabel c.args.wrapper.now.own) c.args.kernel.now))
 
 pub returns-in_err-stopping : goal.returns-in_err-stopping
 returns-in_err-stopping g c =
-    let t = c.args.wrapper.now.thread in
-    let old = c.args.kernel.now in
-    let own = c.args.wrapper.now.own in
-    let own_clearance = c.args.wrapper.now.clearance in
-    let mid = c.set_label.new.self in
     let call_error = c.in_err-stopping.field-0.0 in
-    fails_so t (restore (own, own_clearance)) old mid call_error _ c.from_residual-in_err-stopping.ensures.1
-    (label_fails t old mid (own, own_clearance) call_error (label_given t old mid _ own c.in_ok-copy.ensures
+    fails_so c.args.wrapper.now.thread (restore (c.args.wrapper.now.own, c.args.wrapper.now.clearance)) c.args.kernel.now c.set_label.new.self
+    call_error _ c.from_residual-in_err-stopping.ensures.1
+    (label_fails c.args.wrapper.now.thread c.args.kernel.now c.set_label.new.self (c.args.wrapper.now.own, c.args.wrapper.now.clearance) call_error
+    (label_given c.args.wrapper.now.thread c.args.kernel.now c.set_label.new.self _ c.args.wrapper.now.own c.in_ok-copy.ensures
     c.set_label.result c.set_label.ensures (Err call_error) c.in_err-stopping.ensures))
 
 pub returns-in_err-copy-2 : goal.returns-in_err-copy-2
 returns-in_err-copy-2 g c =
-    let t = c.args.wrapper.now.thread in
-    let old = c.args.kernel.now in
-    let own = c.args.wrapper.now.own in
-    let own_clearance = c.args.wrapper.now.clearance in
-    let mid = c.set_label.new.self in
-    fails_so t (restore (own, own_clearance)) old mid Stopped _ c.from_residual-in_err-copy-2.ensures.1
-    (label_then t old mid (own, own_clearance) mid (label_given t old mid _ own c.in_ok-copy.ensures c.set_label.result
+    fails_so c.args.wrapper.now.thread (restore (c.args.wrapper.now.own, c.args.wrapper.now.clearance)) c.args.kernel.now c.set_label.new.self Stopped
+    _ c.from_residual-in_err-copy-2.ensures.1
+    (label_then c.args.wrapper.now.thread c.args.kernel.now c.set_label.new.self (c.args.wrapper.now.own, c.args.wrapper.now.clearance)
+    c.set_label.new.self (label_given c.args.wrapper.now.thread c.args.kernel.now c.set_label.new.self _ c.args.wrapper.now.own c.in_ok-copy.ensures
+    c.set_label.result
     c.set_label.ensures (Ok tt) c.in_ok-stopping.ensures) (Err Stopped)
-    (before_asking t (SetClearance own_clearance) mid))
+    (before_asking c.args.wrapper.now.thread (SetClearance c.args.wrapper.now.clearance) c.set_label.new.self))
 
 pub returns : goal.returns
 returns g c =
-    let t = c.args.wrapper.now.thread in
-    let old = c.args.kernel.now in
-    let own = c.args.wrapper.now.own in
-    let own_clearance = c.args.wrapper.now.clearance in
-    let mid = c.set_label.new.self in
     let end = c.set_clearance.new.self in
-    label_then t old end (own, own_clearance) mid (label_given t old mid _ own c.in_ok-copy.ensures c.set_label.result
+    label_then c.args.wrapper.now.thread c.args.kernel.now end (c.args.wrapper.now.own, c.args.wrapper.now.clearance) c.set_label.new.self
+    (label_given c.args.wrapper.now.thread c.args.kernel.now c.set_label.new.self _ c.args.wrapper.now.own c.in_ok-copy.ensures c.set_label.result
     c.set_label.ensures (Ok tt) c.in_ok-stopping.ensures) c.stopping-2.result
-    (clearance_given t mid end _ own_clearance c.in_ok-copy-2.ensures c.set_clearance.result c.set_clearance.ensures
+    (clearance_given c.args.wrapper.now.thread c.set_label.new.self end _ c.args.wrapper.now.clearance c.in_ok-copy-2.ensures c.set_clearance.result
+    c.set_clearance.ensures
     c.stopping-2.result c.stopping-2.ensures)

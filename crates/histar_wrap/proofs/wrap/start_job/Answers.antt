@@ -12,63 +12,53 @@ use Rattle.histar_wrap.proofs.wrap.start_job.Goals as goal
 
 pub returns-in_err-own : goal.returns-in_err-own
 returns-in_err-own g c status is =
-    let accounts = c.args.unix.now.users.now in
-    let t = c.args.unix.now.caller.now.thread in
-    let me = c.args.unix.now.caller.now.home in
-    let old = c.args.kernel.now in
-    let k1 = c.own_label.new.self in
-    ends_in_so (ask OwnLabel) (after_own accounts me status c.args.room) (whole_part t (start_job accounts me status c.args.room) old) k1 _ _
-    c.from_residual.ensures.1 (refuses t OwnLabel old k1 _ c.in_err-own.field-0.0 c.in_err-own.ensures)
+    ends_in_so (ask OwnLabel) (after_own c.args.unix.now.users.now c.args.unix.now.caller.now.home status c.args.room)
+    (whole_part c.args.unix.now.caller.now.thread (start_job c.args.unix.now.users.now c.args.unix.now.caller.now.home status c.args.room)
+    c.args.kernel.now) c.own_label.new.self _ _
+    c.from_residual.ensures.1 (refuses c.args.unix.now.caller.now.thread OwnLabel c.args.kernel.now c.own_label.new.self _ c.in_err-own.field-0.0
+    c.in_err-own.ensures)
 
 pub returns-in_err-job : goal.returns-in_err-job
 returns-in_err-job g c status is =
-    let accounts = c.args.unix.now.users.now in
-    let t = c.args.unix.now.caller.now.thread in
-    let me = c.args.unix.now.caller.now.home in
-    let old = c.args.kernel.now in
-    let k1 = c.own_label.new.self in
     let own : Levels × Levels = (c.in_ok-own.own, c.in_ok-own.clearance) in
-    let asking = further_in (ask OwnLabel) (after_own accounts me status c.args.room)
-    (whole_part t (start_job accounts me status c.args.room) old) k1 own
-    (grants t OwnLabel old k1 own c.in_ok-own.ensures.0 c.in_ok-own.ensures.1) in
-    let k2 = c.make_category.new.self in
-    ends_in_so (ask MakeCategory) (after_job accounts me status c.args.room own) asking k2 _ _
-    c.from_residual-in_err-job.ensures.1 (refuses t MakeCategory k1 k2 _ c.in_err-job.field-0.0 c.in_err-job.ensures)
+    let asking = further_in (ask OwnLabel) (after_own c.args.unix.now.users.now c.args.unix.now.caller.now.home status c.args.room)
+    (whole_part c.args.unix.now.caller.now.thread (start_job c.args.unix.now.users.now c.args.unix.now.caller.now.home status c.args.room)
+    c.args.kernel.now) c.own_label.new.self own
+    (grants c.args.unix.now.caller.now.thread OwnLabel c.args.kernel.now c.own_label.new.self own c.in_ok-own.ensures.0 c.in_ok-own.ensures.1) in
+    ends_in_so (ask MakeCategory) (after_job c.args.unix.now.users.now c.args.unix.now.caller.now.home status c.args.room own) asking
+    c.make_category.new.self _ _
+    c.from_residual-in_err-job.ensures.1 (refuses c.args.unix.now.caller.now.thread MakeCategory c.own_label.new.self c.make_category.new.self _
+    c.in_err-job.field-0.0 c.in_err-job.ensures)
 
 pub returns-in_err-plan : goal.returns-in_err-plan
 returns-in_err-plan g c status is =
-    let accounts = c.args.unix.now.users.now in
-    let t = c.args.unix.now.caller.now.thread in
-    let me = c.args.unix.now.caller.now.home in
-    let old = c.args.kernel.now in
-    let k1 = c.own_label.new.self in
     let own : Levels × Levels = (c.in_ok-own.own, c.in_ok-own.clearance) in
-    let whole = start_job accounts me status c.args.room in
-    let asking = further_in (ask OwnLabel) (after_own accounts me status c.args.room) (whole_part t whole old) k1 own
-    (grants t OwnLabel old k1 own c.in_ok-own.ensures.0 c.in_ok-own.ensures.1) in
-    let k2 = c.make_category.new.self in
-    let job = c.in_ok-job.job in
-    let filling = further_in (ask MakeCategory) (after_job accounts me status c.args.room own) asking k2 job
-    (grants t MakeCategory k1 k2 job c.in_ok-job.ensures.0 c.in_ok-job.ensures.1) in
-    fails_so t whole old k2 Stopped _ c.from_residual-in_err-plan.ensures.1
-    (filling.leads k2 (Err Stopped) (before_filling t me status c.args.room (plan_for accounts own job) k2))
+    let whole = start_job c.args.unix.now.users.now c.args.unix.now.caller.now.home status c.args.room in
+    let asking = further_in (ask OwnLabel) (after_own c.args.unix.now.users.now c.args.unix.now.caller.now.home status c.args.room)
+    (whole_part c.args.unix.now.caller.now.thread whole c.args.kernel.now) c.own_label.new.self own
+    (grants c.args.unix.now.caller.now.thread OwnLabel c.args.kernel.now c.own_label.new.self own c.in_ok-own.ensures.0 c.in_ok-own.ensures.1) in
+    let filling = further_in (ask MakeCategory) (after_job c.args.unix.now.users.now c.args.unix.now.caller.now.home status c.args.room own) asking
+    c.make_category.new.self c.in_ok-job.job
+    (grants c.args.unix.now.caller.now.thread MakeCategory c.own_label.new.self c.make_category.new.self c.in_ok-job.job c.in_ok-job.ensures.0
+    c.in_ok-job.ensures.1) in
+    fails_so c.args.unix.now.caller.now.thread whole c.args.kernel.now c.make_category.new.self Stopped _ c.from_residual-in_err-plan.ensures.1
+    (filling.leads c.make_category.new.self (Err Stopped) (before_filling c.args.unix.now.caller.now.thread c.args.unix.now.caller.now.home status
+    c.args.room (plan_for c.args.unix.now.users.now own c.in_ok-job.job) c.make_category.new.self))
 
 pub returns : goal.returns
 returns g c status is =
-    let accounts = c.args.unix.now.users.now in
-    let t = c.args.unix.now.caller.now.thread in
-    let me = c.args.unix.now.caller.now.home in
-    let old = c.args.kernel.now in
-    let k1 = c.own_label.new.self in
     let own : Levels × Levels = (c.in_ok-own.own, c.in_ok-own.clearance) in
-    let whole = start_job accounts me status c.args.room in
-    let asking = further_in (ask OwnLabel) (after_own accounts me status c.args.room) (whole_part t whole old) k1 own
-    (grants t OwnLabel old k1 own c.in_ok-own.ensures.0 c.in_ok-own.ensures.1) in
-    let k2 = c.make_category.new.self in
-    let job = c.in_ok-job.job in
-    let filling = further_in (ask MakeCategory) (after_job accounts me status c.args.room own) asking k2 job
-    (grants t MakeCategory k1 k2 job c.in_ok-job.ensures.0 c.in_ok-job.ensures.1) in
+    let whole = start_job c.args.unix.now.users.now c.args.unix.now.caller.now.home status c.args.room in
+    let asking = further_in (ask OwnLabel) (after_own c.args.unix.now.users.now c.args.unix.now.caller.now.home status c.args.room)
+    (whole_part c.args.unix.now.caller.now.thread whole c.args.kernel.now) c.own_label.new.self own
+    (grants c.args.unix.now.caller.now.thread OwnLabel c.args.kernel.now c.own_label.new.self own c.in_ok-own.ensures.0 c.in_ok-own.ensures.1) in
+    let filling = further_in (ask MakeCategory) (after_job c.args.unix.now.users.now c.args.unix.now.caller.now.home status c.args.room own) asking
+    c.make_category.new.self c.in_ok-job.job
+    (grants c.args.unix.now.caller.now.thread MakeCategory c.own_label.new.self c.make_category.new.self c.in_ok-job.job c.in_ok-job.ensures.0
+    c.in_ok-job.ensures.1) in
     let end = c.fill_job.new.kernel in
     filling.leads end c.fill_job.result
-    (filled_so me status c.args.room k2 end _ (plan_for accounts own job) c.in_ok-plan.ensures.plan _ t c.in_ok-plan.ensures.thread
+    (filled_so c.args.unix.now.caller.now.home status c.args.room c.make_category.new.self end _
+    (plan_for c.args.unix.now.users.now own c.in_ok-job.job) c.in_ok-plan.ensures.plan _ c.args.unix.now.caller.now.thread
+    c.in_ok-plan.ensures.thread
     c.fill_job.result (c.fill_job.ensures status is))

@@ -36,13 +36,12 @@ overflow_sub-depth c =
 
 pub invariant_of-result-2 : goal.invariant_of-result-2
 invariant_of-result-2 c =
-    let inside = c.self.inside in
     let below : under_path c.args.old.now c.args.self.now ≡ true = search rules in
     let longer = under_is_longer same same_path_found c.args.old.now c.args.self.now below in
-    let depth : length c.args.self.now ≡ inside.len =
+    let depth : length c.args.self.now ≡ c.self.inside.len =
     ap length (sym c.self.view_is)
-    ∙ length-kept most_names unused_name inside.names inside.len c.self.invariant.padded in
-    let here : c.depth-2.result - c.depth-3.result < inside.len =
+    ∙ length-kept most_names unused_name c.self.inside.names c.self.inside.len c.self.invariant.padded in
+    let here : c.depth-2.result - c.depth-3.result < c.self.inside.len =
     omega (
       arith,
       longer,
@@ -54,23 +53,29 @@ invariant_of-result-2 c =
     ) in
     let i = c.depth-2.result - c.depth-3.result in
     record {
-      padded = padded_set most_names unused_name c.args.name inside.names inside.len i c.self.invariant.padded here;
-      named = subst (λ (l : Path). IsTrue (list_all is_name l)) (sym (take-set-lt inside.len inside.names i c.args.name here))
-          (named_set (take inside.len inside.names) i c.args.name c.as_bytes-text.ensures.right c.self.invariant.named);
+      padded = padded_set most_names unused_name c.args.name c.self.inside.names c.self.inside.len i c.self.invariant.padded here;
+      named = subst (λ (l : Path). IsTrue (list_all is_name l)) (sym (take-set-lt c.self.inside.len c.self.inside.names i c.args.name here))
+          (named_set (take c.self.inside.len c.self.inside.names) i c.args.name c.as_bytes-text.ensures.right c.self.invariant.named);
     }
 
 pub returns : goal.returns
 returns c =
-    let inside = c.self.inside in
     let below : under_path c.args.old.now c.args.self.now ≡ true = search rules in
-    let depth : length c.args.self.now ≡ inside.len =
+    let depth : length c.args.self.now ≡ c.self.inside.len =
     ap length (sym c.self.view_is)
-    ∙ length-kept most_names unused_name inside.names inside.len c.self.invariant.padded in
+    ∙ length-kept most_names unused_name c.self.inside.names c.self.inside.len c.self.invariant.padded in
     let longer = under_is_longer same same_path_found c.args.old.now c.args.self.now below in
     let i = c.depth-2.result - c.depth-3.result in
-    let here : i < inside.len = omega (arith, depth, c.depth.ensures.value, c.depth-2.ensures.value, c.depth-3.ensures.value, c.if-depth-eq0.false) in
+    let here : i < c.self.inside.len = omega (
+      arith,
+      depth,
+      c.depth.ensures.value,
+      c.depth-2.ensures.value,
+      c.depth-3.ensures.value,
+      c.if-depth-eq0.false,
+    ) in
     let at : i ≡ length c.args.self.now - length c.args.old.now = omega (arith, c.depth-2.ensures.value, c.depth-3.ensures.value) in
     let some : 0 < length c.args.old.now = omega (arith, c.depth.ensures.value, c.if-depth-eq0.false) in
-    take-set-lt inside.len inside.names i c.args.name here ∙ ap (λ (l : Path). slice_set l i c.args.name) c.self.view_is
+    take-set-lt c.self.inside.len c.self.inside.names i c.args.name here ∙ ap (λ (l : Path). slice_set l i c.args.name) c.self.view_is
     ∙ ap (λ n. slice_set c.args.self.now n c.args.name) at
     ∙ sym (moved_below c.args.old.now c.args.name c.args.self.now some below)

@@ -31,8 +31,7 @@ invariant_of-self-2 c = record {
 
 pub returns-clause-stands : goal.returns-clause-stands
 returns-clause-stands c =
-    let stored = c.in_ok-place.ensures.stored in
-    rw (same_label _ _ stored.2) stored.1
+    rw (same_label _ _ c.in_ok-place.ensures.stored.2) c.in_ok-place.ensures.stored.1
 
 pub returns-clause-keeps : goal.returns-clause-keeps
 returns-clause-keeps c id L is =
@@ -44,7 +43,7 @@ returns-clause-one_id c = HasOneId-distinct is_same own c.insert_full.new.self.k
 
 pub returns-clause-known : goal.returns-clause-known
 returns-clause-known c id is =
-    let stored = c.in_ok-place.ensures.stored in
-    let here : slice_get c.insert_full.new.self.keys c.in_ok-place.place ≡ Some c.args.label = rw (same_label _ _ stored.2) stored.1 in
+    let here : slice_get c.insert_full.new.self.keys c.in_ok-place.place ≡ Some c.args.label = rw (same_label _ _ c.in_ok-place.ensures.stored.2)
+    c.in_ok-place.ensures.stored.1 in
     ap Ok (HasOneId-distinct is_same own c.insert_full.new.self.keys c.in_ok-place.ensures.unique c.in_ok-place.place id
     c.args.label here (returns-clause-keeps c id c.args.label is))

@@ -32,20 +32,18 @@ push_reserved-requires c =
 
 pub entries-preserved : goal.entries-preserved
 entries-preserved c =
-    let h = c.entries.invariant in
     let e : Entry = (c.in-Some.found.0, c.in-Some.found.1) in (
-      h.0 ++ e ∷ [],
-      one_read c.entries.rest.now h.0 c.args.self.now h.1 _ c.in-Some.ensures,
-      c.push_reserved.ensures.items ∙ (λ i. h.2 i ++ (c.in-Some.found.0, c.is_directory.ensures i) ∷ [])
-          ∙ append_assoc c.args.names.now.items (map shown_entry h.0) (shown_entry e ∷ [])
-          ∙ ap (λ (shown : List (Name × Bool)). c.args.names.now.items ++ shown) (sym (map-append shown_entry h.0 (e ∷ []))),
-      omega (arith, h.3, c.push_reserved.ensures.len, length-append h.0 (e ∷ [])),
-      c.push_reserved.ensures.capacity ∙ h.4,
+      c.entries.invariant.0 ++ e ∷ [],
+      one_read c.entries.rest.now c.entries.invariant.0 c.args.self.now c.entries.invariant.1 _ c.in-Some.ensures,
+      c.push_reserved.ensures.items ∙ (λ i. c.entries.invariant.2 i ++ (c.in-Some.found.0, c.is_directory.ensures i) ∷ [])
+          ∙ append_assoc c.args.names.now.items (map shown_entry c.entries.invariant.0) (shown_entry e ∷ [])
+          ∙ ap (λ (shown : List (Name × Bool)). c.args.names.now.items ++ shown) (sym (map-append shown_entry c.entries.invariant.0 (e ∷ []))),
+      omega (arith, c.entries.invariant.3, c.push_reserved.ensures.len, length-append c.entries.invariant.0 (e ∷ [])),
+      c.push_reserved.ensures.capacity ∙ c.entries.invariant.4,
     )
 
 pub returns : goal.returns
 returns c =
-    let h = c.entries.invariant in
-    h.2
+    c.entries.invariant.2
     ∙ ap (λ (es : List Entry). c.args.names.now.items ++ map shown_entry es)
-    (sym (all_read c.entries.rest.now h.0 c.args.self.now h.1 c.in_default.ensures))
+    (sym (all_read c.entries.rest.now c.entries.invariant.0 c.args.self.now c.entries.invariant.1 c.in_default.ensures))

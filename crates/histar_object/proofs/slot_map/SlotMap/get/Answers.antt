@@ -6,14 +6,14 @@ use Rattle.histar_object.proofs.slot_map.SlotMap.get.Goals as goal
 
 pub returns-in_default : goal.returns-in_default
 returns-in_default c =
-    let xs = c.self.inside.listed.items in
-    let fs = c.self.inside.others.entries in
-    let at_place : in_place xs c.args.id ≡ c.place.result = ap (λ l. in_place l c.args.id) (sym c.deref.ensures.value) ∙ sym c.place.ensures in
-    rw (← c.self.view_is) (c.slot_among.ensures ∙ sym (found_in_map xs fs c.args.id (at_place ∙ c.in_default.is)))
+    let at_place : in_place c.self.inside.listed.items c.args.id ≡ c.place.result = ap (λ l. in_place l c.args.id) (sym c.deref.ensures.value) ∙ sym
+    c.place.ensures in
+    rw (← c.self.view_is) (c.slot_among.ensures ∙ sym (found_in_map c.self.inside.listed.items c.self.inside.others.entries c.args.id
+    (at_place ∙ c.in_default.is)))
 
 pub returns : goal.returns
 returns c =
-    let xs = c.self.inside.listed.items in
-    let fs = c.self.inside.others.entries in
-    let at_place : in_place xs c.args.id ≡ c.place.result = ap (λ l. in_place l c.args.id) (sym c.deref.ensures.value) ∙ sym c.place.ensures in
-    rw (← c.self.view_is) (sym (found_in_place xs fs c.args.id c.in-Some.slot (at_place ∙ c.in-Some.is)))
+    let at_place : in_place c.self.inside.listed.items c.args.id ≡ c.place.result = ap (λ l. in_place l c.args.id) (sym c.deref.ensures.value) ∙ sym
+    c.place.ensures in
+    rw (← c.self.view_is) (sym (found_in_place c.self.inside.listed.items c.self.inside.others.entries c.args.id c.in-Some.slot
+    (at_place ∙ c.in-Some.is)))

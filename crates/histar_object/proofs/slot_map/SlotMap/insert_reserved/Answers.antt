@@ -5,28 +5,23 @@ use Rattle.histar_object.proofs.slot_map.SlotMap.insert_reserved.Goals as goal
 
 pub invariant_of-self : goal.invariant_of-self
 invariant_of-self c =
-    let xs = c.self.inside.listed.items in
-    let fs = c.self.inside.others.entries in
-    rw c.in-Ok.ensures.items (AreApart-pushed xs fs c.self.invariant c.args.id c.args.slot
+    rw c.in-Ok.ensures.items (AreApart-pushed c.self.inside.listed.items c.self.inside.others.entries c.self.invariant c.args.id c.args.slot
     (search (rules, c.number.ensures, c.if-number-len.true, c.len.ensures))
-    (none_in_map xs fs c.args.id (rw (← c.self.view_is) at c.requires.absent)))
+    (none_in_map c.self.inside.listed.items c.self.inside.others.entries c.args.id (rw (← c.self.view_is) at c.requires.absent)))
 
 pub returns-in-Ok-clause-once : goal.returns-in-Ok-clause-once
 returns-in-Ok-clause-once c = distinct_in_both c.push.new.self.items c.self.inside.others.entries (invariant_of-self c)
 
 pub returns-in-Ok-clause-updates : goal.returns-in-Ok-clause-updates
 returns-in-Ok-clause-updates c =
-    let xs = c.self.inside.listed.items in
-    let fs = c.self.inside.others.entries in
-    rw (c.in-Ok.ensures.items, ← c.self.view_is) (found_pushed xs fs c.args.id c.args.slot
+    rw (c.in-Ok.ensures.items, ← c.self.view_is) (found_pushed c.self.inside.listed.items c.self.inside.others.entries c.args.id c.args.slot
     (search (rules, c.number.ensures, c.if-number-len.true, c.len.ensures)))
 
 pub invariant_of-self-in-Ok-insert : goal.invariant_of-self-in-Ok-insert
 invariant_of-self-in-Ok-insert c =
-    let xs = c.self.inside.listed.items in
-    let fs = c.self.inside.others.entries in
-    AreApart-put xs fs c.self.invariant c.args.id c.insert.new.self.entries (Some c.args.slot)
-    (none_in_place xs fs c.args.id (rw (← c.self.view_is) at c.requires.absent)) c.insert.ensures.unique
+    AreApart-put c.self.inside.listed.items c.self.inside.others.entries c.self.invariant c.args.id c.insert.new.self.entries (Some c.args.slot)
+    (none_in_place c.self.inside.listed.items c.self.inside.others.entries c.args.id (rw (← c.self.view_is) at c.requires.absent))
+    c.insert.ensures.unique
     c.in-Ok-insert.ensures.updates.0
 
 pub returns-in-Ok-insert-clause-once : goal.returns-in-Ok-insert-clause-once
@@ -34,7 +29,6 @@ returns-in-Ok-insert-clause-once c = distinct_in_both c.self.inside.listed.items
 
 pub returns-in-Ok-insert-clause-updates : goal.returns-in-Ok-insert-clause-updates
 returns-in-Ok-insert-clause-updates c q =
-    let xs = c.self.inside.listed.items in
-    let fs = c.self.inside.others.entries in
-    let none = none_in_place xs fs c.args.id (rw (← c.self.view_is) at c.requires.absent) in
-    rw (← c.self.view_is) (found_put xs fs c.args.id c.insert.new.self.entries (Some c.args.slot) none q (c.in-Ok-insert.ensures.updates.0 q))
+    let none = none_in_place c.self.inside.listed.items c.self.inside.others.entries c.args.id (rw (← c.self.view_is) at c.requires.absent) in
+    rw (← c.self.view_is) (found_put c.self.inside.listed.items c.self.inside.others.entries c.args.id c.insert.new.self.entries (Some c.args.slot)
+    none q (c.in-Ok-insert.ensures.updates.0 q))

@@ -8,30 +8,28 @@ pub invariant_of-self : goal.invariant_of-self
 invariant_of-self g c =
     let old = get c.self.inside.objects in
     let new = get c.insert_reserved-slot.new.self in
-    let slots = c.self.inside.slots.entries in
-    let slot = c.insert_reserved-slot.result in
-    let updates = c.insert_reserved-slot.ensures.updates in
-    let none = no_slot old slots c.self.invariant c.args.id (rw (← c.self.view_is) at c.requires.absent) in
+    let none = no_slot old c.self.inside.slots.entries c.self.invariant c.args.id (rw (← c.self.view_is) at c.requires.absent) in
     let one =
-    added old new slots c.self.invariant c.args.id slot c.insert_reserved.new.self.entries c.args.object none
+    added old new c.self.inside.slots.entries c.self.invariant c.args.id c.insert_reserved-slot.result c.insert_reserved.new.self.entries
+    c.args.object none
     c.insert_reserved.ensures.updates
-    c.insert_reserved-slot.ensures.was_vacant updates.changed updates.others in
-    IsPlaced-changed old new slots c.insert_reserved.new.self.entries c.args.id slot (Some slot) (Some c.args.object)
+    c.insert_reserved-slot.ensures.was_vacant c.insert_reserved-slot.ensures.updates.changed c.insert_reserved-slot.ensures.updates.others in
+    IsPlaced-changed old new c.self.inside.slots.entries c.insert_reserved.new.self.entries c.args.id c.insert_reserved-slot.result
+    (Some c.insert_reserved-slot.result) (Some c.args.object)
     one c.self.invariant c.insert_reserved.ensures.once
 
 pub returns-clause-objects : goal.returns-clause-objects
 returns-clause-objects g c =
     let old = get c.self.inside.objects in
     let new = get c.insert_reserved-slot.new.self in
-    let slots = c.self.inside.slots.entries in
-    let slot = c.insert_reserved-slot.result in
-    let updates = c.insert_reserved-slot.ensures.updates in
-    let none = no_slot old slots c.self.invariant c.args.id (rw (← c.self.view_is) at c.requires.absent) in
+    let none = no_slot old c.self.inside.slots.entries c.self.invariant c.args.id (rw (← c.self.view_is) at c.requires.absent) in
     let one =
-    added old new slots c.self.invariant c.args.id slot c.insert_reserved.new.self.entries c.args.object none
+    added old new c.self.inside.slots.entries c.self.invariant c.args.id c.insert_reserved-slot.result c.insert_reserved.new.self.entries
+    c.args.object none
     c.insert_reserved.ensures.updates
-    c.insert_reserved-slot.ensures.was_vacant updates.changed updates.others in
-    rw (← c.self.view_is) (objects-changed old new slots c.insert_reserved.new.self.entries c.args.id slot (Some slot)
+    c.insert_reserved-slot.ensures.was_vacant c.insert_reserved-slot.ensures.updates.changed c.insert_reserved-slot.ensures.updates.others in
+    rw (← c.self.view_is) (objects-changed old new c.self.inside.slots.entries c.insert_reserved.new.self.entries c.args.id
+    c.insert_reserved-slot.result (Some c.insert_reserved-slot.result)
     (Some c.args.object) one c.self.invariant c.insert_reserved.ensures.once)
 
 pub returns-clause-slots : goal.returns-clause-slots

@@ -14,48 +14,51 @@ on_some (Some x) holds = holds
 
 pub returns-in_err-slot : goal.returns-in_err-slot
 returns-in_err-slot g c =
-    let slots = c.self.inside.slots.entries in
-    let none : slot_at slots c.args.id ≡ None = sym c.get.ensures ∙ c.in_err-slot.was in
+    let none : slot_at c.self.inside.slots.entries c.args.id ≡ None = sym c.get.ensures ∙ c.in_err-slot.was in
     rw c.from_residual.ensures (
       (refl, λ w. tt, c.self.view_is),
-      record { writes_back = tt; value = rw (← c.self.view_is) (sym (none_at (get c.self.inside.objects) slots c.self.invariant c.args.id none)) },
+      record {
+        writes_back = tt;
+        value = rw (← c.self.view_is) (sym (none_at (get c.self.inside.objects) c.self.inside.slots.entries c.self.invariant
+            c.args.id none));
+      },
     )
 
 pub invariant_of-self-lent : goal.invariant_of-self-lent
 invariant_of-self-lent g c lent =
     let old = get c.self.inside.objects in
-    let slots = c.self.inside.slots.entries in
-    let slot = c.in_ok-slot.slot in
-    let here : slot_at slots c.args.id ≡ Some slot = sym c.get.ensures ∙ c.in_ok-slot.was in (
-      λ w. (let updates = Updates-with_value c.self.inside.objects slot w (c.self.invariant.filled c.args.id slot here) in
-          let new = get (with_value c.self.inside.objects slot w) in
-          let one = written old new slots c.self.invariant c.args.id slot w here updates.changed updates.others in
-          IsPlaced-changed old new slots slots c.args.id slot (Some slot) (Some w) one c.self.invariant c.self.invariant.once),
+    let here : slot_at c.self.inside.slots.entries c.args.id ≡ Some slot = sym c.get.ensures ∙ c.in_ok-slot.was in (
+      λ w. (let updates = Updates-with_value c.self.inside.objects c.in_ok-slot.slot w (c.self.invariant.filled c.args.id c.in_ok-slot.slot here) in
+          let new = get (with_value c.self.inside.objects c.in_ok-slot.slot w) in
+          let one = written old new c.self.inside.slots.entries c.self.invariant c.args.id c.in_ok-slot.slot w here updates.changed updates.others in
+          IsPlaced-changed old new c.self.inside.slots.entries c.self.inside.slots.entries c.args.id c.in_ok-slot.slot (Some c.in_ok-slot.slot)
+          (Some w) one c.self.invariant c.self.invariant.once),
       c.self.invariant,
     )
 
 pub returns : goal.returns
 returns g c =
     let old = get c.self.inside.objects in
-    let slots = c.self.inside.slots.entries in
-    let slot = c.in_ok-slot.slot in
-    let here : slot_at slots c.args.id ≡ Some slot = sym c.get.ensures ∙ c.in_ok-slot.was in (
+    let here : slot_at c.self.inside.slots.entries c.args.id ≡ Some slot = sym c.get.ensures ∙ c.in_ok-slot.was in (
       (
         refl,
-        λ w. (let updates = Updates-with_value c.self.inside.objects slot w (c.self.invariant.filled c.args.id slot here) in
-            let new = get (with_value c.self.inside.objects slot w) in
-            let one = written old new slots c.self.invariant c.args.id slot w here updates.changed updates.others in
-            let objects = objects-changed old new slots slots c.args.id slot (Some slot) (Some w) one c.self.invariant c.self.invariant.once in
-            let held = slab_len-with_value c.self.inside.objects slot w (c.self.invariant.filled c.args.id slot here) in
+        λ w. (let updates = Updates-with_value c.self.inside.objects c.in_ok-slot.slot w (c.self.invariant.filled c.args.id c.in_ok-slot.slot here) in
+            let new = get (with_value c.self.inside.objects c.in_ok-slot.slot w) in
+            let one = written old new c.self.inside.slots.entries c.self.invariant c.args.id c.in_ok-slot.slot w here updates.changed updates.others
+            in
+            let objects = objects-changed old new c.self.inside.slots.entries c.self.inside.slots.entries c.args.id c.in_ok-slot.slot
+            (Some c.in_ok-slot.slot) (Some w) one c.self.invariant c.self.invariant.once in
+            let held = slab_len-with_value c.self.inside.objects c.in_ok-slot.slot w (c.self.invariant.filled c.args.id c.in_ok-slot.slot here) in
             on_some c.get_mut.result (rw (← c.self.view_is) (record {
               objects = objects;
-              slots = λ i q. slot_at slots q;
+              slots = λ i q. slot_at c.self.inside.slots.entries q;
               room = ap (λ n. min c.self.inside.slots.room (c.self.inside.objects.capacity - n)) held;
             }))),
         c.self.view_is,
       ),
       record {
         writes_back = tt;
-        value = c.get_mut.ensures.value ∙ rw (← c.self.view_is) (found_at old slots c.self.invariant c.args.id slot (sym here));
+        value = c.get_mut.ensures.value ∙ rw (← c.self.view_is) (found_at old c.self.inside.slots.entries c.self.invariant c.args.id c.in_ok-slot.slot
+            (sym here));
       },
     )

@@ -21,21 +21,18 @@ steps-preserved g c = record {
 pub returns-in_err-take_step-clause-err : goal.returns-in_err-take_step-clause-err
 returns-in_err-take_step-clause-err g c =
     let p = err_from_is_err_and c.from_residual.result c.from_residual.ensures.1 in
-    let steps = c.args.steps.items in
-    let gives = c.into_iter-step-iterator.ensures.into_iter_gives in
-    let all = YieldsList-from_vec steps gives.0 (search rules) in
+    let all = YieldsList-from_vec c.args.steps.items c.into_iter-step-iterator.ensures.into_iter_gives.0 (search rules) in
     let so_far = YieldsList-so_far all c.steps.yielded c.steps.step-iterator c.steps.yielded_by in
     let turn = YieldsList-turn all c.steps.yielded c.steps.step-iterator c.steps.yielded_by c.next.result c.next.new.self c.in-Some.step c.in-Some.is
     c.next.ensures.steps in
-    let parts = parts_at steps c.steps.yielded c.in-Some.step (sym (map-id c.steps.yielded) ∙ so_far) turn in
-    rw p.1 (at_front c.in-Some.step steps _ _ parts c.steps.invariant.come c.in_err-take_step.ensures.err)
+    let parts = parts_at c.args.steps.items c.steps.yielded c.in-Some.step (sym (map-id c.steps.yielded) ∙ so_far) turn in
+    rw p.1 (at_front c.in-Some.step c.args.steps.items _ _ parts c.steps.invariant.come c.in_err-take_step.ensures.err)
 
 pub returns-clause-ok : goal.returns-clause-ok
 returns-clause-ok g c =
     let none : c.next.result ≡ None = search rules in
     let steps = c.args.steps.items in
-    let gives = c.into_iter-step-iterator.ensures.into_iter_gives in
-    let yields = YieldsList-from_vec steps gives.0 (search rules) in
+    let yields = YieldsList-from_vec steps c.into_iter-step-iterator.ensures.into_iter_gives.0 (search rules) in
     let end = YieldsList-end yields c.steps.yielded c.steps.step-iterator c.steps.yielded_by c.next.result c.next.new.self none
     c.next.ensures.steps in
     let all = sym (map-id c.steps.yielded) ∙ end.0 in
