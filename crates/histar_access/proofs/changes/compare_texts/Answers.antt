@@ -1,6 +1,6 @@
 -- Proves the goals of `compare_texts` of src/changes.rt that the search leaves open.
 use Rattle.std.proofs.Common.{subst, sym}
-use Rattle.std.proofs.lemmas.Result.{err_from_is_err_and}
+use Rattle.histar_io.proofs.Residuals.{passed_on}
 use Rattle.histar_diff.specs.Differences.{AreDifferences}
 use Rattle.histar_access.proofs.Comparing.{AreCompared, changes_begun, changes_written, none_listed, table_rises}
 use Rattle.histar_access.proofs.changes.compare_texts.Goals as goal
@@ -13,7 +13,6 @@ differences_between-requires-clause-new_rises g c = table_rises c.args.at c.args
 
 pub returns-in_err-write_differences-clause-runs : goal.returns-in_err-write_differences-clause-runs
 returns-in_err-write_differences-clause-runs g c =
-    let p = err_from_is_err_and c.from_residual-in_err-write_differences.result c.from_residual-in_err-write_differences.ensures.1 in
     let compared : AreCompared c.args.at c.args.old.now c.args.new.now c.as_slice-lines.result.now = record {
       before = c.in_ok-before.before;
       after = c.in_ok-after.after;
@@ -21,7 +20,7 @@ returns-in_err-write_differences-clause-runs g c =
       is_after = c.in_ok-after.ensures;
       exact = subst (AreDifferences c.in_ok-before.before c.in_ok-after.after) (sym c.as_slice-lines.ensures.value) c.in_ok-differences.ensures;
     } in
-    rw (p.1, p.2)
+    rw (passed_on _ _ c.from_residual-in_err-write_differences.ensures.1)
     (changes_begun c.args.at compared c.in_err-write_differences.field-0.0 c.in_err-write_differences.ensures.faults
     c.in_err-write_differences.ensures.err)
 

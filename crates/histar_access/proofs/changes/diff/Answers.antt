@@ -1,6 +1,6 @@
 -- Proves the goals of `diff` of src/changes.rt that the search leaves open.
 use Rattle.std.proofs.Common.{ℕ, List, subst}
-use Rattle.std.proofs.lemmas.Result.{err_from_is_err_and}
+use Rattle.histar_io.proofs.Residuals.{passed_on}
 use Rattle.histar_script.specs.Outcome.{input_fault}
 use Rattle.histar_script.proofs.Sinks.{sink_left}
 use Rattle.histar_access.specs.Diff.{ComparesTexts}
@@ -9,36 +9,32 @@ use Rattle.histar_access.proofs.changes.diff.Goals as goal
 
 pub returns-in_err-old-clause-nothing : goal.returns-in_err-old-clause-nothing
 returns-in_err-old-clause-nothing g c =
-    let p = err_from_is_err_and c.from_residual.result c.from_residual.ensures.1 in
-    rw (p.1, p.2) (sink_left c.args.writer.now (input_fault c.in_err-old.field-0.0))
+    rw (passed_on _ _ c.from_residual.ensures.1) (sink_left c.args.writer.now (input_fault c.in_err-old.field-0.0))
 
 pub returns-in_err-old-clause-reads : goal.returns-in_err-old-clause-reads
 returns-in_err-old-clause-reads g c =
-    let p = err_from_is_err_and c.from_residual.result c.from_residual.ensures.1 in
-    rw (p.1, p.2) (old_fails c.in_err-old.field-0.0 _ _ _ c.in_err-old.ensures.count)
+    rw (passed_on _ _ c.from_residual.ensures.1) (old_fails c.in_err-old.field-0.0 _ _ _ c.in_err-old.ensures.count)
 
 pub returns-in_err-old-clause-runs : goal.returns-in_err-old-clause-runs
 returns-in_err-old-clause-runs g c =
-    let p = err_from_is_err_and c.from_residual.result c.from_residual.ensures.1 in
-    rw (p.1, p.2) (stops_at_old c.args.at c.in_err-old.field-0.0 _ _ _ _ c.in_err-old.ensures.err)
+    rw (passed_on _ _ c.from_residual.ensures.1) (stops_at_old c.args.at c.in_err-old.field-0.0 _ _ _ _ c.in_err-old.ensures.err)
 
 pub returns-in_err-old-clause-known : goal.returns-in_err-old-clause-known
 returns-in_err-old-clause-known g c = inputs_known c.args.at _ _ _ _ _ _ (returns-in_err-old-clause-runs g c)
 
 pub returns-in_err-new-clause-nothing : goal.returns-in_err-new-clause-nothing
 returns-in_err-new-clause-nothing g c =
-    let p = err_from_is_err_and c.from_residual-in_err-new.result c.from_residual-in_err-new.ensures.1 in
-    rw (p.1, p.2) (sink_left c.args.writer.now (input_fault c.in_err-new.field-0.0))
+    rw (passed_on _ _ c.from_residual-in_err-new.ensures.1) (sink_left c.args.writer.now (input_fault c.in_err-new.field-0.0))
 
 pub returns-in_err-new-clause-reads : goal.returns-in_err-new-clause-reads
 returns-in_err-new-clause-reads g c =
-    let p = err_from_is_err_and c.from_residual-in_err-new.result c.from_residual-in_err-new.ensures.1 in
-    rw (p.1, p.2) (new_fails c.in_err-new.field-0.0 _ _ _ _ c.in_ok-old.ensures.count c.in_err-new.ensures.count)
+    rw (passed_on _ _ c.from_residual-in_err-new.ensures.1) (new_fails c.in_err-new.field-0.0 _ _ _ _ c.in_ok-old.ensures.count
+    c.in_err-new.ensures.count)
 
 pub returns-in_err-new-clause-runs : goal.returns-in_err-new-clause-runs
 returns-in_err-new-clause-runs g c =
-    let p = err_from_is_err_and c.from_residual-in_err-new.result c.from_residual-in_err-new.ensures.1 in
-    rw (p.1, p.2) (stops_at_new c.args.at c.in_err-new.field-0.0 _ _ _ _ c.in_ok-old.ensures.ok c.in_err-new.ensures.err)
+    rw (passed_on _ _ c.from_residual-in_err-new.ensures.1) (stops_at_new c.args.at c.in_err-new.field-0.0 _ _ _ _ c.in_ok-old.ensures.ok
+    c.in_err-new.ensures.err)
 
 pub returns-in_err-new-clause-known : goal.returns-in_err-new-clause-known
 returns-in_err-new-clause-known g c = inputs_known c.args.at _ _ _ _ _ _ (returns-in_err-new-clause-runs g c)

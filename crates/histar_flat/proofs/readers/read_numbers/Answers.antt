@@ -12,7 +12,7 @@ returns-in_default c =
 
 pub returns-in_err-read_child_number : goal.returns-in_err-read_child_number
 returns-in_err-read_child_number c =
-    let some : option_copied c.loop.rest ≡ Some text = ap option_copied c.in-Some.is in
+    let some : option_copied c.loop.rest ≡ Some c.in-Some.text.now = ap option_copied c.in-Some.is in
     let none : number_of is_child_number (split_at_first dot c.in-Some.text.now).0 ≡ None =
     ap (number_of is_child_number) (sym c.split_at_dot.ensures.before) ∙ sym c.read_child_number.ensures
     ∙ c.in_err-read_child_number.was in
@@ -23,7 +23,7 @@ returns-in_err-read_child_number c =
 pub loop-preserved : goal.loop-preserved
 loop-preserved c =
     let number = c.in_ok-read_child_number.field-0 in
-    let some : option_copied c.loop.rest ≡ Some text = ap option_copied c.in-Some.is in
+    let some : option_copied c.loop.rest ≡ Some c.in-Some.text.now = ap option_copied c.in-Some.is in
     let is : number_of is_child_number (split_at_first dot c.in-Some.text.now).0 ≡ Some number =
     ap (number_of is_child_number) (sym c.split_at_dot.ensures.before) ∙ sym c.read_child_number.ensures
     ∙ c.in_ok-read_child_number.was in
@@ -43,6 +43,6 @@ returns-in-None c =
 pub returns-in-Some-rest : goal.returns-in-Some-rest
 returns-in-Some-rest c =
     let text = c.in-Some-rest.field-0.now in
-    let some : option_copied c.loop.rest ≡ Some text = ap option_copied c.in-Some-rest.is in
+    let some : option_copied c.loop.rest ≡ Some c.in-Some.text.now = ap option_copied c.in-Some-rest.is in
     let end : 7 - c.loop.counter ≡ 0 = omega (arith, c.loop-test.false) in
     sym ((λ i. process_from (end i) c.loop.process (some i)) ∙ too_many c.loop.process text) ∙ c.loop.invariant.0

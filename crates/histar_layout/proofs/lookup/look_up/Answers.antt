@@ -31,14 +31,14 @@ entries-init c = all_left c.args.bytes.now c.args.name.now
 
 pub entries-preserved : goal.entries-preserved
 entries-preserved c =
-    let there : c.entries.start < length bytes = omega (arith, c.if-bytes-size.false, c.entries-test.true) in
+    let there : c.entries.start < length c.args.bytes.now = omega (arith, c.if-bytes-size.false, c.entries-test.true) in
     let read = slice_get-get_or c.args.bytes.now c.entries.start 0 there in
     stepped_over c.args.bytes.now c.args.name.now c.entries.start (get_or c.args.bytes.now c.entries.start 0) read c.entries.invariant
     (λ e. c.if-len-wanted.false (sym e ∙ ap length (sym c.as_bytes-wanted.ensures.value)))
 
 pub entries-preserved-else-is_before : goal.entries-preserved-else-is_before
 entries-preserved-else-is_before c =
-    let there : c.entries.start < length bytes = omega (arith, c.if-bytes-size.false, c.entries-test.true) in
+    let there : c.entries.start < length c.args.bytes.now = omega (arith, c.if-bytes-size.false, c.entries-test.true) in
     let read = slice_get-get_or c.args.bytes.now c.entries.start 0 there in
     left_over c.args.bytes.now c.args.name.now c.entries.start (get_or c.args.bytes.now c.entries.start 0) read c.entries.invariant
     (omega (arith, c.if-bytes-size.false, c.entries-test.true, c.if-len-wanted.true))
@@ -58,7 +58,7 @@ returns-then-bytes-size-clause-entry c dir is =
 
 pub returns-then-is_before-clause-found : goal.returns-then-is_before-clause-found
 returns-then-is_before-clause-found c =
-    let there : c.entries.start < length bytes = omega (arith, c.if-bytes-size.false, c.entries-test.true) in
+    let there : c.entries.start < length c.args.bytes.now = omega (arith, c.if-bytes-size.false, c.entries-test.true) in
     let read = slice_get-get_or c.args.bytes.now c.entries.start 0 there in
     c.target_from.ensures
     ∙ sym (found_there c.args.bytes.now c.args.name.now c.entries.start (get_or c.args.bytes.now c.entries.start 0) read c.entries.invariant

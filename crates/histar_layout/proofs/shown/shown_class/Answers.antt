@@ -10,7 +10,7 @@ use Rattle.histar_layout.proofs.shown.shown_class.Goals as goal
 
 pub loop-place-preserved : goal.loop-place-preserved
 loop-place-preserved c =
-    let below : c.loop-place.place < length users = subst (λ (n : ℕ). c.loop-place.place < n) c.len-place-end.ensures.len c.loop-place-test.true in
+    let below : c.loop-place.place < length c.args.users.now.users = subst (λ (n : ℕ). c.loop-place.place < n) c.len-place-end.ensures.len c.loop-place-test.true in
     let user = get_or c.args.users.now.users c.loop-place.place (called []) in
     let at : user ≡ get_or c.args.users.now.users c.loop-place.place user =
     sym (get_or_from_slice_get c.args.users.now.users c.loop-place.place user user
@@ -25,7 +25,7 @@ loop-place-preserved c =
 pub returns-then-not-are_plain : goal.returns-then-not-are_plain
 unfolding class_shown
 returns-then-not-are_plain c =
-    let below : c.loop-place.place < length users = subst (λ (n : ℕ). c.loop-place.place < n) c.len-place-end.ensures.len c.loop-place-test.true in
+    let below : c.loop-place.place < length c.args.users.now.users = subst (λ (n : ℕ). c.loop-place.place < n) c.len-place-end.ensures.len c.loop-place-test.true in
     let user = called c.name_at.result in
     let at : user ≡ get_or c.args.users.now.users c.loop-place.place user = sym
     (get_or_from_slice_get c.args.users.now.users c.loop-place.place user user c.name_at.ensures) in
@@ -45,6 +45,6 @@ returns c =
     c.loop-place-test.false in
     let last : c.loop-place.place ≤ length c.args.users.now.users =
     subst (λ (n : ℕ). c.loop-place.place ≤ n) c.len-place-end.ensures.len c.loop-place.auto.place-end in
-    let place : c.loop-place.place ≡ length users = omega (arith, end, last) in
+    let place : c.loop-place.place ≡ length c.args.users.now.users = omega (arith, end, last) in
     c.shown_group.ensures ∙ ap (λ (k : ℕ). group_class_from c.args.label.now (k + 1) c.args.users.now.groups) (sym place)
     ∙ sym (c.loop-place.invariant ∙ revealed_last c.args.label.now c.args.users.now.groups c.args.users.now.users c.loop-place.place end)

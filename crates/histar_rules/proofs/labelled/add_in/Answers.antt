@@ -20,30 +20,24 @@ link_new-requires g c = none_there (g.S.LabelStore.labels c.args.store.now) c.ar
 
 pub returns-clause-stand : goal.returns-clause-stand
 returns-clause-stand g c =
-    let one = g.S.LabelStore.labels c.args.store.now in
-    let two = g.S.LabelStore.labels c.put_object.new.store in
-    linked_stand two (objects_of c.args.table.now) (objects_of c.link_new.new.table) c.args.container c.args.number c.in_ok-object.object
+    linked_stand _ (objects_of c.args.table.now) (objects_of c.link_new.new.table) c.args.container c.args.number c.in_ok-object.object
     c.link_new.result c.link_new.ensures.ok c.link_new.ensures.err
-    (all_on one two c.put_object.ensures.keeps (objects_of c.args.table.now) c.requires.stand) c.in_ok-object.ensures.stands
+    (all_on _ _ c.put_object.ensures.keeps _ c.requires.stand) c.in_ok-object.ensures.stands
 
 pub returns-clause-ok : goal.returns-clause-ok
 returns-clause-ok g c =
-    let one = g.S.LabelStore.labels c.args.store.now in
-    let two = g.S.LabelStore.labels c.put_object.new.store in
     let o = c.in_ok-object.object in
-    let same = shown_on one two c.put_object.ensures.keeps c.args.table.now c.requires.stand in
+    let same = shown_on _ _ c.put_object.ensures.keeps c.args.table.now c.requires.stand in
     on_ok_weaker c.link_new.result
     (λ (e : objects_of c.link_new.new.table ≡ with_new (objects_of c.args.table.now) c.args.container c.args.number o).
-    shown_new two c.args.table.now c.link_new.new.table c.args.container c.args.number o e
+    shown_new (g.S.LabelStore.labels c.put_object.new.store) c.args.table.now c.link_new.new.table c.args.container c.args.number o e
     ∙ (λ i. with_new (same i) c.args.container c.args.number (c.in_ok-object.ensures.value i)))
     c.link_new.ensures.ok
 
 pub returns-clause-err : goal.returns-clause-err
 returns-clause-err g c =
-    let one = g.S.LabelStore.labels c.args.store.now in
-    let two = g.S.LabelStore.labels c.put_object.new.store in
     on_err_weaker c.link_new.result
     (λ (e : objects_of c.link_new.new.table ≡ objects_of c.args.table.now).
-    shown_same two c.args.table.now c.link_new.new.table e
-    ∙ shown_on one two c.put_object.ensures.keeps c.args.table.now c.requires.stand)
+    shown_same (g.S.LabelStore.labels c.put_object.new.store) c.args.table.now c.link_new.new.table e
+    ∙ shown_on _ _ c.put_object.ensures.keeps c.args.table.now c.requires.stand)
     c.link_new.ensures.err

@@ -20,30 +20,24 @@ add-requires g c = none_there (g.S.LabelStore.labels c.args.store.now) c.args.ta
 
 pub returns-clause-stand : goal.returns-clause-stand
 returns-clause-stand g c =
-    let one = g.S.LabelStore.labels c.args.store.now in
-    let two = g.S.LabelStore.labels c.put_object.new.store in
-    placed_stand two (objects_of c.args.table.now) (objects_of c.add.new.self) c.args.number c.in_ok-object.object
+    placed_stand _ (objects_of c.args.table.now) (objects_of c.add.new.self) c.args.number c.in_ok-object.object
     c.add.result c.add.ensures.ok c.add.ensures.err
-    (all_on one two c.put_object.ensures.keeps (objects_of c.args.table.now) c.requires.stand) c.in_ok-object.ensures.stands
+    (all_on _ _ c.put_object.ensures.keeps _ c.requires.stand) c.in_ok-object.ensures.stands
 
 pub returns-clause-ok : goal.returns-clause-ok
 returns-clause-ok g c =
-    let one = g.S.LabelStore.labels c.args.store.now in
-    let two = g.S.LabelStore.labels c.put_object.new.store in
     let o = c.in_ok-object.object in
-    let same = shown_on one two c.put_object.ensures.keeps c.args.table.now c.requires.stand in
+    let same = shown_on _ _ c.put_object.ensures.keeps c.args.table.now c.requires.stand in
     on_ok_weaker c.add.result
     (λ (e : objects_of c.add.new.self ≡ put (objects_of c.args.table.now) c.args.number o).
-    shown_put two c.args.table.now c.add.new.self c.args.number o e
+    shown_put (g.S.LabelStore.labels c.put_object.new.store) c.args.table.now c.add.new.self c.args.number o e
     ∙ (λ i. put (same i) c.args.number (c.in_ok-object.ensures.value i)))
     c.add.ensures.ok
 
 pub returns-clause-err : goal.returns-clause-err
 returns-clause-err g c =
-    let one = g.S.LabelStore.labels c.args.store.now in
-    let two = g.S.LabelStore.labels c.put_object.new.store in
     on_err_weaker c.add.result
     (λ (e : objects_of c.add.new.self ≡ objects_of c.args.table.now).
-    shown_same two c.args.table.now c.add.new.self e
-    ∙ shown_on one two c.put_object.ensures.keeps c.args.table.now c.requires.stand)
+    shown_same (g.S.LabelStore.labels c.put_object.new.store) c.args.table.now c.add.new.self e
+    ∙ shown_on _ _ c.put_object.ensures.keeps c.args.table.now c.requires.stand)
     c.add.ensures.err

@@ -18,40 +18,28 @@ returns-in_err-clearance-clause-err g c =
 
 pub returns-in_err-label-clause-stand : goal.returns-in_err-label-clause-stand
 returns-in_err-label-clause-stand g c =
-    let one = g.S.LabelStore.labels c.args.store.now in
-    let two = g.S.LabelStore.labels c.put.new.self in
-    let three = g.S.LabelStore.labels c.put-2.new.self in
-    all_on one three (trans one two three c.put.ensures.keeps c.put-2.ensures.keeps) (objects_of c.args.table.now) c.requires.stand
+    all_on _ _ (trans _ _ _ c.put.ensures.keeps c.put-2.ensures.keeps) _ c.requires.stand
 
 pub returns-in_err-label-clause-err : goal.returns-in_err-label-clause-err
 returns-in_err-label-clause-err g c =
-    let one = g.S.LabelStore.labels c.args.store.now in
-    let two = g.S.LabelStore.labels c.put.new.self in
-    let three = g.S.LabelStore.labels c.put-2.new.self in
-    on_err _ _ (shown_on one three (trans one two three c.put.ensures.keeps c.put-2.ensures.keeps) c.args.table.now c.requires.stand)
+    on_err _ _ (shown_on _ _ (trans _ _ _ c.put.ensures.keeps c.put-2.ensures.keeps) c.args.table.now c.requires.stand)
 
 pub give_own-requires : goal.give_own-requires
 give_own-requires g c =
-    let one = g.S.LabelStore.labels c.args.store.now in
-    sym (ap is_thread (shows one c.args.table.now c.args.thread) ∙ thread_by one c.args.table.now (objects_of c.args.table.now c.args.thread))
+    let labels = g.S.LabelStore.labels c.args.store.now in
+    sym (ap is_thread (shows labels c.args.table.now c.args.thread) ∙ thread_by labels c.args.table.now (objects_of c.args.table.now c.args.thread))
     ∙ c.requires.is_there
 
 pub returns-clause-stand : goal.returns-clause-stand
 returns-clause-stand g c =
-    let one = g.S.LabelStore.labels c.args.store.now in
-    let two = g.S.LabelStore.labels c.put.new.self in
-    let three = g.S.LabelStore.labels c.put-2.new.self in
-    own_stand one three (trans one two three c.put.ensures.keeps c.put-2.ensures.keeps) c.args.table.now c.args.thread c.requires.stand
+    own_stand _ _ (trans _ _ _ c.put.ensures.keeps c.put-2.ensures.keeps) c.args.table.now c.args.thread c.requires.stand
     c.in_ok-label.label c.in_ok-clearance.clearance c.args.label c.args.clearance c.in_ok-label.ensures.stands
     (c.put-2.ensures.keeps c.in_ok-clearance.clearance c.args.clearance c.in_ok-clearance.ensures.stands)
     c.give_own.new.table c.give_own.ensures
 
 pub returns-clause-ok : goal.returns-clause-ok
 returns-clause-ok g c =
-    let one = g.S.LabelStore.labels c.args.store.now in
-    let two = g.S.LabelStore.labels c.put.new.self in
-    let three = g.S.LabelStore.labels c.put-2.new.self in
-    own_shown one three (trans one two three c.put.ensures.keeps c.put-2.ensures.keeps) c.args.table.now c.args.thread c.requires.stand
+    own_shown _ _ (trans _ _ _ c.put.ensures.keeps c.put-2.ensures.keeps) c.args.table.now c.args.thread c.requires.stand
     c.in_ok-label.label c.in_ok-clearance.clearance c.args.label c.args.clearance c.in_ok-label.ensures.stands
     (c.put-2.ensures.keeps c.in_ok-clearance.clearance c.args.clearance c.in_ok-clearance.ensures.stands)
     c.give_own.new.table c.give_own.ensures

@@ -23,51 +23,34 @@ check_clearance_in-requires-clause-stand g c =
 
 pub returns-in_err-check_clearance_in-clause-stand : goal.returns-in_err-check_clearance_in-clause-stand
 returns-in_err-check_clearance_in-clause-stand g c =
-    let one = g.S.LabelStore.labels c.args.store.now in
-    let two = g.S.LabelStore.labels c.put_copy.new.store in
-    let three = g.S.LabelStore.labels c.check_clearance_in.new.store in
-    all_on one three (keeps_same one two c.put_copy.ensures.keeps three c.check_clearance_in.ensures.unchanged)
-    (objects_of c.args.table.now) c.requires
+    all_on _ _ (keeps_same _ _ c.put_copy.ensures.keeps _ c.check_clearance_in.ensures.unchanged) _ c.requires
 
 pub returns-in_err-check_clearance_in-clause-answer : goal.returns-in_err-check_clearance_in-clause-answer
 returns-in_err-check_clearance_in-clause-answer g c =
-    let one = g.S.LabelStore.labels c.args.store.now in
-    let two = g.S.LabelStore.labels c.put_copy.new.store in
     refused_at_denial _ _ c.from_residual-in_err-check_clearance_in.result c.from_residual-in_err-check_clearance_in.ensures.1
-    (check_put one two c.put_copy.ensures.keeps c.args.table.now c.args.thread c.args.next calls.SetClearance c.in_ok-id.id c.args.clearance.now
+    (check_put _ _ c.put_copy.ensures.keeps c.args.table.now c.args.thread c.args.next calls.SetClearance c.in_ok-id.id c.args.clearance.now
     c.requires c.in_ok-id.ensures.stands ∙ c.in_err-check_clearance_in.ensures.answer)
 
 pub returns-in_err-check_clearance_in-clause-err : goal.returns-in_err-check_clearance_in-clause-err
 returns-in_err-check_clearance_in-clause-err g c =
-    let one = g.S.LabelStore.labels c.args.store.now in
-    let two = g.S.LabelStore.labels c.put_copy.new.store in
-    let three = g.S.LabelStore.labels c.check_clearance_in.new.store in
-    on_err _ _ (shown_on one three (keeps_same one two c.put_copy.ensures.keeps three c.check_clearance_in.ensures.unchanged)
+    on_err _ _ (shown_on _ _ (keeps_same _ _ c.put_copy.ensures.keeps _ c.check_clearance_in.ensures.unchanged)
     c.args.table.now c.requires)
 
 pub returns-clause-stand : goal.returns-clause-stand
 returns-clause-stand g c =
-    let one = g.S.LabelStore.labels c.args.store.now in
-    let two = g.S.LabelStore.labels c.put_copy.new.store in
-    let three = g.S.LabelStore.labels c.check_clearance_in.new.store in
-    clearance_stand one three (keeps_same one two c.put_copy.ensures.keeps three c.check_clearance_in.ensures.unchanged)
+    clearance_stand _ _ (keeps_same _ _ c.put_copy.ensures.keeps _ c.check_clearance_in.ensures.unchanged)
     c.args.table.now c.give_clearance.new.table c.args.thread c.requires c.in_ok-id.id c.args.clearance.now
     (ap (λ (labels : g.row.S-Id.Denot → Option Levels). labels c.in_ok-id.id) c.check_clearance_in.ensures.unchanged ∙ c.in_ok-id.ensures.stands)
     c.give_clearance.ensures
 
 pub returns-clause-answer : goal.returns-clause-answer
 returns-clause-answer g c =
-    let one = g.S.LabelStore.labels c.args.store.now in
-    let two = g.S.LabelStore.labels c.put_copy.new.store in
-    check_put one two c.put_copy.ensures.keeps c.args.table.now c.args.thread c.args.next calls.SetClearance c.in_ok-id.id c.args.clearance.now
+    check_put _ _ c.put_copy.ensures.keeps c.args.table.now c.args.thread c.args.next calls.SetClearance c.in_ok-id.id c.args.clearance.now
     c.requires c.in_ok-id.ensures.stands ∙ c.in_ok-check_clearance_in.ensures.answer
 
 pub returns-clause-ok : goal.returns-clause-ok
 returns-clause-ok g c =
-    let one = g.S.LabelStore.labels c.args.store.now in
-    let two = g.S.LabelStore.labels c.put_copy.new.store in
-    let three = g.S.LabelStore.labels c.check_clearance_in.new.store in
-    clearance_shown one three (keeps_same one two c.put_copy.ensures.keeps three c.check_clearance_in.ensures.unchanged)
+    clearance_shown _ _ (keeps_same _ _ c.put_copy.ensures.keeps _ c.check_clearance_in.ensures.unchanged)
     c.args.table.now c.give_clearance.new.table c.args.thread c.requires c.in_ok-id.id c.args.clearance.now
     (ap (λ (labels : g.row.S-Id.Denot → Option Levels). labels c.in_ok-id.id) c.check_clearance_in.ensures.unchanged ∙ c.in_ok-id.ensures.stands)
     c.give_clearance.ensures

@@ -1,5 +1,5 @@
 -- Proves the goals of `explain_script` of src/session.rt that the search leaves open.
-use Rattle.std.proofs.lemmas.Result.{err_from_is_err_and}
+use Rattle.histar_io.proofs.Residuals.{passed_on}
 use Rattle.histar_script.specs.Outcome.{input_fault}
 use Rattle.histar_script.proofs.Sinks.{sink_left}
 use Rattle.histar_run_explain.proofs.TextRuns.{input_known, runs_taken, stops_reading}
@@ -7,13 +7,11 @@ use Rattle.histar_run_explain.proofs.session.explain_script.Goals as goal
 
 pub returns-in_err-input-clause-nothing : goal.returns-in_err-input-clause-nothing
 returns-in_err-input-clause-nothing g c =
-    let p = err_from_is_err_and c.from_residual.result c.from_residual.ensures.1 in
-    rw (p.1, p.2) (sink_left c.args.writer.now (input_fault c.in_err-input.field-0.0))
+    rw (passed_on _ _ c.from_residual.ensures.1) (sink_left c.args.writer.now (input_fault c.in_err-input.field-0.0))
 
 pub returns-in_err-input-clause-runs : goal.returns-in_err-input-clause-runs
 returns-in_err-input-clause-runs g c =
-    let p = err_from_is_err_and c.from_residual.result c.from_residual.ensures.1 in
-    rw (p.1, p.2) (stops_reading c.args.options c.in_err-input.field-0.0 _ _ _ c.in_err-input.ensures.err)
+    rw (passed_on _ _ c.from_residual.ensures.1) (stops_reading c.args.options c.in_err-input.field-0.0 _ _ _ c.in_err-input.ensures.err)
 
 pub returns-in_err-input-clause-known : goal.returns-in_err-input-clause-known
 returns-in_err-input-clause-known g c = input_known c.args.options _ _ _ _ _ (returns-in_err-input-clause-runs g c)

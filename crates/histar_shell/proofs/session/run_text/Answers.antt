@@ -1,5 +1,5 @@
 -- Proves the goals of `run_text` of src/session.rt that the search leaves open.
-use Rattle.std.proofs.lemmas.Result.{err_from_is_err_and}
+use Rattle.histar_io.proofs.Residuals.{passed_on}
 use Rattle.histar_script.proofs.Sinks.{sink_left}
 use Rattle.histar_shell.proofs.CallRefinements.{calls_refine}
 use Rattle.histar_shell.proofs.SessionMeanings.{tree_at_last}
@@ -9,13 +9,12 @@ use Rattle.histar_shell.proofs.session.run_text.Goals as goal
 
 pub returns-in_err-script-clause-nothing : goal.returns-in_err-script-clause-nothing
 returns-in_err-script-clause-nothing g c =
-    let p = err_from_is_err_and c.from_residual.result c.from_residual.ensures.1 in
-    rw (p.1, p.2) (sink_left c.args.writer.now c.in_err-script.field-0.0)
+    rw (passed_on _ _ c.from_residual.ensures.1) (sink_left c.args.writer.now c.in_err-script.field-0.0)
 
 pub returns-in_err-script-clause-runs : goal.returns-in_err-script-clause-runs
 returns-in_err-script-clause-runs g c =
-    let p = err_from_is_err_and c.from_residual.result c.from_residual.ensures.1 in
-    rw (p.1, p.2) (faulty_text c.args.options calls_refine c.args.text.items _ c.in_err-script.field-0.0 c.in_err-script.ensures.exact)
+    rw (passed_on _ _ c.from_residual.ensures.1) (faulty_text c.args.options calls_refine c.args.text.items _ c.in_err-script.field-0.0
+    c.in_err-script.ensures.exact)
 
 pub returns-in_default-clause-runs : goal.returns-in_default-clause-runs
 returns-in_default-clause-runs g c = unbooted_text c.args.options calls_refine c.args.text.items _

@@ -2,6 +2,7 @@
 use Rattle.std.proofs.Common.{◌≡◌, ℕ, ◌+◌, List, None, subst, ◌∙◌}
 use Rattle.std.specs.Io.KnownBytes.{Appends}
 use Rattle.std.proofs.lemmas.Result.{err_from_is_err_and}
+use Rattle.histar_io.proofs.Residuals.{passed_on}
 use Rattle.histar_io.specs.Writing.{AppendsFront}
 use Rattle.histar_io.proofs.WritingLemmas.{sent_none}
 use Rattle.histar_flat.specs.Meaning.{boot}
@@ -32,13 +33,11 @@ returns-in_err-outcome-clause-err g c =
 
 pub returns-in_err-outcome-clause-count : goal.returns-in_err-outcome-clause-count
 returns-in_err-outcome-clause-count g c =
-    let p = err_from_is_err_and c.from_residual-in_err-outcome.result c.from_residual-in_err-outcome.ensures.1 in
-    rw (p.1, p.2) (rw c.in_err-outcome.was at c.take_steps-outcome.ensures.count)
+    rw (passed_on _ _ c.from_residual-in_err-outcome.ensures.1) (rw c.in_err-outcome.was at c.take_steps-outcome.ensures.count)
 
 pub returns-in_err-outcome-clause-faults : goal.returns-in_err-outcome-clause-faults
 returns-in_err-outcome-clause-faults g c =
-    let p = err_from_is_err_and c.from_residual-in_err-outcome.result c.from_residual-in_err-outcome.ensures.1 in
-    rw (p.1, p.2) (rw c.in_err-outcome.was at c.take_steps-outcome.ensures.faults)
+    rw (passed_on _ _ c.from_residual-in_err-outcome.ensures.1) (rw c.in_err-outcome.was at c.take_steps-outcome.ensures.faults)
 
 pub returns-clause-ok : goal.returns-clause-ok
 returns-clause-ok g c =

@@ -1,6 +1,6 @@
 -- Proves the goals of `take_line` of src/steps.rt that the search leaves open.
 use Rattle.std.proofs.Common.{◌≡◌, List, None, Some, refl, rules, subst, sym}
-use Rattle.std.proofs.lemmas.Result.{err_from_is_err_and}
+use Rattle.histar_io.proofs.Residuals.{passed_on}
 use Rattle.histar_test.specs.declared.steps.Step.{Step}
 use Rattle.histar_test.specs.Steps.{AddsLine, open_after}
 use Rattle.histar_test.proofs.StepLemmas.{line_refused, nothing_added, read_as, step_added, step_refused}
@@ -8,9 +8,9 @@ use Rattle.histar_test.proofs.steps.take_line.Goals as goal
 
 pub returns-in_err-step : goal.returns-in_err-step
 returns-in_err-step c =
-    let p = err_from_is_err_and c.from_residual.result c.from_residual.ensures.1 in
     let items = c.args.steps.now.items in
-    rw (p.1, p.2) (line_refused c.args.number c.args.is_open c.args.line.now c.in_err-step.field-0.0 c.in_err-step.ensures items items)
+    rw (passed_on _ _ c.from_residual.ensures.1) (line_refused c.args.number c.args.is_open c.args.line.now c.in_err-step.field-0.0
+    c.in_err-step.ensures items items)
 
 pub returns-in_default : goal.returns-in_default
 returns-in_default c =

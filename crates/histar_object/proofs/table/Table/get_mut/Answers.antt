@@ -27,7 +27,7 @@ returns-in_err-slot g c =
 pub invariant_of-self-lent : goal.invariant_of-self-lent
 invariant_of-self-lent g c lent =
     let old = get c.self.inside.objects in
-    let here : slot_at c.self.inside.slots.entries c.args.id ≡ Some slot = sym c.get.ensures ∙ c.in_ok-slot.was in (
+    let here : slot_at c.self.inside.slots.entries c.args.id ≡ Some c.in_ok-slot.slot = sym c.get.ensures ∙ c.in_ok-slot.was in (
       λ w. (let updates = Updates-with_value c.self.inside.objects c.in_ok-slot.slot w (c.self.invariant.filled c.args.id c.in_ok-slot.slot here) in
           let new = get (with_value c.self.inside.objects c.in_ok-slot.slot w) in
           let one = written old new c.self.inside.slots.entries c.self.invariant c.args.id c.in_ok-slot.slot w here updates.changed updates.others in
@@ -39,7 +39,7 @@ invariant_of-self-lent g c lent =
 pub returns : goal.returns
 returns g c =
     let old = get c.self.inside.objects in
-    let here : slot_at c.self.inside.slots.entries c.args.id ≡ Some slot = sym c.get.ensures ∙ c.in_ok-slot.was in (
+    let here : slot_at c.self.inside.slots.entries c.args.id ≡ Some c.in_ok-slot.slot = sym c.get.ensures ∙ c.in_ok-slot.was in (
       (
         refl,
         λ w. (let updates = Updates-with_value c.self.inside.objects c.in_ok-slot.slot w (c.self.invariant.filled c.args.id c.in_ok-slot.slot here) in

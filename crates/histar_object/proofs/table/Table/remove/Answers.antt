@@ -20,7 +20,7 @@ pub invariant_of-self-2 : goal.invariant_of-self-2
 invariant_of-self-2 g c =
     let old = get c.self.inside.objects in
     let new = get c.try_remove.new.self in
-    let here : slot_at c.self.inside.slots.entries c.args.id ≡ Some slot = sym c.remove.ensures.value ∙ c.in_ok-slot.was in
+    let here : slot_at c.self.inside.slots.entries c.args.id ≡ Some c.in_ok-slot.slot = sym c.remove.ensures.value ∙ c.in_ok-slot.was in
     let one =
     removed old new c.self.inside.slots.entries c.self.invariant c.args.id c.in_ok-slot.slot c.remove.new.self.entries here c.remove.ensures.updates
     c.try_remove.ensures.updates.changed c.try_remove.ensures.updates.others in
@@ -37,7 +37,7 @@ pub returns-clause-without : goal.returns-clause-without
 returns-clause-without g c =
     let old = get c.self.inside.objects in
     let new = get c.try_remove.new.self in
-    let here : slot_at c.self.inside.slots.entries c.args.id ≡ Some slot = sym c.remove.ensures.value ∙ c.in_ok-slot.was in
+    let here : slot_at c.self.inside.slots.entries c.args.id ≡ Some c.in_ok-slot.slot = sym c.remove.ensures.value ∙ c.in_ok-slot.was in
     let one =
     removed old new c.self.inside.slots.entries c.self.invariant c.args.id c.in_ok-slot.slot c.remove.new.self.entries here c.remove.ensures.updates
     c.try_remove.ensures.updates.changed c.try_remove.ensures.updates.others in
