@@ -43,6 +43,6 @@ returns-in-None c =
 pub returns-in-Some-rest : goal.returns-in-Some-rest
 returns-in-Some-rest c =
     let text = c.in-Some-rest.field-0.now in
-    let some : option_copied c.loop.rest ≡ Some c.in-Some.text.now = ap option_copied c.in-Some-rest.is in
+    let some : option_copied c.loop.rest ≡ Some text = ap option_copied c.in-Some-rest.is in
     let end : 7 - c.loop.counter ≡ 0 = omega (arith, c.loop-test.false) in
     sym ((λ i. process_from (end i) c.loop.process (some i)) ∙ too_many c.loop.process text) ∙ c.loop.invariant.0

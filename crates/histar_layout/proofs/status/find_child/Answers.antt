@@ -18,15 +18,16 @@ children-init c = sought_first c.args.bytes.now _ _ c.args.number c.in-Some.ensu
 
 pub returns-then-front-number : goal.returns-then-front-number
 returns-then-front-number c =
+    let parts = c.in-Some-split_first_chunk.ensures.cases in
     ap Ok c.first_child.ensures
     ∙ sym (sought_here _ c.args.number c.children.rest.now c.in-Some-split_first_chunk.front.now c.children.invariant
-    (omega arith) c.in-Some-split_first_chunk.ensures.cases.0 c.if-front-number.true)
+    (omega arith) parts.0 c.if-front-number.true)
 
 pub children-preserved : goal.children-preserved
 children-preserved c =
+    let parts = c.in-Some-split_first_chunk.ensures.cases in
     seek_on _ c.args.number c.children.rest.now c.in-Some-split_first_chunk.front.now
-    c.in-Some-split_first_chunk.after.now c.children.invariant (omega arith) c.in-Some-split_first_chunk.ensures.cases.0
-    c.in-Some-split_first_chunk.ensures.cases.1 c.if-front-number.false
+    c.in-Some-split_first_chunk.after.now c.children.invariant (omega arith) parts.0 parts.1 c.if-front-number.false
 
 pub returns : goal.returns
 returns c =
