@@ -15,6 +15,10 @@ pub record Turn : Type 0 where
   pub thread : ℕ
   pub call : RawCall
 
+-- the turn of a thread that makes a call
+abbrev pub turn : ObjectsModel → ObjectsModel → ℕ → RawCall → Turn
+turn old new thread call = record { old = old; new = new; thread = thread; call = call }
+
 -- the turn ends so, and what it answers is right
 abbrev pub Ends : {A : Type 0} → Turn → Result A Refusal → (A → Type 0) → Type 0
 Ends t result IsRight = Decides t.old t.new t.thread t.call result IsRight
