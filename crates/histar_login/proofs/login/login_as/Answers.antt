@@ -42,7 +42,7 @@ at_password : (g : given.Over) (c : In_ok-enter_gate g)
 at_password g c =
     further (ask (entering c.args.given.owners.now c.args.number c.in_ok-own.own.0 c.in_ok-own.own.1))
     (after_gate c.args.caller.now c.args.number c.args.given.owners.now c.args.password c.in_ok-own.own)
-    (at_gate g c.before.before.before.before) c.enter_gate.new.kernel c.in_ok-enter_gate.field-0 c.in_ok-enter_gate.ensures
+    (at_gate g c.before.before.before.before.before.before) c.enter_gate.new.kernel c.in_ok-enter_gate.field-0 c.in_ok-enter_gate.ensures
 
 pub returns-in_err-right : goal.returns-in_err-right
 returns-in_err-right g c =
