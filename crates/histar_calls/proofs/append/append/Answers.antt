@@ -14,24 +14,19 @@ use Rattle.histar_calls.proofs.append.append.Goals.{In_ok-file}
 
 pub returns-in_err-file : goal.returns-in_err-file
 returns-in_err-file g c =
-    ends_so (find_file c.args.unix.now.roots.now c.args.path.now) (to_write most_bytes c.args.bytes)
-    (append_begun c.args.unix.now.roots.now c.args.path.now c.args.unix.now.caller.now.thread c.args.kernel.now c.args.bytes)
-    c.find_file.new.kernel c.in_err-file.field-0.0 _ c.from_residual.ensures.1 c.in_err-file.ensures
+    ends_so _ (to_write most_bytes _) (append_begun _ _ _ _ _) _ _ _ c.from_residual.ensures.1 c.in_err-file.ensures
 
 -- once the file was found, it is left to write it
 writing : (g : given.Over) (c : In_ok-file g)
     → Leaves c.args.unix.now.caller.now.thread (append_program c.args.unix.now.roots.now c.args.path.now c.args.bytes) c.args.kernel.now
     (to_write most_bytes c.args.bytes c.in_ok-file.file) c.find_file.new.kernel
 writing g c =
-    further (find_file c.args.unix.now.roots.now c.args.path.now) (to_write most_bytes c.args.bytes)
-    (append_begun c.args.unix.now.roots.now c.args.path.now c.args.unix.now.caller.now.thread c.args.kernel.now c.args.bytes)
-    c.find_file.new.kernel c.in_ok-file.file c.in_ok-file.ensures
+    further _ (to_write most_bytes _) (append_begun _ _ _ _ _) _ _ c.in_ok-file.ensures
 
 pub returns-in_err-written : goal.returns-in_err-written
 returns-in_err-written g c =
-    ends_so (ask (write_of most_bytes c.args.bytes c.in_ok-file.file)) (λ (done : Unit {0}). Answers Done)
-    (writing g (goal.at.returns-in_err-written g c).In_ok-file) c.write.new.self _ _ c.from_residual-in_err-written.ensures.1
-    (asks c.args.unix.now.caller.now.thread (write_of most_bytes c.args.bytes c.in_ok-file.file) c.find_file.new.kernel c.write.new.self c.write.result
+    ends_so (ask (write_of most_bytes _ _)) (λ (done : Unit {0}). Answers Done)
+    (writing g (goal.at.returns-in_err-written g c).In_ok-file) _ _ _ c.from_residual-in_err-written.ensures.1 (asks _ (write_of most_bytes _ _) _ _ _
     c.write.ensures _ c.in_err-written.ensures)
 
 pub returns : goal.returns

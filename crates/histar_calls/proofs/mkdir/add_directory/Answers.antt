@@ -15,36 +15,25 @@ use Rattle.histar_calls.proofs.mkdir.add_directory.Goals.{In_ok-container, In_ok
 
 pub returns-in_err-same : goal.returns-in_err-same
 returns-in_err-same g c =
-    fails_so c.args.thread (add_directory c.args.label c.args.room) c.args.kernel.now c.args.kernel.now Stopped _ c.from_residual.ensures.1
-    (before_adding c.args.thread c.args.label c.args.room c.args.kernel.now)
+    fails_so _ _ _ _ Stopped _ c.from_residual.ensures.1 (before_adding _ _ _ _)
 
 pub returns-in_err-container : goal.returns-in_err-container
 returns-in_err-container g c =
-    ends_in_so (ask (MakeContainer c.args.room.place.container c.args.label)) (after_container c.args.label c.args.room)
-    (whole_part c.args.thread (add_directory c.args.label c.args.room) c.args.kernel.now) c.make_container.new.self _ _
-    c.from_residual-in_err-container.ensures.1
-    (refuses c.args.thread (MakeContainer c.args.room.place.container c.args.label) c.args.kernel.now c.make_container.new.self _
-    c.in_err-container.field-0.0 c.in_err-container.ensures)
+    ends_in_so _ (after_container _ _) (whole_part _ _ _) _ _ _ c.from_residual-in_err-container.ensures.1 (refuses _ _ _ _ _
+    _ c.in_err-container.ensures)
 
 -- once the container was made, its directory segment is left, and what comes after it
 listing_it : (g : given.Over) (c : In_ok-container g)
     → LeavesPart (Unit {0}) c.args.thread (add_directory c.args.label c.args.room) c.args.kernel.now
     (after_container c.args.label c.args.room c.in_ok-container.container) c.make_container.new.self
 listing_it g c =
-    further_in (ask (MakeContainer c.args.room.place.container c.args.label)) (after_container c.args.label c.args.room)
-    (whole_part c.args.thread (add_directory c.args.label c.args.room) c.args.kernel.now) c.make_container.new.self c.in_ok-container.container
-    (grants c.args.thread (MakeContainer c.args.room.place.container c.args.label) c.args.kernel.now c.make_container.new.self
-    c.in_ok-container.container c.in_ok-container.ensures.0 c.in_ok-container.ensures.1.0)
+    further_in _ (after_container _ _) (whole_part _ _ _) _ _ (grants _ _ _ _ _ c.in_ok-container.ensures.0 c.in_ok-container.ensures.1.0)
 
 pub returns-in_err-listing : goal.returns-in_err-listing
 returns-in_err-listing g c =
-    ends_in_so (ask (MakeSegment c.in_ok-container.container c.args.label [])) (after_listing c.args.room c.in_ok-container.container)
-    (listing_it g (goal.at.returns-in_err-listing g c).In_ok-container) c.make_segment.new.self _ _
-    c.from_residual-in_err-listing.ensures.1
-    (makes c.args.thread c.make_container.new.self c.make_segment.new.self c.in_ok-container.container c.in_ok-same.same c.args.label
-    c.new-empty.result c.in_ok-same.ensures c.new-empty.ensures _
-    (refuses c.args.thread (MakeSegment c.in_ok-container.container c.in_ok-same.same c.new-empty.result) c.make_container.new.self
-    c.make_segment.new.self _ c.in_err-listing.field-0.0 c.in_err-listing.ensures))
+    ends_in_so _ (after_listing _ _) (listing_it g (goal.at.returns-in_err-listing g c).In_ok-container) _ _ _
+    c.from_residual-in_err-listing.ensures.1 (makes _ _ _ _ _ _ _ c.in_ok-same.ensures c.new-empty.ensures _ (refuses _ _ _
+    _ _ _ c.in_err-listing.ensures))
 
 -- once the directory segment was made, the entry is left
 entering : (g : given.Over) (c : In_ok-listing g)
@@ -53,26 +42,18 @@ entering : (g : given.Over) (c : In_ok-listing g)
     → LeavesPart (Unit {0}) c.args.thread (add_directory c.args.label c.args.room) c.args.kernel.now
     (after_listing c.args.room c.in_ok-container.container c.in_ok-listing.listing) c.make_segment.new.self
 entering g c way =
-    further_in (ask (MakeSegment c.in_ok-container.container c.args.label [])) (after_listing c.args.room c.in_ok-container.container)
-    way c.make_segment.new.self c.in_ok-listing.listing
-    (makes c.args.thread c.make_container.new.self c.make_segment.new.self c.in_ok-container.container c.in_ok-same.same c.args.label
-    c.new-empty.result c.in_ok-same.ensures c.new-empty.ensures _
-    (grants c.args.thread (MakeSegment c.in_ok-container.container c.in_ok-same.same c.new-empty.result) c.make_container.new.self
-    c.make_segment.new.self c.in_ok-listing.listing c.in_ok-listing.ensures.0 c.in_ok-listing.ensures.1.0))
+    further_in _ (after_listing _ _) way _ _ (makes _ _ _ _ _ _ _ c.in_ok-same.ensures c.new-empty.ensures _ (grants _ _ _
+    _ _ c.in_ok-listing.ensures.0 c.in_ok-listing.ensures.1.0))
 
 pub returns-in_err-insert : goal.returns-in_err-insert
 returns-in_err-insert g c =
-    fails_so c.args.thread (add_directory c.args.label c.args.room) c.args.kernel.now c.make_segment.new.self Stopped _
-    c.from_residual-in_err-insert.ensures.1
+    fails_so _ _ _ _ Stopped _ c.from_residual-in_err-insert.ensures.1
     ((entering g (goal.at.returns-in_err-insert g c).In_ok-listing (listing_it g (goal.at.returns-in_err-insert g c).In_ok-container)).leads
-    c.make_segment.new.self (Err Stopped)
-    (before_ask c.args.thread (Write c.args.room.place.container c.args.room.place.listing 0
-    (spelling (grown c.args.room c.in_ok-container.container c.in_ok-listing.listing))) c.make_segment.new.self))
+    c.make_segment.new.self (Err Stopped) (before_ask _ (Write c.args.room.place.container c.args.room.place.listing 0
+    (spelling (grown c.args.room _ _))) _))
 
 pub returns : goal.returns
 returns g c =
     (entering g (goal.at.returns g c).In_ok-listing (listing_it g (goal.at.returns g c).In_ok-container)).leads
-    c.write_entries.new.kernel c.write_entries.result
-    (part_as c.args.thread (after_listing c.args.room c.in_ok-container.container c.in_ok-listing.listing) c.make_segment.new.self
-    c.write_entries.new.kernel _ (ap (write_entries c.args.room.place) (sym c.in_ok-insert.ensures.ok)) c.write_entries.result
-    c.write_entries.ensures)
+    c.write_entries.new.kernel c.write_entries.result (part_as _ (after_listing _ _ _) _
+    _ _ (ap (write_entries c.args.room.place) (sym c.in_ok-insert.ensures.ok)) _ c.write_entries.ensures)

@@ -15,10 +15,8 @@ use Rattle.histar_calls.proofs.mkdir.make_directory.Goals.{In_ok-own}
 
 pub returns-in_err-own : goal.returns-in_err-own
 returns-in_err-own g c =
-    ends_in_so (ask OwnLabel) (after_own c.args.unix.now.users.now c.args.mode c.args.room)
-    (whole_part c.args.unix.now.caller.now.thread (make_directory c.args.unix.now.users.now c.args.mode c.args.room) c.args.kernel.now)
-    c.lend_own_label.follows.lender-at-none _ _ c.from_residual.ensures.1
-    (refuses c.args.unix.now.caller.now.thread OwnLabel c.args.kernel.now c.lend_own_label.follows.lender-at-none _ c.in_err-own.field-0.0
+    ends_in_so _ (after_own _ _ _) (whole_part _ _ _) c.lend_own_label.follows.lender-at-none _ _ c.from_residual.ensures.1
+    (refuses _ OwnLabel _ c.lend_own_label.follows.lender-at-none _ _
     (subst (λ (r : Result _ _). OwnLent c.args.kernel.now c.args.unix.now.caller.now.thread r c.lend_own_label.follows.lender-at-none)
     c.in_err-own.was c.lend_own_label.follows.holds-at-none))
 
@@ -34,23 +32,16 @@ adding : (g : given.Over) (c : In_ok-own g)
     → LeavesPart (Unit {0}) c.args.unix.now.caller.now.thread (make_directory c.args.unix.now.users.now c.args.mode c.args.room) c.args.kernel.now
     (add_directory (label_made c.args.unix.now.users.now c.in_ok-own.own.now c.args.mode) c.args.room) c.lend_own_label.follows.lender-at-none
 adding g c =
-    further_in (ask OwnLabel) (after_own c.args.unix.now.users.now c.args.mode c.args.room)
-    (whole_part c.args.unix.now.caller.now.thread (make_directory c.args.unix.now.users.now c.args.mode c.args.room) c.args.kernel.now)
-    c.lend_own_label.follows.lender-at-none (c.in_ok-own.own.now, (lent g c).1.0)
-    (grants c.args.unix.now.caller.now.thread OwnLabel c.args.kernel.now c.lend_own_label.follows.lender-at-none
-    (c.in_ok-own.own.now, (lent g c).1.0) (lent g c).0 (lent g c).1.1)
+    further_in _ (after_own _ _ _) (whole_part _ _ _) c.lend_own_label.follows.lender-at-none (c.in_ok-own.own.now, (lent g c).1.0)
+    (grants _ OwnLabel _ c.lend_own_label.follows.lender-at-none (c.in_ok-own.own.now, (lent g c).1.0) (lent g c).0 (lent g c).1.1)
 
 pub returns-in_err-label : goal.returns-in_err-label
 returns-in_err-label g c =
-    fails_so c.args.unix.now.caller.now.thread (make_directory c.args.unix.now.users.now c.args.mode c.args.room) c.args.kernel.now
-    c.lend_own_label.follows.lender-at-none Stopped _ c.from_residual-in_err-label.ensures.1
-    ((adding g (goal.at.returns-in_err-label g c).In_ok-own).leads c.lend_own_label.follows.lender-at-none (Err Stopped)
-    (before_adding c.args.unix.now.caller.now.thread (label_made c.args.unix.now.users.now c.in_ok-own.own.now c.args.mode) c.args.room
+    fails_so _ _ _ c.lend_own_label.follows.lender-at-none Stopped _ c.from_residual-in_err-label.ensures.1
+    ((adding g (goal.at.returns-in_err-label g c).In_ok-own).leads c.lend_own_label.follows.lender-at-none (Err Stopped) (before_adding _ _ _
     c.lend_own_label.follows.lender-at-none))
 
 pub returns : goal.returns
 returns g c =
     (adding g (goal.at.returns g c).In_ok-own).leads c.add_directory.new.kernel c.add_directory.result
-    (adds_so c.args.unix.now.caller.now.thread c.lend_own_label.follows.lender-at-none c.add_directory.new.kernel c.in_ok-label.label
-    (label_made c.args.unix.now.users.now c.in_ok-own.own.now c.args.mode) c.args.room c.in_ok-label.ensures c.add_directory.result
-    c.add_directory.ensures)
+    (adds_so _ c.lend_own_label.follows.lender-at-none _ _ _ _ c.in_ok-label.ensures _ c.add_directory.ensures)

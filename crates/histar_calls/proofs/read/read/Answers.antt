@@ -13,31 +13,24 @@ use Rattle.histar_calls.proofs.read.read.Goals.{In_ok-file}
 
 pub returns-in_err-file : goal.returns-in_err-file
 returns-in_err-file g c =
-    ends_so (find_file c.args.unix.now.roots.now c.args.path.now) to_read
-    (read_begun c.args.unix.now.roots.now c.args.path.now c.args.unix.now.caller.now.thread c.args.kernel.now)
-    c.find_file.new.kernel c.in_err-file.field-0.0 _ c.from_residual.ensures.1 c.in_err-file.ensures
+    ends_so _ to_read (read_begun _ _ _ _) _ _ _ c.from_residual.ensures.1 c.in_err-file.ensures
 
 -- once the file was found, it is left to read it
 reading : (g : given.Over) (c : In_ok-file g)
     → Leaves c.args.unix.now.caller.now.thread (read_program c.args.unix.now.roots.now c.args.path.now) c.args.kernel.now
     (to_read c.in_ok-file.file) c.find_file.new.kernel
 reading g c =
-    further (find_file c.args.unix.now.roots.now c.args.path.now) to_read
-    (read_begun c.args.unix.now.roots.now c.args.path.now c.args.unix.now.caller.now.thread c.args.kernel.now)
-    c.find_file.new.kernel c.in_ok-file.file c.in_ok-file.ensures
+    further _ to_read (read_begun _ _ _ _) _ _ c.in_ok-file.ensures
 
 pub returns-in_err-bytes : goal.returns-in_err-bytes
 returns-in_err-bytes g c =
-    ends_so (ask (read_of c.in_ok-file.file)) (λ bytes. Answers (Data bytes)) (reading g (goal.at.returns-in_err-bytes g c).In_ok-file)
-    c.read_copy.new.self _ _ c.from_residual-in_err-bytes.ensures.1
-    (refuses c.args.unix.now.caller.now.thread (read_of c.in_ok-file.file) c.find_file.new.kernel c.read_copy.new.self _ c.in_err-bytes.field-0.0
-    c.in_err-bytes.ensures)
+    ends_so (ask (read_of _)) (λ bytes. Answers (Data bytes)) (reading g (goal.at.returns-in_err-bytes g c).In_ok-file)
+    _ _ _ c.from_residual-in_err-bytes.ensures.1 (refuses _ (read_of _) _ _ _ _ c.in_err-bytes.ensures)
 
 pub returns : goal.returns
 returns g c =
     let end = c.read_copy.new.self in
     let bytes = c.in_ok-bytes.bytes in
-    let done = further (ask (read_of c.in_ok-file.file)) (λ found. Answers (Data found)) (reading g (goal.at.returns g c).In_ok-file) end bytes
-    (grants c.args.unix.now.caller.now.thread (read_of c.in_ok-file.file) c.find_file.new.kernel end bytes c.in_ok-bytes.ensures.0
-    c.in_ok-bytes.ensures.1) in
-    done.leads end (Ok (Data bytes)) (says c.args.unix.now.caller.now.thread end (Data bytes))
+    let done = further (ask (read_of _)) (λ found. Answers (Data found)) (reading g (goal.at.returns g c).In_ok-file) end bytes
+    (grants _ (read_of _) _ end bytes c.in_ok-bytes.ensures.0 c.in_ok-bytes.ensures.1) in
+    done.leads end (Ok _) (says _ end _)

@@ -41,7 +41,7 @@ begun : (t : ℕ) (roots : Roots) (path : Path) (old : KernelModel) (name : Name
     → LeavesPart FoundObject t (find_object roots path) old (λ rest. find_place roots (parent_of path) (λ place. in_place name place rest)) old
 unfolding find_object
 begun t roots path old name split = record {
-  leads = λ new result on. subst (λ (names : Path). RunsPart (find_object roots names) old new t result) (sym split) on
+  leads = λ new result on. subst (λ (names : Path). RunsPart (find_object roots names) old new t result) (sym split) on;
 }
 
 pub returns-in_default : goal.returns-in_default
@@ -49,61 +49,42 @@ unfolding find_object
 returns-in_default g c =
     let k = c.args.kernel.now in
     let roots = c.args.roots.now in
-    part_as c.args.thread (find_object roots c.args.path.now) k k (find_object roots [])
-    (ap (find_object roots) (no_names c.args.path.now (omega arith))) _
-    (subst (λ root. RunsPart (find_object roots []) k k c.args.thread
-    (Ok (record { container = root; object = roots.slash.container; is_directory = true })))
-    (sym c.new.ensures)
-    (hands c.args.thread k (record { container = root_number; object = roots.slash.container; is_directory = true })))
+    part_as _ _ k k _ (ap (find_object roots) (no_names _ (omega arith))) _ (subst (λ root. RunsPart (find_object roots []) k k c.args.thread
+    (Ok (record { container = root; object = roots.slash.container; is_directory = true }))) (sym c.new.ensures)
+    (hands _ k (record { container = root_number; object = roots.slash.container; is_directory = true })))
 
 pub returns-in_err-place : goal.returns-in_err-place
 returns-in_err-place g c =
-    ends_in_so (find_place c.args.roots.now (parent_of c.args.path.now)) (in_place c.name-item.result)
-    (begun c.args.thread c.args.roots.now c.args.path.now c.args.kernel.now c.name-item.result
-    (first_of_names c.args.path.now c.name-item.result (omega arith) c.name-item.is))
-    c.find_place.new.kernel c.in_err-place.field-0.0 _ c.from_residual.ensures.1 c.in_err-place.ensures
+    ends_in_so _ _ (begun _ _ _ _ _ (first_of_names _ _ (omega arith) c.name-item.is)) _ _ _ c.from_residual.ensures.1 c.in_err-place.ensures
 
 -- once the place is known, the name is looked up there
 looking : (g : given.Over) (c : In_ok-place g)
     → LeavesPart FoundObject c.args.thread (find_object c.args.roots.now c.args.path.now) c.args.kernel.now
     (in_place c.name-item.result c.in_ok-place.place) c.find_place.new.kernel
 looking g c =
-    further_in (find_place c.args.roots.now (parent_of c.args.path.now)) (in_place c.name-item.result)
-    (begun c.args.thread c.args.roots.now c.args.path.now c.args.kernel.now c.name-item.result
-    (first_of_names c.args.path.now c.name-item.result (omega arith) c.name-item.is))
-    c.find_place.new.kernel c.in_ok-place.place c.in_ok-place.ensures
+    further_in _ _ (begun _ _ _ _ _ (first_of_names _ _ (omega arith) c.name-item.is)) _ _ c.in_ok-place.ensures
 
 pub returns-in_err-found : goal.returns-in_err-found
 returns-in_err-found g c =
-    ends_in_so (look_in c.in_ok-place.place c.name-item.result) (after_look c.in_ok-place.place)
-    (looking g (goal.at.returns-in_err-found g c).In_ok-place)
-    c.look_in.new.kernel c.in_err-found.field-0.0 _ c.from_residual-in_err-found.ensures.1 c.in_err-found.ensures
+    ends_in_so _ _ (looking g (goal.at.returns-in_err-found g c).In_ok-place) _ _ _ c.from_residual-in_err-found.ensures.1 c.in_err-found.ensures
 
 -- once the name was looked up, what it leads to is left
 looked : (g : given.Over) (c : In_ok-found g)
     → LeavesPart FoundObject c.args.thread (find_object c.args.roots.now c.args.path.now) c.args.kernel.now
     (after_look c.in_ok-place.place c.in_ok-found.found) c.look_in.new.kernel
 looked g c =
-    further_in (look_in c.in_ok-place.place c.name-item.result) (after_look c.in_ok-place.place)
-    (looking g c.before.before.before.before.before) c.look_in.new.kernel c.in_ok-found.found c.in_ok-found.ensures
+    further_in _ _ (looking g c.before.before.before.before.before) _ _ c.in_ok-found.ensures
 
 pub returns-in_err-target : goal.returns-in_err-target
 returns-in_err-target g c =
-    fails_so c.args.thread (find_object c.args.roots.now c.args.path.now) c.args.kernel.now c.look_in.new.kernel (Refused c.in_err-target.field-0.0) _
-    c.from_residual-in_err-target.ensures.1
-    ((looked g (goal.at.returns-in_err-target g c).In_ok-found).leads c.look_in.new.kernel (Err (Refused c.in_err-target.field-0.0))
-    (decides_not c.args.thread c.look_in.new.kernel (object_in c.in_ok-place.place) (entry_at c.in_ok-found.found) c.in_err-target.field-0.0
-    c.in_err-target.ensures))
+    fails_so _ _ _ _ _ _ c.from_residual-in_err-target.ensures.1
+    ((looked g (goal.at.returns-in_err-target g c).In_ok-found).leads c.look_in.new.kernel (Err _) (decides_not _ _ _ _ _ c.in_err-target.ensures))
 
 pub returns : goal.returns
 returns g c =
     subst (λ (found : FoundObject). RunsPart (find_object c.args.roots.now c.args.path.now) c.args.kernel.now c.look_in.new.kernel c.args.thread
-    (Ok found))
-    (λ i. record {
+    (Ok found)) (λ i. record {
       container = c.in_ok-place.place.container;
       object = sym c.object.ensures i;
       is_directory = sym c.is_directory.ensures i;
-    })
-    ((looked g (goal.at.returns g c).In_ok-found).leads c.look_in.new.kernel (Ok (object_in c.in_ok-place.place c.in_ok-target.target))
-    (decides c.args.thread c.look_in.new.kernel (object_in c.in_ok-place.place) (entry_at c.in_ok-found.found) c.in_ok-target.target
-    c.in_ok-target.ensures))
+    }) ((looked g (goal.at.returns g c).In_ok-found).leads c.look_in.new.kernel (Ok _) (decides _ _ _ _ _ c.in_ok-target.ensures))

@@ -41,48 +41,35 @@ begun accounts roots path t old = record { leads = λ new result on. on }
 
 pub returns-in_err-found : goal.returns-in_err-found
 returns-in_err-found g c =
-    ends_so (find_object c.args.unix.now.roots.now c.args.path.now) (after_object c.args.unix.now.users.now)
-    (begun c.args.unix.now.users.now c.args.unix.now.roots.now c.args.path.now c.args.unix.now.caller.now.thread c.args.kernel.now)
-    c.find_object.new.kernel c.in_err-found.field-0.0 _ c.from_residual.ensures.1 c.in_err-found.ensures
+    ends_so _ _ (begun _ _ _ _ _) _ _ _ c.from_residual.ensures.1 c.in_err-found.ensures
 
 -- once the object was found, its label is left
 asking : (g : given.Over) (c : In_ok-found g)
     → Leaves c.args.unix.now.caller.now.thread (stat_program c.args.unix.now.users.now c.args.unix.now.roots.now c.args.path.now) c.args.kernel.now
     (after_object c.args.unix.now.users.now c.in_ok-found.found) c.find_object.new.kernel
 asking g c =
-    further (find_object c.args.unix.now.roots.now c.args.path.now) (after_object c.args.unix.now.users.now)
-    (begun c.args.unix.now.users.now c.args.unix.now.roots.now c.args.path.now c.args.unix.now.caller.now.thread c.args.kernel.now)
-    c.find_object.new.kernel c.in_ok-found.found c.in_ok-found.ensures
+    further _ _ (begun _ _ _ _ _) _ _ c.in_ok-found.ensures
 
 pub returns-in_err-label : goal.returns-in_err-label
 returns-in_err-label g c =
-    ends_so (ask (label_of c.in_ok-found.found)) (after_label c.args.unix.now.users.now c.in_ok-found.found)
-    (asking g (goal.at.returns-in_err-label g c).In_ok-found) c.label_of.new.self _ _ c.from_residual-in_err-label.ensures.1
-    (refuses c.args.unix.now.caller.now.thread (label_of c.in_ok-found.found) c.find_object.new.kernel c.label_of.new.self _
-    c.in_err-label.field-0.0 c.in_err-label.ensures)
+    ends_so _ _ (asking g (goal.at.returns-in_err-label g c).In_ok-found) _ _ _ c.from_residual-in_err-label.ensures.1 (refuses _ _ _ _ _
+    _ c.in_err-label.ensures)
 
 -- once the label is known, the reply is left
 labelled : (g : given.Over) (c : In_ok-label g)
     → Leaves c.args.unix.now.caller.now.thread (stat_program c.args.unix.now.users.now c.args.unix.now.roots.now c.args.path.now) c.args.kernel.now
     (after_label c.args.unix.now.users.now c.in_ok-found.found c.in_ok-label.label) c.label_of.new.self
 labelled g c =
-    further (ask (label_of c.in_ok-found.found)) (after_label c.args.unix.now.users.now c.in_ok-found.found)
-    (asking g c.before.before.before.before) c.label_of.new.self c.in_ok-label.label
-    (grants c.args.unix.now.caller.now.thread (label_of c.in_ok-found.found) c.find_object.new.kernel c.label_of.new.self c.in_ok-label.label
-    c.in_ok-label.ensures.0 c.in_ok-label.ensures.1)
+    further _ _ (asking g c.before.before.before.before) _ _ (grants _ _ _ _ _ c.in_ok-label.ensures.0 c.in_ok-label.ensures.1)
 
 pub returns-in_default : goal.returns-in_default
 returns-in_default g c =
     (labelled g (goal.at.returns-in_default g c).In_ok-label).leads c.label_of.new.self (settled (Err Stopped))
-    (runs_as c.args.unix.now.caller.now.thread _ (class_reply c.in_ok-found.found.is_directory None) c.label_of.new.self c.label_of.new.self _
-    (ap (class_reply c.in_ok-found.found.is_directory) (sym c.shown_class.ensures ∙ c.in_default.is))
-    (stops c.args.unix.now.caller.now.thread c.label_of.new.self))
+    (runs_as _ _ (class_reply c.in_ok-found.found.is_directory None) _ _ _
+    (ap (class_reply c.in_ok-found.found.is_directory) (sym c.shown_class.ensures ∙ c.in_default.is)) (stops _ _))
 
 pub returns : goal.returns
 returns g c =
-    (labelled g (goal.at.returns g c).In_ok-label).leads c.label_of.new.self (Ok (Stats c.stat.result))
-    (runs_as c.args.unix.now.caller.now.thread _ (class_reply c.in_ok-found.found.is_directory (Some c.in-Some.class)) c.label_of.new.self
-    c.label_of.new.self _
-    (ap (class_reply c.in_ok-found.found.is_directory) (sym c.shown_class.ensures ∙ c.in-Some.is))
-    (replies_so c.args.unix.now.caller.now.thread c.label_of.new.self (Stats (stat_of c.in-Some.class c.in_ok-found.found.is_directory))
-    (Stats c.stat.result) (ap Stats c.stat.ensures)))
+    (labelled g (goal.at.returns g c).In_ok-label).leads c.label_of.new.self (Ok _)
+    (runs_as _ _ (class_reply c.in_ok-found.found.is_directory (Some _)) _ _ _
+    (ap (class_reply c.in_ok-found.found.is_directory) (sym c.shown_class.ensures ∙ c.in-Some.is)) (replies_so _ _ _ _ (ap Stats c.stat.ensures)))

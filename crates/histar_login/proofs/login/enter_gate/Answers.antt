@@ -16,8 +16,7 @@ use Rattle.histar_login.proofs.login.enter_gate.Goals.{After-enter}
 pub returns-in_err-wanted : goal.returns-in_err-wanted
 returns-in_err-wanted g c =
     let call = entering c.args.given.now.owners.now c.args.number c.args.own.now.0 c.args.own.now.1 in
-    fails_so c.args.thread (ask call) c.args.kernel.now c.args.kernel.now Stopped _ c.from_residual.ensures.1
-    (before_ask c.args.thread call c.args.kernel.now)
+    fails_so _ _ _ _ Stopped _ c.from_residual.ensures.1 (before_ask _ call _)
 
 -- the gate that was entered is the user's
 is_gate : (g : given.Over) (c : After-enter g) (result : Result Entry CallError)
@@ -26,20 +25,13 @@ is_gate : (g : given.Over) (c : After-enter g) (result : Result Entry CallError)
     → RunsPart {A = Entry} (ask (entering c.args.given.now.owners.now c.args.number c.args.own.now.0 c.args.own.now.1))
     c.args.kernel.now c.enter.new.self c.args.thread result
 is_gate g c result =
-    enters c.args.thread c.args.kernel.now c.enter.new.self result c.args.given.now.owners.now c.args.number c.args.own.now
-    c.new.result c.new-gate.result (c.in_ok-wanted.wanted, c.in_ok-wanted.clearance) c.new.ensures
-    (c.new-gate.ensures ∙ ap (λ (n : ℕ). 2 + 2 * n) c.from.ensures) c.in_ok-wanted.ensures
+    enters _ _ _ result _ _ _ _ _ _ c.new.ensures (c.new-gate.ensures ∙ ap (λ (n : ℕ). 2 + 2 * n) c.from.ensures) c.in_ok-wanted.ensures
 
 pub returns-in_err-entry : goal.returns-in_err-entry
 returns-in_err-entry g c =
-    fails_so c.args.thread (ask (entering c.args.given.now.owners.now c.args.number c.args.own.now.0 c.args.own.now.1))
-    c.args.kernel.now c.enter.new.self _ _ c.from_residual-in_err-entry.ensures.1
-    (is_gate g (goal.at.returns-in_err-entry g c).After-enter _
-    (refuses c.args.thread (Enter c.new.result c.new-gate.result c.in_ok-wanted.wanted c.in_ok-wanted.clearance c.args.own.now.0)
-    c.args.kernel.now c.enter.new.self _ c.in_err-entry.field-0.0 c.in_err-entry.ensures))
+    fails_so _ _ _ _ _ _ c.from_residual-in_err-entry.ensures.1 (is_gate g (goal.at.returns-in_err-entry g c).After-enter _ (refuses _ _
+    _ _ _ _ c.in_err-entry.ensures))
 
 pub returns : goal.returns
 returns g c =
-    is_gate g (goal.at.returns g c).After-enter _
-    (grants c.args.thread (Enter c.new.result c.new-gate.result c.in_ok-wanted.wanted c.in_ok-wanted.clearance c.args.own.now.0)
-    c.args.kernel.now c.enter.new.self c.in_ok-entry.entry c.in_ok-entry.ensures.0 c.in_ok-entry.ensures.1)
+    is_gate g (goal.at.returns g c).After-enter _ (grants _ _ _ _ _ c.in_ok-entry.ensures.0 c.in_ok-entry.ensures.1)

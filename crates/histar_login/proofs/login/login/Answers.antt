@@ -23,12 +23,8 @@ use Rattle.histar_login.proofs.login.login.Goals.{In-Some}
 
 pub returns-in_default : goal.returns-in_default
 returns-in_default g c =
-    runs_as c.args.caller.now.thread (login_program c.args.users.now c.args.caller.now c.args.name c.args.password) (Answers (Refused ENOENT))
-    c.args.kernel.now c.args.kernel.now (Ok (Refused ENOENT))
-    (login_numbered c.args.users.now c.args.caller.now c.args.name c.args.password
-    ∙ ap (login_of c.args.users.now c.args.caller.now c.args.name c.args.password)
-    (sym c.number_of.ensures.number ∙ c.in_default.is))
-    (says c.args.caller.now.thread c.args.kernel.now (Refused ENOENT))
+    runs_as c.args.caller.now.thread _ _ c.args.kernel.now _ (Ok _) (login_numbered c.args.users.now c.args.caller.now c.args.name c.args.password
+    ∙ ap (login_of c.args.users.now c.args.caller.now c.args.name c.args.password) (sym c.number_of.ensures.number ∙ c.in_default.is)) (says _ _ _)
 
 -- memory ran out before the first raw call of a login as the user of a number
 runs_out : (g : given.Over) (c : In-Some g) (result : Result Reply CallError) → IsErrAnd result (λ e. e ≡ Stopped)
@@ -36,17 +32,14 @@ runs_out : (g : given.Over) (c : In-Some g) (result : Result Reply CallError) �
     c.args.caller.now.thread (settled result)
 runs_out g c result gave =
     let owners = owners_of c.args.users.now c.in-Some.number c.args.name in
-    runs_as c.args.caller.now.thread (login_program c.args.users.now c.args.caller.now c.args.name c.args.password)
-    (login_as_program c.args.caller.now c.in-Some.number owners c.args.password) c.args.kernel.now c.args.kernel.now (settled result)
+    runs_as c.args.caller.now.thread _ _ c.args.kernel.now c.args.kernel.now (settled result)
     (login_numbered c.args.users.now c.args.caller.now c.args.name c.args.password
     ∙ ap (login_of c.args.users.now c.args.caller.now c.args.name c.args.password) (sym c.number_of.ensures.number ∙ c.in-Some.is))
-    (ends_so (ask OwnLabel) (after_own c.args.caller.now c.in-Some.number owners c.args.password)
-    (begun c.args.caller.now c.in-Some.number owners c.args.password c.args.caller.now.thread c.args.kernel.now) c.args.kernel.now Stopped result gave
-    (before_ask c.args.caller.now.thread OwnLabel c.args.kernel.now))
+    (ends_so _ (after_own _ _ owners c.args.password) (begun _ _ owners _ _ _) _ Stopped result gave (before_ask _ OwnLabel _))
 
 pub returns-in_err-owners : goal.returns-in_err-owners
-returns-in_err-owners g c = runs_out g (goal.at.returns-in_err-owners g c).In-Some c.from_residual.result c.from_residual.ensures.1
+returns-in_err-owners g c = runs_out g (goal.at.returns-in_err-owners g c).In-Some _ c.from_residual.ensures.1
 
 pub returns-in_err-given : goal.returns-in_err-given
 returns-in_err-given g c =
-    runs_out g (goal.at.returns-in_err-given g c).In-Some c.from_residual-in_err-given.result c.from_residual-in_err-given.ensures.1
+    runs_out g (goal.at.returns-in_err-given g c).In-Some _ c.from_residual-in_err-given.ensures.1

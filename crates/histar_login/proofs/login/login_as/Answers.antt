@@ -12,26 +12,20 @@ use Rattle.histar_login.proofs.login.login_as.Goals.{In_ok-own, In_ok-enter_gate
 
 pub returns-in_err-own : goal.returns-in_err-own
 returns-in_err-own g c =
-    ends_so (ask OwnLabel) (after_own c.args.caller.now c.args.number c.args.given.owners.now c.args.password)
-    (begun c.args.caller.now c.args.number c.args.given.owners.now c.args.password c.args.caller.now.thread c.args.kernel.now) c.own_label.new.self
-    _ _ c.from_residual.ensures.1
-    (refuses c.args.caller.now.thread OwnLabel c.args.kernel.now c.own_label.new.self _ c.in_err-own.field-0.0 c.in_err-own.ensures)
+    ends_so _ (after_own c.args.caller.now _ c.args.given.owners.now c.args.password) (begun _ _ _ _ _ _) _ _ _ c.from_residual.ensures.1
+    (refuses _ OwnLabel _ _ _ _ c.in_err-own.ensures)
 
 -- once the thread has its own label, the gate is left
 at_gate : (g : given.Over) (c : In_ok-own g)
     → Leaves c.args.caller.now.thread (login_as_program c.args.caller.now c.args.number c.args.given.owners.now c.args.password) c.args.kernel.now
     (after_own c.args.caller.now c.args.number c.args.given.owners.now c.args.password c.in_ok-own.own) c.own_label.new.self
 at_gate g c =
-    further (ask OwnLabel) (after_own c.args.caller.now c.args.number c.args.given.owners.now c.args.password)
-    (begun c.args.caller.now c.args.number c.args.given.owners.now c.args.password c.args.caller.now.thread c.args.kernel.now) c.own_label.new.self
-    c.in_ok-own.own
-    (grants c.args.caller.now.thread OwnLabel c.args.kernel.now c.own_label.new.self c.in_ok-own.own c.in_ok-own.ensures.0 c.in_ok-own.ensures.1)
+    further _ (after_own c.args.caller.now _ c.args.given.owners.now c.args.password) (begun _ _ _ _ _ _) _ _
+    (grants _ OwnLabel _ _ _ c.in_ok-own.ensures.0 c.in_ok-own.ensures.1)
 
 pub returns-in_err-enter_gate : goal.returns-in_err-enter_gate
 returns-in_err-enter_gate g c =
-    ends_so (ask (entering c.args.given.owners.now c.args.number c.in_ok-own.own.0 c.in_ok-own.own.1))
-    (after_gate c.args.caller.now c.args.number c.args.given.owners.now c.args.password c.in_ok-own.own)
-    (at_gate g (goal.at.returns-in_err-enter_gate g c).In_ok-own) c.enter_gate.new.kernel c.in_err-enter_gate.field-0.0 _
+    ends_so _ (after_gate _ _ _ _ _) (at_gate g (goal.at.returns-in_err-enter_gate g c).In_ok-own) _ _ _
     c.from_residual-in_err-enter_gate.ensures.1 c.in_err-enter_gate.ensures
 
 -- once the gate was entered, the password is left
@@ -40,15 +34,11 @@ at_password : (g : given.Over) (c : In_ok-enter_gate g)
     (after_gate c.args.caller.now c.args.number c.args.given.owners.now c.args.password c.in_ok-own.own c.in_ok-enter_gate.field-0)
     c.enter_gate.new.kernel
 at_password g c =
-    further (ask (entering c.args.given.owners.now c.args.number c.in_ok-own.own.0 c.in_ok-own.own.1))
-    (after_gate c.args.caller.now c.args.number c.args.given.owners.now c.args.password c.in_ok-own.own)
-    (at_gate g c.before.before.before.before.before.before) c.enter_gate.new.kernel c.in_ok-enter_gate.field-0 c.in_ok-enter_gate.ensures
+    further _ (after_gate _ _ _ _ _) (at_gate g c.before.before.before.before.before.before) _ _ c.in_ok-enter_gate.ensures
 
 pub returns-in_err-right : goal.returns-in_err-right
 returns-in_err-right g c =
-    ends_so (ask_password c.args.number c.args.password)
-    (after_password c.args.caller.now c.args.number c.args.given.owners.now c.args.password c.in_ok-own.own)
-    (at_password g (goal.at.returns-in_err-right g c).In_ok-enter_gate) c.ask_password.new.kernel c.in_err-right.field-0.0 _
+    ends_so _ (after_password _ c.args.number _ c.args.password _) (at_password g (goal.at.returns-in_err-right g c).In_ok-enter_gate) _ _ _
     c.from_residual-in_err-right.ensures.1 c.in_err-right.ensures
 
 -- once the password was compared, the labels are left
@@ -57,22 +47,16 @@ at_due : (g : given.Over) (c : In_ok-right g)
     (after_password c.args.caller.now c.args.number c.args.given.owners.now c.args.password c.in_ok-own.own c.in_ok-right.right)
     c.ask_password.new.kernel
 at_due g c =
-    further (ask_password c.args.number c.args.password)
-    (after_password c.args.caller.now c.args.number c.args.given.owners.now c.args.password c.in_ok-own.own)
-    (at_password g c.before.before.before.before) c.ask_password.new.kernel c.in_ok-right.right c.in_ok-right.ensures
+    further _ (after_password _ c.args.number _ c.args.password _) (at_password g c.before.before.before.before) _ _ c.in_ok-right.ensures
 
 pub returns-in_err-take_due : goal.returns-in_err-take_due
 returns-in_err-take_due g c =
-    ends_so (take_due c.in_ok-right.right c.args.caller.now c.args.given.owners.now c.in_ok-own.own)
-    (λ (done : Unit {0}). after_due c.args.caller.now c.args.number c.args.given.owners.now c.args.password c.in_ok-right.right)
-    (at_due g (goal.at.returns-in_err-take_due g c).In_ok-right) c.take_due.new.kernel c.in_err-take_due.field-0.0 _
-    c.from_residual-in_err-take_due.ensures.1 c.in_err-take_due.ensures
+    ends_so _ (λ (done : Unit {0}). after_due c.args.caller.now c.args.number c.args.given.owners.now c.args.password c.in_ok-right.right)
+    (at_due g (goal.at.returns-in_err-take_due g c).In_ok-right) _ _ _ c.from_residual-in_err-take_due.ensures.1 c.in_err-take_due.ensures
 
 pub returns : goal.returns
 returns g c =
     let at_end =
-    further (take_due c.in_ok-right.right c.args.caller.now c.args.given.owners.now c.in_ok-own.own)
-    (λ (done : Unit {0}). after_due c.args.caller.now c.args.number c.args.given.owners.now c.args.password c.in_ok-right.right)
-    (at_due g (goal.at.returns g c).In_ok-right) c.take_due.new.kernel tt c.in_ok-take_due.ensures in
-    at_end.leads c.take_due.new.kernel (Ok c.reply_if.result) (replies_so c.args.caller.now.thread c.take_due.new.kernel
-    (reply_if c.in_ok-right.right) c.reply_if.result c.reply_if.ensures)
+    further _ (λ (done : Unit {0}). after_due c.args.caller.now c.args.number c.args.given.owners.now c.args.password c.in_ok-right.right)
+    (at_due g (goal.at.returns g c).In_ok-right) _ tt c.in_ok-take_due.ensures in
+    at_end.leads c.take_due.new.kernel (Ok _) (replies_so c.args.caller.now.thread c.take_due.new.kernel _ _ c.reply_if.ensures)
