@@ -20,7 +20,7 @@ use Rattle.histar_programs.specs.Programs.Program.{Answers}
 use Rattle.histar_programs.specs.Parts.{ask, find_room, write_entries}
 use Rattle.histar_calls.specs.Mkdir.{add_directory, mkdir_program, make_directory}
 use Rattle.histar_programs.proofs.Exits.{Leaves}
-use Rattle.histar_programs.proofs.Running.{before_ask, part_fails, then_part}
+use Rattle.histar_programs.proofs.Running.{before_ask, part_fails}
 
 -- a container is made with the expected label
 pub makes_container : (t : ℕ) (old new : KernelModel) (d : ℕ) (label due : Levels) → label ≡ due → (result : Result ℕ CallError)
@@ -29,54 +29,23 @@ makes_container t old new d label due same result runs =
     subst (λ (part : Part ℕ). RunsPart {A = ℕ} part old new t result)
     (ap (λ (x : Levels). ask (MakeContainer d x)) same) runs
 
--- the parts of adding a directory, one after another
-module _ (t : ℕ) (label : Levels) (room : Room) (old new : KernelModel) where
-  -- the entries of the directory above, with the new directory
-  abbrev pub grown : ℕ → ℕ → Entries
-  grown container listing = map.insert room.entries room.name (Directory container listing)
+-- the entries of the directory above, with the new directory
+abbrev pub grown : Room → ℕ → ℕ → Entries
+grown room container listing = map.insert room.entries room.name (Directory container listing)
 
-  -- what comes after the directory segment
-  abbrev after_listing : ℕ → ℕ → Part (Unit {0})
-  after_listing container listing = write_entries room.place (grown container listing)
+-- what comes after the directory segment
+abbrev pub after_listing : Room → ℕ → ℕ → Part (Unit {0})
+after_listing room container listing = write_entries room.place (grown room container listing)
 
-  -- what comes after the container
-  abbrev after_container : ℕ → Part (Unit {0})
-  after_container container rest = ask (MakeSegment container label []) (λ listing. after_listing container listing rest)
-
-  -- no container was made
-  pub without_container : (call_error : CallError)
-      → RunsPart (ask (MakeContainer room.place.container label)) old new t (Err call_error)
-      → RunsPart (add_directory label room) old new t (Err call_error)
-  without_container call_error first = part_fails t (ask (MakeContainer room.place.container label)) old new after_container call_error first
-
-  module _ (mid : KernelModel) (container : ℕ) (first : RunsPart (ask (MakeContainer room.place.container label)) old mid t (Ok container)) where
-    -- a container was made
-    with_container : (result : Result (Unit {0}) CallError) → RunsPart (after_container container) mid new t result
-        → RunsPart (add_directory label room) old new t result
-    with_container result second =
-        then_part t (ask (MakeContainer room.place.container label)) old new after_container mid container first result
-        second
-
-    -- no directory segment was made
-    pub without_listing : (call_error : CallError)
-        → RunsPart (ask (MakeSegment container label [])) mid new t (Err call_error)
-        → RunsPart (add_directory label room) old new t (Err call_error)
-    without_listing call_error second =
-        with_container (Err call_error)
-        (part_fails t (ask (MakeSegment container label [])) mid new (after_listing container) call_error second)
-
-    -- a directory segment was made, and the entry is made, or not
-    pub with_listing : (late : KernelModel) (listing : ℕ)
-        → RunsPart (ask (MakeSegment container label [])) mid late t (Ok listing)
-        → (result : Result (Unit {0}) CallError)
-        → RunsPart (write_entries room.place (grown container listing)) late new t result → RunsPart (add_directory label room) old new t result
-    with_listing late listing second result third =
-        with_container result (then_part t (ask (MakeSegment container label [])) mid new (after_listing container) late listing second
-        result third)
+-- what comes after the container
+abbrev pub after_container : Levels → Room → ℕ → Part (Unit {0})
+after_container label room container rest = ask (MakeSegment container label []) (λ listing. after_listing room container listing rest)
 
 -- memory ran out before a directory was added
 pub before_adding : (t : ℕ) (label : Levels) (room : Room) (k : KernelModel) → RunsPart (add_directory label room) k k t (Err Stopped)
-before_adding t label room k = without_container t label room k k Stopped (before_ask t (MakeContainer room.place.container label) k)
+before_adding t label room k =
+    part_fails t (ask (MakeContainer room.place.container label)) k k (after_container label room) Stopped
+    (before_ask t (MakeContainer room.place.container label) k)
 
 -- a directory is added with the expected label
 pub adds_so : (t : ℕ) (old new : KernelModel) (label due : Levels) (room : Room) → label ≡ due → (result : Result (Unit {0}) CallError)

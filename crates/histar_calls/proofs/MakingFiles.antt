@@ -20,35 +20,21 @@ use Rattle.histar_programs.specs.Programs.Program.{Answers}
 use Rattle.histar_programs.specs.Parts.{ask, find_room, write_entries}
 use Rattle.histar_calls.specs.Create.{add_file, create_program, make_file}
 use Rattle.histar_programs.proofs.Exits.{Leaves}
-use Rattle.histar_programs.proofs.Running.{before_ask, part_fails, then_part}
+use Rattle.histar_programs.proofs.Running.{before_ask, part_fails}
 
--- the parts of adding a file, one after another
-module _ (t : ℕ) (label : Levels) (room : Room) (old new : KernelModel) where
-  -- the entries of the directory, with the new file
-  abbrev pub grown : ℕ → Entries
-  grown file = map.insert room.entries room.name (File file)
+-- the entries of the directory, with the new file
+abbrev pub grown : Room → ℕ → Entries
+grown room file = map.insert room.entries room.name (File file)
 
-  -- what comes after the segment
-  abbrev after_segment : ℕ → Part (Unit {0})
-  after_segment file = write_entries room.place (grown file)
-
-  -- no segment was made
-  pub without_segment : (call_error : CallError)
-      → RunsPart (ask (MakeSegment room.place.container label [])) old new t (Err call_error)
-      → RunsPart (add_file label room) old new t (Err call_error)
-  without_segment call_error first = part_fails t (ask (MakeSegment room.place.container label [])) old new after_segment call_error first
-
-  -- a segment was made, and the entry is made, or not
-  pub with_segment : (mid : KernelModel) (file : ℕ)
-      → RunsPart (ask (MakeSegment room.place.container label [])) old mid t (Ok file)
-      → (result : Result (Unit {0}) CallError)
-      → RunsPart (write_entries room.place (grown file)) mid new t result → RunsPart (add_file label room) old new t result
-  with_segment mid file first result second =
-      then_part t (ask (MakeSegment room.place.container label [])) old new after_segment mid file first result second
+-- what comes after the segment
+abbrev pub after_segment : Room → ℕ → Part (Unit {0})
+after_segment room file = write_entries room.place (grown room file)
 
 -- memory ran out before a file was added
 pub before_adding : (t : ℕ) (label : Levels) (room : Room) (k : KernelModel) → RunsPart (add_file label room) k k t (Err Stopped)
-before_adding t label room k = without_segment t label room k k Stopped (before_ask t (MakeSegment room.place.container label []) k)
+before_adding t label room k =
+    part_fails t (ask (MakeSegment room.place.container label [])) k k (after_segment room) Stopped
+    (before_ask t (MakeSegment room.place.container label []) k)
 
 -- a file is added with the expected label
 pub adds_so : (t : ℕ) (old new : KernelModel) (label due : Levels) (room : Room) → label ≡ due → (result : Result (Unit {0}) CallError)

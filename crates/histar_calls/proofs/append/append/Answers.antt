@@ -2,37 +2,38 @@
 use Rattle.std.proofs.Common.{Ok}
 use Rattle.histar_flat.specs.FlatCalls.{most_bytes}
 use Rattle.histar_flat.specs.declared.replies.Reply.TheVariants.{Done}
-use Rattle.histar_rules.specs.declared.raw.RawCall.TheVariants.{Write}
 use Rattle.histar_programs.specs.Programs.Program.{Answers}
 use Rattle.histar_programs.specs.Parts.{ask, find_file}
-use Rattle.histar_programs.proofs.Exits.{ends_so, further}
+use Rattle.histar_programs.proofs.Exits.{Leaves, ends_so, further}
 use Rattle.histar_programs.proofs.Running.{asks, says}
-use Rattle.histar_calls.proofs.FileCalls.{append_begun, to_write}
+use Rattle.histar_calls.specs.Append.{append_program}
+use Rattle.histar_calls.proofs.FileCalls.{append_begun, to_write, write_of}
+use Rattle.histar_calls.proofs.append.append.Given as given
 use Rattle.histar_calls.proofs.append.append.Goals as goal
+use Rattle.histar_calls.proofs.append.append.Goals.{In_ok-file}
 
 pub returns-in_err-file : goal.returns-in_err-file
 returns-in_err-file g c =
-    let begin = append_begun c.args.unix.now.roots.now c.args.path.now c.args.unix.now.caller.now.thread c.args.kernel.now c.args.bytes in
-    ends_so (find_file c.args.unix.now.roots.now c.args.path.now) (to_write most_bytes c.args.bytes) begin c.find_file.new.kernel
-    c.in_err-file.field-0.0 _
-    c.from_residual.ensures.1 c.in_err-file.ensures
+    ends_so _ (to_write most_bytes _) (append_begun _ _ _ _ _) _ _ _ c.from_residual.ensures.1 c.in_err-file.ensures
+
+-- once the file was found, it is left to write it
+writing : (g : given.Over) (c : In_ok-file g)
+    → Leaves c.args.unix.now.caller.now.thread (append_program c.args.unix.now.roots.now c.args.path.now c.args.bytes) c.args.kernel.now
+    (to_write most_bytes c.args.bytes c.in_ok-file.file) c.find_file.new.kernel
+writing g c =
+    further _ (to_write most_bytes _) (append_begun _ _ _ _ _) _ _ c.in_ok-file.ensures
 
 pub returns-in_err-written : goal.returns-in_err-written
 returns-in_err-written g c =
-    let begin = append_begun c.args.unix.now.roots.now c.args.path.now c.args.unix.now.caller.now.thread c.args.kernel.now c.args.bytes in
-    let writing = further (find_file c.args.unix.now.roots.now c.args.path.now) (to_write most_bytes c.args.bytes) begin c.find_file.new.kernel
-    c.in_ok-file.file c.in_ok-file.ensures in
-    let call = Write c.in_ok-file.file.container c.in_ok-file.file.segment most_bytes c.args.bytes in
-    ends_so (ask call) (λ (done : Unit {0}). Answers Done) writing c.write.new.self _ _ c.from_residual-in_err-written.ensures.1
-    (asks c.args.unix.now.caller.now.thread call c.find_file.new.kernel c.write.new.self c.write.result c.write.ensures _ c.in_err-written.ensures)
+    ends_so (ask (write_of most_bytes _ _)) (λ (done : Unit {0}). Answers Done)
+    (writing g (goal.at.returns-in_err-written g c).In_ok-file) _ _ _ c.from_residual-in_err-written.ensures.1 (asks _ (write_of most_bytes _ _) _ _ _
+    c.write.ensures _ c.in_err-written.ensures)
 
 pub returns : goal.returns
 returns g c =
-    let begin = append_begun c.args.unix.now.roots.now c.args.path.now c.args.unix.now.caller.now.thread c.args.kernel.now c.args.bytes in
-    let writing = further (find_file c.args.unix.now.roots.now c.args.path.now) (to_write most_bytes c.args.bytes) begin c.find_file.new.kernel
-    c.in_ok-file.file c.in_ok-file.ensures in
-    let call = Write c.in_ok-file.file.container c.in_ok-file.file.segment most_bytes c.args.bytes in
     let end = c.write.new.self in
-    let written = further (ask call) (λ (done : Unit {0}). Answers Done) writing end tt
-    (asks c.args.unix.now.caller.now.thread call c.find_file.new.kernel end c.write.result c.write.ensures _ c.in_ok-written.ensures) in
+    let written = further (ask (write_of most_bytes c.args.bytes c.in_ok-file.file)) (λ (done : Unit {0}). Answers Done)
+    (writing g (goal.at.returns g c).In_ok-file) end tt
+    (asks c.args.unix.now.caller.now.thread (write_of most_bytes c.args.bytes c.in_ok-file.file) c.find_file.new.kernel end c.write.result c.write.ensures _
+    c.in_ok-written.ensures) in
     written.leads end (Ok Done) (says c.args.unix.now.caller.now.thread end Done)

@@ -13,27 +13,16 @@ pub returns-in_err-reserve : goal.returns-in_err-reserve
 unfolding list_program
 returns-in_err-reserve g c =
     let k = c.args.kernel.now in
-    call_fails_so c.args.unix.now.caller.now.thread (list_program c.args.unix.now.roots.now c.args.path.now) k k Stopped _ c.from_residual.ensures.1
-    (call_fails c.args.unix.now.caller.now.thread (walk_to c.args.unix.now.roots.now c.args.path.now) k k _ Stopped
-    (before_walk c.args.unix.now.caller.now.thread c.args.unix.now.roots.now c.args.path.now k))
+    call_fails_so _ _ k k Stopped _ c.from_residual.ensures.1 (call_fails _ _ k k _ Stopped (before_walk _ _ _ k))
 
 pub returns-in_err-directory : goal.returns-in_err-directory
 unfolding list_program
 returns-in_err-directory g c =
-    call_fails_so c.args.unix.now.caller.now.thread (list_program c.args.unix.now.roots.now c.args.path.now) c.args.kernel.now c.walk.new.kernel
-    c.in_err-directory.field-0.0 _
-    c.from_residual-in_err-directory.ensures.1
-    (call_fails c.args.unix.now.caller.now.thread (walk_to c.args.unix.now.roots.now c.args.path.now) c.args.kernel.now c.walk.new.kernel _
-    c.in_err-directory.field-0.0
-    c.in_err-directory.ensures)
+    call_fails_so _ _ _ _ _ _ c.from_residual-in_err-directory.ensures.1 (call_fails _ _ _ _ _ _ c.in_err-directory.ensures)
 
 pub returns : goal.returns
 unfolding list_program
 returns g c =
     let nothing_yet = c.in_ok-reserve.ensures.items ∙ c.new-entries.ensures.items in
     let listing_is = c.new.ensures ∙ c.list.ensures ∙ ap (λ es. es ++ names_in c.in_ok-directory.directory.entries) nothing_yet in
-    then_call c.args.unix.now.caller.now.thread (walk_to c.args.unix.now.roots.now c.args.path.now) c.args.kernel.now c.walk.new.kernel _
-    c.walk.new.kernel c.in_ok-directory.directory
-    c.in_ok-directory.ensures _
-    (replies_so c.args.unix.now.caller.now.thread c.walk.new.kernel (Entries (names_in c.in_ok-directory.directory.entries)) (Entries c.new.result)
-    (ap Entries listing_is))
+    then_call _ _ _ _ _ _ _ c.in_ok-directory.ensures _ (replies_so _ _ _ _ (ap Entries listing_is))

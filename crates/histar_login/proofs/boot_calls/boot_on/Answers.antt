@@ -18,120 +18,85 @@ count_is users groups accounts same_users same_groups = omega (arith, ap length 
 
 pub make_categories-requires : goal.make_categories-requires
 make_categories-requires g c =
-    categories_way c.args.accounts.now c.users.ensures.few c.args.kernel.now c.requires.state _
-    (count_is c.users.result.now c.groups.result.now c.args.accounts.now c.users.ensures.users
-    c.groups.ensures.groups)
+    categories_way _ c.users.ensures.few _ c.requires.state _ (count_is _ _ _ c.users.ensures.users c.groups.ensures.groups)
 
 pub returns-in_err-make_categories-clause-err : goal.returns-in_err-make_categories-clause-err
 returns-in_err-make_categories-clause-err g c =
-    on_err _ _ (categories_stop c.args.accounts.now c.users.ensures.few c.args.kernel.now c.requires.state
-    c.make_categories.new.kernel _ (count_is c.users.result.now c.groups.result.now c.args.accounts.now c.users.ensures.users
+    on_err _ _ (categories_stop _ c.users.ensures.few _ c.requires.state _ _ (count_is _ _ _ c.users.ensures.users
     c.groups.ensures.groups) c.in_err-make_categories.ensures.err)
 
 pub make_users-requires : goal.make_users-requires
 make_users-requires g c =
-    first_user_way c.args.accounts.now c.users.ensures.few c.args.kernel.now c.requires.state
-    c.make_categories.new.kernel (subst (λ (n : ℕ). BootsOn c.args.kernel.now c.make_categories.new.kernel IsAnywhere (categories_part n))
-    (count_is c.users.result.now c.groups.result.now c.args.accounts.now c.users.ensures.users
+    first_user_way _ c.users.ensures.few _ c.requires.state
+    _ (subst (λ (n : ℕ). BootsOn c.args.kernel.now c.make_categories.new.kernel IsAnywhere (categories_part n)) (count_is _ _ _ c.users.ensures.users
     c.groups.ensures.groups) c.in_ok-make_categories.ensures.ok)
 
 pub returns-in_err-make_users-clause-err : goal.returns-in_err-make_users-clause-err
 returns-in_err-make_users-clause-err g c =
-    on_err _ _
-    (users_stop c.args.accounts.now c.users.ensures.few c.args.kernel.now c.requires.state
-    c.make_categories.new.kernel (subst (λ (n : ℕ). BootsOn c.args.kernel.now c.make_categories.new.kernel IsAnywhere (categories_part n))
-    (count_is c.users.result.now c.groups.result.now c.args.accounts.now c.users.ensures.users
-    c.groups.ensures.groups) c.in_ok-make_categories.ensures.ok)
-    c.make_users.new.kernel c.in_err-make_users.ensures.err)
+    on_err _ _ (users_stop _ c.users.ensures.few _ c.requires.state
+    _ (subst (λ (n : ℕ). BootsOn c.args.kernel.now c.make_categories.new.kernel IsAnywhere (categories_part n)) (count_is _ _ _ c.users.ensures.users
+    c.groups.ensures.groups) c.in_ok-make_categories.ensures.ok) _ c.in_err-make_users.ensures.err)
 
 pub make_directory-requires-clause-begins : goal.make_directory-requires-clause-begins
 make_directory-requires-clause-begins g c =
-    directory_way c.args.accounts.now c.users.ensures.few c.args.kernel.now c.requires.state
-    c.make_categories.new.kernel (subst (λ (n : ℕ). BootsOn c.args.kernel.now c.make_categories.new.kernel IsAnywhere (categories_part n))
-    (count_is c.users.result.now c.groups.result.now c.args.accounts.now c.users.ensures.users
-    c.groups.ensures.groups) c.in_ok-make_categories.ensures.ok)
-    c.make_users.new.kernel c.in_ok-make_users.ensures.ok
+    directory_way _ c.users.ensures.few _ c.requires.state
+    _ (subst (λ (n : ℕ). BootsOn c.args.kernel.now c.make_categories.new.kernel IsAnywhere (categories_part n)) (count_is _ _ _ c.users.ensures.users
+    c.groups.ensures.groups) c.in_ok-make_categories.ensures.ok) _ c.in_ok-make_users.ensures.ok
 
 pub returns-in_err-slash-clause-err : goal.returns-in_err-slash-clause-err
 returns-in_err-slash-clause-err g c =
-    on_err _ _
-    (directory_stop c.args.accounts.now c.users.ensures.few c.args.kernel.now c.requires.state
-    c.make_categories.new.kernel (subst (λ (n : ℕ). BootsOn c.args.kernel.now c.make_categories.new.kernel IsAnywhere (categories_part n))
-    (count_is c.users.result.now c.groups.result.now c.args.accounts.now c.users.ensures.users
-    c.groups.ensures.groups) c.in_ok-make_categories.ensures.ok)
-    c.make_users.new.kernel c.in_ok-make_users.ensures.ok
-    c.make_directory.new.kernel c.in_err-slash.ensures.err)
+    on_err _ _ (directory_stop _ c.users.ensures.few _ c.requires.state
+    _ (subst (λ (n : ℕ). BootsOn c.args.kernel.now c.make_categories.new.kernel IsAnywhere (categories_part n)) (count_is _ _ _ c.users.ensures.users
+    c.groups.ensures.groups) c.in_ok-make_categories.ensures.ok) _ c.in_ok-make_users.ensures.ok _ c.in_err-slash.ensures.err)
 
 pub make_process-requires : goal.make_process-requires
 make_process-requires g c =
-    process_way c.args.accounts.now c.users.ensures.few c.args.kernel.now c.requires.state
-    c.make_categories.new.kernel (subst (λ (n : ℕ). BootsOn c.args.kernel.now c.make_categories.new.kernel IsAnywhere (categories_part n))
-    (count_is c.users.result.now c.groups.result.now c.args.accounts.now c.users.ensures.users
-    c.groups.ensures.groups) c.in_ok-make_categories.ensures.ok)
-    c.make_users.new.kernel c.in_ok-make_users.ensures.ok
-    c.make_directory.new.kernel c.in_ok-slash.ensures.boots
+    process_way _ c.users.ensures.few _ c.requires.state
+    _ (subst (λ (n : ℕ). BootsOn c.args.kernel.now c.make_categories.new.kernel IsAnywhere (categories_part n)) (count_is _ _ _ c.users.ensures.users
+    c.groups.ensures.groups) c.in_ok-make_categories.ensures.ok) _ c.in_ok-make_users.ensures.ok _ c.in_ok-slash.ensures.boots
 
 pub returns-in_err-home-clause-err : goal.returns-in_err-home-clause-err
 returns-in_err-home-clause-err g c =
-    on_err _ _
-    (process_stop c.args.accounts.now c.users.ensures.few c.args.kernel.now c.requires.state
-    c.make_categories.new.kernel (subst (λ (n : ℕ). BootsOn c.args.kernel.now c.make_categories.new.kernel IsAnywhere (categories_part n))
-    (count_is c.users.result.now c.groups.result.now c.args.accounts.now c.users.ensures.users
-    c.groups.ensures.groups) c.in_ok-make_categories.ensures.ok)
-    c.make_users.new.kernel c.in_ok-make_users.ensures.ok
-    c.make_directory.new.kernel c.in_ok-slash.ensures.boots
-    c.make_process.new.kernel c.in_err-home.ensures.err)
+    on_err _ _ (process_stop _ c.users.ensures.few _ c.requires.state
+    _ (subst (λ (n : ℕ). BootsOn c.args.kernel.now c.make_categories.new.kernel IsAnywhere (categories_part n)) (count_is _ _ _ c.users.ensures.users
+    c.groups.ensures.groups) c.in_ok-make_categories.ensures.ok) _ c.in_ok-make_users.ensures.ok _ c.in_ok-slash.ensures.boots
+    _ c.in_err-home.ensures.err)
 
 pub unlink_boot_thread-requires : goal.unlink_boot_thread-requires
 unlink_boot_thread-requires g c =
-    unlink_way c.args.accounts.now c.users.ensures.few c.args.kernel.now c.requires.state
-    c.make_categories.new.kernel (subst (λ (n : ℕ). BootsOn c.args.kernel.now c.make_categories.new.kernel IsAnywhere (categories_part n))
-    (count_is c.users.result.now c.groups.result.now c.args.accounts.now c.users.ensures.users
-    c.groups.ensures.groups) c.in_ok-make_categories.ensures.ok)
-    c.make_users.new.kernel c.in_ok-make_users.ensures.ok
-    c.make_directory.new.kernel c.in_ok-slash.ensures.boots
-    c.make_process.new.kernel c.in_ok-home.ensures.boots
+    unlink_way _ c.users.ensures.few _ c.requires.state
+    _ (subst (λ (n : ℕ). BootsOn c.args.kernel.now c.make_categories.new.kernel IsAnywhere (categories_part n)) (count_is _ _ _ c.users.ensures.users
+    c.groups.ensures.groups) c.in_ok-make_categories.ensures.ok) _ c.in_ok-make_users.ensures.ok _ c.in_ok-slash.ensures.boots
+    _ c.in_ok-home.ensures.boots
 
 pub returns-in_err-unlink_boot_thread-clause-err : goal.returns-in_err-unlink_boot_thread-clause-err
 returns-in_err-unlink_boot_thread-clause-err g c =
-    on_err _ _
-    (unlink_stop c.args.accounts.now c.users.ensures.few c.args.kernel.now c.requires.state
-    c.make_categories.new.kernel (subst (λ (n : ℕ). BootsOn c.args.kernel.now c.make_categories.new.kernel IsAnywhere (categories_part n))
-    (count_is c.users.result.now c.groups.result.now c.args.accounts.now c.users.ensures.users
-    c.groups.ensures.groups) c.in_ok-make_categories.ensures.ok)
-    c.make_users.new.kernel c.in_ok-make_users.ensures.ok
-    c.make_directory.new.kernel c.in_ok-slash.ensures.boots
-    c.make_process.new.kernel c.in_ok-home.ensures.boots
-    c.unlink_boot_thread.new.kernel c.in_err-unlink_boot_thread.ensures)
+    on_err _ _ (unlink_stop _ c.users.ensures.few _ c.requires.state
+    _ (subst (λ (n : ℕ). BootsOn c.args.kernel.now c.make_categories.new.kernel IsAnywhere (categories_part n)) (count_is _ _ _ c.users.ensures.users
+    c.groups.ensures.groups) c.in_ok-make_categories.ensures.ok) _ c.in_ok-make_users.ensures.ok _ c.in_ok-slash.ensures.boots
+    _ c.in_ok-home.ensures.boots _ c.in_err-unlink_boot_thread.ensures)
 
 parts : (g : given.Over) (c : goal.In_ok-unlink_boot_thread g)
     → HasParts c.args.accounts.now c.args.kernel.now c.make_users.new.kernel c.make_directory.new.kernel c.make_process.new.kernel
 parts g c =
-    has_parts c.args.accounts.now c.args.kernel.now c.make_categories.new.kernel c.make_users.new.kernel
-    c.make_directory.new.kernel c.make_process.new.kernel
-    c.requires.state
-    (subst (λ (n : ℕ). BootsOn c.args.kernel.now c.make_categories.new.kernel IsAnywhere (categories_part n))
-    (count_is c.users.result.now c.groups.result.now c.args.accounts.now c.users.ensures.users
-    c.groups.ensures.groups) c.in_ok-make_categories.ensures.ok)
+    has_parts _ _ _ _ _ _ c.requires.state (subst (λ (n : ℕ). BootsOn c.args.kernel.now c.make_categories.new.kernel IsAnywhere (categories_part n))
+    (count_is _ _ _ c.users.ensures.users c.groups.ensures.groups) c.in_ok-make_categories.ensures.ok)
     c.in_ok-make_users.ensures.ok c.in_ok-slash.ensures.boots c.in_ok-home.ensures.boots
 
 pub returns-clause-booted : goal.returns-clause-booted
 returns-clause-booted g c =
-    booted c.args.accounts.now c.args.kernel.now c.make_process.new.kernel c.unlink_boot_thread.new.kernel
-    (parts g c).all c.in_ok-unlink_boot_thread.ensures.0 c.requires.state c.requires.trace c.requires.line
+    booted _ _ _ _ (parts g c).all c.in_ok-unlink_boot_thread.ensures.0 c.requires.state c.requires.trace c.requires.line
 
 pub returns-clause-state : goal.returns-clause-state
 returns-clause-state g c =
-    started c.args.accounts.now c.args.kernel.now c.make_process.new.kernel c.unlink_boot_thread.new.kernel
-    (parts g c).all c.in_ok-unlink_boot_thread.ensures.0
+    started _ _ _ _ (parts g c).all c.in_ok-unlink_boot_thread.ensures.0
 
 slash_is : (g : given.Over) (c : goal.In_ok-unlink_boot_thread g) → c.in_ok-slash.slash ≡ (roots_of (length c.args.accounts.now.users)).slash
-slash_is g c = c.in_ok-slash.ensures.slash c.args.kernel.now (first_parts c.args.accounts.now) (parts g c).is_next (parts g c).before
+slash_is g c = c.in_ok-slash.ensures.slash c.args.kernel.now (first_parts _) (parts g c).is_next (parts g c).before
 
 home_is : (g : given.Over) (c : goal.In_ok-unlink_boot_thread g) → c.in_ok-home.home ≡ (roots_of (length c.args.accounts.now.users)).home
 home_is g c =
-    c.in_ok-home.ensures.home (length c.args.accounts.now.users) (declared c.args.accounts.now) c.args.kernel.now
-    (more_parts c.args.accounts.now) (parts g c).is_after (parts g c).middle
+    c.in_ok-home.ensures.home (length _) (declared c.args.accounts.now) c.args.kernel.now (more_parts _) (parts g c).is_after (parts g c).middle
 
 pub returns-clause-roots : goal.returns-clause-roots
 returns-clause-roots g c = λ j. record { slash = slash_is g c j; home = home_is g c j }

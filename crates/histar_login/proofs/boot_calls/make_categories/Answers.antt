@@ -6,17 +6,15 @@ use Rattle.histar_login.proofs.Stages.{categories_none, categories_next, categor
 use Rattle.histar_login.proofs.boot_calls.make_categories.Goals as goal
 
 pub loop-init : goal.loop-init
-loop-init g c = categories_none c.args.kernel.now
+loop-init g c = categories_none _
 
 pub loop-preserved : goal.loop-preserved
 loop-preserved g c =
-    categories_next c.args.kernel.now c.loop.kernel c.make_two_categories.new.kernel c.loop.counter c.loop.invariant
-    c.in_ok-make_two_categories.ensures.ok
+    categories_next _ _ _ _ c.loop.invariant c.in_ok-make_two_categories.ensures.ok
 
 pub make_two_categories-requires : goal.make_two_categories-requires
 make_two_categories-requires g c =
-    categories_room c.args.kernel.now c.loop.kernel c.args.count c.loop.counter c.loop-test.true c.requires
-    c.loop.invariant
+    categories_room _ _ _ _ c.loop-test.true c.requires c.loop.invariant
 
 pub returns-clause-ok : goal.returns-clause-ok
 returns-clause-ok g c =
@@ -25,5 +23,4 @@ returns-clause-ok g c =
 
 pub returns-in_err-make_two_categories-clause-err : goal.returns-in_err-make_two_categories-clause-err
 returns-in_err-make_two_categories-clause-err g c =
-    on_err _ _ (categories_begun c.args.kernel.now c.loop.kernel c.make_two_categories.new.kernel c.args.count c.loop.counter
-    c.loop-test.true c.loop.invariant c.in_err-make_two_categories.ensures.err)
+    on_err _ _ (categories_begun _ _ _ _ _ c.loop-test.true c.loop.invariant c.in_err-make_two_categories.ensures.err)

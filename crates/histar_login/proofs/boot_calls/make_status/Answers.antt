@@ -5,10 +5,10 @@ use Rattle.histar_login.proofs.boot_calls.make_status.Goals as goal
 
 pub granted-requires : goal.granted-requires
 granted-requires g c =
-    undenied_as _ _ _ _ _ c.make_segment.result _ c.make_segment.ensures c.requires c.boot_thread.ensures
+    undenied_as _ _ _ _ _ _ _ c.make_segment.ensures c.requires c.boot_thread.ensures
     (λ j. MakeSegment c.args.outer (c.in_ok-guarded.ensures j) (c.in_ok-bytes.ensures j))
 
 pub returns : goal.returns
 returns g c =
-    grants_as _ _ _ _ _ c.make_segment.result c.granted.result _ c.make_segment.ensures c.granted.ensures
+    grants_as _ _ _ _ _ _ _ _ c.make_segment.ensures c.granted.ensures
     c.boot_thread.ensures (λ j. MakeSegment c.args.outer (c.in_ok-guarded.ensures j) (c.in_ok-bytes.ensures j))

@@ -12,51 +12,37 @@ use Rattle.histar_login.proofs.boot_calls.make_user.Goals as goal
 pub returns-in_err-owners-clause-err : goal.returns-in_err-owners-clause-err
 returns-in_err-owners-clause-err g c =
     let begun : BeginsUser c.args.kernel.now c.args.kernel.now c.args.accounts.now c.args.number c.args.user.now = λ first p at b.
-    user_begun_none c.args.accounts.now c.args.number c.args.user.now first c.args.kernel.now p b c.args.kernel.now (same_kernel c.args.kernel.now) in
+    user_begun_none c.args.accounts.now _ c.args.user.now first _ p b _ (same_kernel _) in
     on_err _ _ begun
 
 pub make_password-requires : goal.make_password-requires
 make_password-requires g c =
-    rw c.as_bytes.ensures.value
-    (password_allowed c.args.accounts.now c.args.number c.args.user.now c.requires.begins.0 c.args.kernel.now c.requires.begins.1 c.requires.begins.3
-    c.requires.begins.2
-    c.ranges.number.fits c.requires.number
-    (omega (arith, short_password c.args.user.now.password c.as_bytes.ensures.right)))
+    rw c.as_bytes.ensures.value (password_allowed _ _ c.args.user.now c.requires.begins.0 _ c.requires.begins.1 c.requires.begins.3
+    c.requires.begins.2 c.ranges.number.fits c.requires.number (omega (arith, short_password _ c.as_bytes.ensures.right)))
 
 pub returns-in_err-make_password-clause-err : goal.returns-in_err-make_password-clause-err
 returns-in_err-make_password-clause-err g c =
     let begun : BeginsUser c.args.kernel.now c.make_password.new.kernel c.args.accounts.now c.args.number c.args.user.now = λ first p at b.
-    user_begun_none c.args.accounts.now c.args.number c.args.user.now first c.args.kernel.now p b
-    c.make_password.new.kernel c.in_err-make_password.ensures in
+    user_begun_none c.args.accounts.now _ c.args.user.now first _ p b _ c.in_err-make_password.ensures in
     on_err _ _ begun
 
 pub make_login_gate-requires : goal.make_login_gate-requires
 make_login_gate-requires g c =
-    gate_allowed_for c.make_password.new.kernel c.args.number c.as_slice.result.now c.in_ok-owners.owners.items
-    (owners_of c.args.accounts.now c.args.number c.args.user.now.name)
-    c.as_slice.ensures.value (c.in_ok-owners.ensures
-    ∙ (λ i. owners_among (length (c.users-users.ensures.users i)) (c.groups-groups.ensures.groups i)
-    c.args.number c.args.user.now.name))
-    (login_allowed c.args.accounts.now c.args.number c.args.user.now c.requires.begins.0 c.args.kernel.now c.requires.begins.1 c.requires.begins.3
-    c.make_password.new.kernel
-    (password_made c.args.kernel.now c.make_password.new.kernel c.args.number _ _ c.as_bytes.ensures.value c.in_ok-make_password.ensures.0)
-    c.requires.begins.2 c.ranges.number.fits c.requires.number)
+    gate_allowed_for c.make_password.new.kernel c.args.number _ _ _ c.as_slice.ensures.value (c.in_ok-owners.ensures
+    ∙ (λ i. owners_among (length (c.users-users.ensures.users i)) (c.groups-groups.ensures.groups i) c.args.number c.args.user.now.name))
+    (login_allowed _ _ c.args.user.now c.requires.begins.0 _ c.requires.begins.1 c.requires.begins.3 _
+    (password_made _ _ _ _ _ c.as_bytes.ensures.value c.in_ok-make_password.ensures.0) c.requires.begins.2 c.ranges.number.fits c.requires.number)
 
 pub returns-in_err-make_login_gate-clause-err : goal.returns-in_err-make_login_gate-clause-err
 returns-in_err-make_login_gate-clause-err g c =
     let begun : BeginsUser c.args.kernel.now c.make_login_gate.new.kernel c.args.accounts.now c.args.number c.args.user.now = λ first p at b.
-    user_begun_one c.args.accounts.now c.args.number c.args.user.now first c.args.kernel.now p b c.make_password.new.kernel
-    (password_made c.args.kernel.now c.make_password.new.kernel c.args.number _ _ c.as_bytes.ensures.value c.in_ok-make_password.ensures.0)
-    c.make_login_gate.new.kernel c.in_err-make_login_gate.ensures in
+    user_begun_one c.args.accounts.now _ c.args.user.now first _ p b _
+    (password_made _ _ _ _ _ c.as_bytes.ensures.value c.in_ok-make_password.ensures.0) _ c.in_err-make_login_gate.ensures in
     on_err _ _ begun
 
 pub returns-clause-ok : goal.returns-clause-ok
 returns-clause-ok g c = λ first p at b.
-    user_boots c.args.accounts.now c.args.number c.args.user.now first c.args.kernel.now p b c.make_password.new.kernel
-    (password_made c.args.kernel.now c.make_password.new.kernel c.args.number _ _ c.as_bytes.ensures.value c.in_ok-make_password.ensures.0)
-    c.make_login_gate.new.kernel at
-    (gate_made c.make_password.new.kernel c.make_login_gate.new.kernel c.args.number c.as_slice.result.now
-    (owners_of c.args.accounts.now c.args.number c.args.user.now.name)
-    (c.as_slice.ensures.value ∙ c.in_ok-owners.ensures
+    user_boots c.args.accounts.now _ c.args.user.now first _ p b _ (password_made _ _ _ _ _ c.as_bytes.ensures.value c.in_ok-make_password.ensures.0)
+    _ at (gate_made _ _ _ _ _ (c.as_slice.ensures.value ∙ c.in_ok-owners.ensures
     ∙ (λ i. owners_among (length (c.users-users.ensures.users i)) (c.groups-groups.ensures.groups i)
     c.args.number c.args.user.now.name)) c.in_ok-make_login_gate.ensures.0)

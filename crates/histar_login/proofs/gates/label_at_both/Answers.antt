@@ -8,7 +8,6 @@ pub loop-owner-preserved : goal.loop-owner-preserved
 loop-owner-preserved c =
     let level = c.args.level in
     c.in_ok-set-2.ensures.ok
-    ∙ (λ j.
-    with_level ((c.in_ok-set.ensures.ok ∙ (λ k. with_level (c.loop-owner.invariant k) (c.read_category.ensures k) level))
+    ∙ (λ j. with_level ((c.in_ok-set.ensures.ok ∙ (λ k. with_level (c.loop-owner.invariant k) (c.read_category.ensures k) level))
     j) (c.write_category.ensures j) level)
-    ∙ sym (both_next level c.args.default c.args.owners.now c.loop-owner.owner-index c.loop-owner-test.true)
+    ∙ sym (both_next level _ _ _ c.loop-owner-test.true)

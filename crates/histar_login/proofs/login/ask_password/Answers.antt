@@ -11,20 +11,15 @@ pub returns-in_err-kept : goal.returns-in_err-kept
 returns-in_err-kept g c =
     let left = subst (λ (r : Result _ _). ReadsLent c.args.kernel.now c.args.thread c.new.result c.password_segment.result r
     c.read.follows.lender-at-none) c.in_err-kept.was c.read.follows.holds-at-none in
-    fails_so c.args.thread (ask_password c.args.number c.args.password) c.args.kernel.now c.read.follows.lender-at-none _ _ c.from_residual.ensures.1
-    (asks_none c.args.thread c.args.number c.args.password c.args.kernel.now c.read.follows.lender-at-none _
-    (reads c.args.thread c.args.kernel.now c.read.follows.lender-at-none _ c.new.result c.password_segment.result c.args.number c.new.ensures
-    c.password_segment.ensures
-    (refuses c.args.thread (Read c.new.result c.password_segment.result) c.args.kernel.now c.read.follows.lender-at-none _ c.in_err-kept.field-0.0
-    left)))
+    fails_so _ _ _ c.read.follows.lender-at-none _ _ c.from_residual.ensures.1 (asks_none _ _ _ _ c.read.follows.lender-at-none _
+    (reads _ _ c.read.follows.lender-at-none _ _ _ _ c.new.ensures c.password_segment.ensures (refuses _ _ _ c.read.follows.lender-at-none _ _ left)))
 
 pub returns : goal.returns
 returns g c =
     let kept = c.in_ok-kept.kept.now in
     let left = subst (λ (r : Result _ _). ReadsLent c.args.kernel.now c.args.thread c.new.result c.password_segment.result r
     c.read.follows.lender-at-none) c.in_ok-kept.was c.read.follows.holds-at-none in
-    asks_password c.args.thread c.args.number c.args.password c.args.kernel.now c.read.follows.lender-at-none kept c.is_password.result
-    (reads c.args.thread c.args.kernel.now c.read.follows.lender-at-none _ c.new.result c.password_segment.result c.args.number c.new.ensures
+    asks_password _ _ _ _ c.read.follows.lender-at-none kept _ (reads _ _ c.read.follows.lender-at-none _ _ _ _ c.new.ensures
     c.password_segment.ensures
     (grants c.args.thread (Read c.new.result c.password_segment.result) c.args.kernel.now c.read.follows.lender-at-none kept left.0 left.1))
     c.is_password.ensures

@@ -9,39 +9,25 @@ use Rattle.histar_login.proofs.login.take_due.Goals as goal
 
 pub returns-in_err-label : goal.returns-in_err-label
 returns-in_err-label g c =
-    fails_so c.args.caller.now.thread (take_due c.args.right c.args.caller.now c.args.given.owners.now c.args.own) c.args.kernel.now c.args.kernel.now
-    Stopped _ c.from_residual.ensures.1
-    (takes_none c.args.caller.now.thread c.args.right c.args.caller.now c.args.given.owners.now c.args.own c.args.kernel.now c.args.kernel.now Stopped
+    fails_so c.args.caller.now.thread _ c.args.kernel.now c.args.kernel.now Stopped _ c.from_residual.ensures.1
+    (takes_none _ c.args.right c.args.caller.now c.args.given.owners.now c.args.own _ _ Stopped
     (before_ask c.args.caller.now.thread (SetLabel (label_if c.args.right c.args.caller.now c.args.given.owners.now c.args.own.0)) c.args.kernel.now))
 
 pub returns-in_err-set_label : goal.returns-in_err-set_label
 returns-in_err-set_label g c =
-    fails_so c.args.caller.now.thread (take_due c.args.right c.args.caller.now c.args.given.owners.now c.args.own) c.args.kernel.now
-    c.set_label.new.self _ _ c.from_residual-in_err-set_label.ensures.1
-    (takes_none c.args.caller.now.thread c.args.right c.args.caller.now c.args.given.owners.now c.args.own c.args.kernel.now c.set_label.new.self _
-    (takes_label c.args.caller.now.thread c.args.kernel.now c.set_label.new.self _ c.in_ok-label.label _ c.in_ok-label.ensures.0
-    (refuses c.args.caller.now.thread (SetLabel c.in_ok-label.label) c.args.kernel.now c.set_label.new.self _ c.in_err-set_label.field-0.0
-    c.in_err-set_label.ensures)))
+    fails_so c.args.caller.now.thread _ c.args.kernel.now c.set_label.new.self _ _ c.from_residual-in_err-set_label.ensures.1
+    (takes_none _ c.args.right c.args.caller.now c.args.given.owners.now c.args.own _ _ _ (takes_label _ _ _ _ _ _ c.in_ok-label.ensures.0
+    (refuses _ _ _ _ _ _ c.in_err-set_label.ensures)))
 
 pub returns-in_err-set_clearance : goal.returns-in_err-set_clearance
 returns-in_err-set_clearance g c =
-    fails_so c.args.caller.now.thread (take_due c.args.right c.args.caller.now c.args.given.owners.now c.args.own) c.args.kernel.now
-    c.set_clearance.new.self _ _ c.from_residual-in_err-set_clearance.ensures.1
-    (takes_due c.args.caller.now.thread c.args.right c.args.caller.now c.args.given.owners.now c.args.own c.args.kernel.now c.set_clearance.new.self
-    c.set_label.new.self
-    (takes_label c.args.caller.now.thread c.args.kernel.now c.set_label.new.self _ c.in_ok-label.label _ c.in_ok-label.ensures.0
-    (grants c.args.caller.now.thread (SetLabel c.in_ok-label.label) c.args.kernel.now c.set_label.new.self tt c.in_ok-set_label.ensures.0 tt))
-    (Err _)
-    (takes_clearance c.args.caller.now.thread c.set_label.new.self c.set_clearance.new.self _ c.in_ok-label.clearance _ c.in_ok-label.ensures.1
-    (refuses c.args.caller.now.thread (SetClearance c.in_ok-label.clearance) c.set_label.new.self c.set_clearance.new.self _
-    c.in_err-set_clearance.field-0.0 c.in_err-set_clearance.ensures)))
+    fails_so c.args.caller.now.thread _ c.args.kernel.now c.set_clearance.new.self _ _ c.from_residual-in_err-set_clearance.ensures.1
+    (takes_due _ c.args.right c.args.caller.now c.args.given.owners.now c.args.own _ _ c.set_label.new.self
+    (takes_label _ _ _ _ _ _ c.in_ok-label.ensures.0 (grants _ _ _ _ tt c.in_ok-set_label.ensures.0 tt)) (Err _)
+    (takes_clearance _ _ _ _ _ _ c.in_ok-label.ensures.1 (refuses _ _ _ _ _ _ c.in_err-set_clearance.ensures)))
 
 pub returns : goal.returns
 returns g c =
     takes_due c.args.caller.now.thread c.args.right c.args.caller.now c.args.given.owners.now c.args.own c.args.kernel.now c.set_clearance.new.self
-    c.set_label.new.self
-    (takes_label c.args.caller.now.thread c.args.kernel.now c.set_label.new.self _ c.in_ok-label.label _ c.in_ok-label.ensures.0
-    (grants c.args.caller.now.thread (SetLabel c.in_ok-label.label) c.args.kernel.now c.set_label.new.self tt c.in_ok-set_label.ensures.0 tt)) _
-    (takes_clearance c.args.caller.now.thread c.set_label.new.self c.set_clearance.new.self _ c.in_ok-label.clearance _ c.in_ok-label.ensures.1
-    (grants c.args.caller.now.thread (SetClearance c.in_ok-label.clearance) c.set_label.new.self c.set_clearance.new.self tt
-    c.in_ok-set_clearance.ensures.0 tt))
+    c.set_label.new.self (takes_label _ _ _ _ _ _ c.in_ok-label.ensures.0 (grants _ _ _ _ tt c.in_ok-set_label.ensures.0 tt)) _
+    (takes_clearance _ _ _ _ _ _ c.in_ok-label.ensures.1 (grants _ _ _ _ tt c.in_ok-set_clearance.ensures.0 tt))

@@ -8,14 +8,12 @@ use Rattle.histar_login.proofs.GroupLemmas.{groups_next, groups_all}
 use Rattle.histar_login.proofs.table.push_groups.Goals as goal
 
 pub loop-k-init : goal.loop-k-init
-loop-k-init c = record { adds = sym (append-nil c.push.new.self.items); few = omega arith }
+loop-k-init c = record { adds = sym (append-nil _); few = omega arith }
 
 pub loop-k-preserved : goal.loop-k-preserved
 loop-k-preserved c = record {
   adds =
-      groups_next c.args.accounts.now.users c.args.accounts.now.groups c.loop-k.k c.index-groups-k.result
-      c.push.new.self.items c.loop-k.table.items c.push_group.new.table.items
-      (subst (λ (groups : List Group). c.loop-k.k < length groups) c.groups-groups.ensures.groups c.loop-k-test.true)
+      groups_next _ _ _ _ _ _ _ (subst (λ (groups : List Group). c.loop-k.k < length groups) c.groups-groups.ensures.groups c.loop-k-test.true)
       (subst (λ (groups : List Group). c.index-groups-k.result ≡ get_or groups c.loop-k.k c.index-groups-k.result)
       c.groups-groups.ensures.groups c.index-groups-k.is) c.loop-k.invariant.adds c.in_ok-push_group.ensures.adds;
   few = omega (arith, c.loop-k.invariant.few, c.in_ok-push_group.ensures.few);
@@ -23,14 +21,12 @@ loop-k-preserved c = record {
 
 pub returns-clause-adds : goal.returns-clause-adds
 returns-clause-adds c =
-    let some : 0 < length c.args.accounts.now.groups =
+    let some : 0 < length _ =
     subst (λ (groups : List Group). 0 < length groups) c.groups-groups.ensures.groups
     (grind (arith, nat_tests, c.is_empty.ensures, c.if-is_empty.false)) in
-    groups_all c.args.accounts.now.users c.args.accounts.now.groups c.args.table.now.items c.loop-k.table.items some
-    (c.loop-k.invariant.adds
+    groups_all _ _ _ _ some (c.loop-k.invariant.adds
     ∙ (λ j. c.in_ok-push.ensures.items j
-    ++ numbered (group_entry c.args.accounts.now.users) 1 (take_all c.loop-k.k
-    c.args.accounts.now.groups (subst (λ (groups : List Group). length groups ≤ c.loop-k.k)
+    ++ numbered (group_entry c.args.accounts.now.users) 1 (take_all _ _ (subst (λ (groups : List Group). length groups ≤ c.loop-k.k)
     c.groups-groups.ensures.groups c.loop-k-test.false) j)))
 
 pub returns-clause-few : goal.returns-clause-few
@@ -40,8 +36,7 @@ returns-clause-few c =
       c.loop-k.invariant.few,
       c.groups-groups.ensures.few.groups,
       ap length c.in_ok-push.ensures.items,
-      ap
-          length c.groups-groups.ensures.groups,
+      ap length c.groups-groups.ensures.groups,
       c.loop-k.auto.k-end,
       length-append c.args.table.now.items (0 ∷ []),
     )

@@ -8,11 +8,9 @@ pub loop-i-preserved : goal.loop-i-preserved
 loop-i-preserved c = elim c.if-has.branch [
   | then-has+in_ok-push w ↦
       ap (λ t. t.items) w.table-is
-      ∙ member_more c.args.users.now c.args.group.now.members c.loop-i.i c.index-users-i.result c.args.table.now.items
-      c.loop-i.table.items w.push.new.self.items
+      ∙ member_more _ _ _ _ _ _ _
       c.loop-i-test.true c.index-users-i.is (sym c.has.ensures ∙ w.if-has.true) c.loop-i.invariant w.in_ok-push.ensures.items
   | else-has w ↦
       ap (λ t. t.items) w.table-is
-      ∙ member_same c.args.users.now c.args.group.now.members c.loop-i.i c.index-users-i.result c.args.table.now.items c.loop-i.table.items
-      c.loop-i-test.true c.index-users-i.is (sym c.has.ensures ∙ w.if-has.false) c.loop-i.invariant
+      ∙ member_same _ _ _ _ _ _ c.loop-i-test.true c.index-users-i.is (sym c.has.ensures ∙ w.if-has.false) c.loop-i.invariant
 ]

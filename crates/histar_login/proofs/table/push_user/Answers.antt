@@ -16,8 +16,7 @@ returns c =
     let t6 = c.extend_from_slice-5.new.self.items in
     let read : c.number.result ≡ read_category c.args.number = c.number.ensures ∙ c.read_category.ensures in
     let write : c.number-2.result ≡ write_category c.args.number = c.number-2.ensures ∙ c.write_category.ensures in
-    entry_grows t0 t1 t2 t3 t4 t5 t6 c.args.name.now c.args.number c.args.gate c.args.password
-    c.in_ok-push.ensures.items c.in_ok-extend_from_slice.ensures.items
+    entry_grows t0 t1 t2 t3 t4 t5 t6 _ _ _ _ c.in_ok-push.ensures.items c.in_ok-extend_from_slice.ensures.items
     (c.in_ok-extend_from_slice-2.ensures.items ∙ ap (λ n. t2 ++ n) (c.to_be_bytes.ensures ∙ ap (to_be_bytes w64) read))
     (c.in_ok-extend_from_slice-3.ensures.items ∙ ap (λ n. t3 ++ n) (c.to_be_bytes-2.ensures ∙ ap (to_be_bytes w64) write))
     (c.in_ok-extend_from_slice-4.ensures.items ∙ ap (λ n. t4 ++ n) c.to_be_bytes-3.ensures)

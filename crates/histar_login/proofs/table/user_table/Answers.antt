@@ -18,15 +18,11 @@ loop-i-init c = record {
 pub loop-i-preserved : goal.loop-i-preserved
 loop-i-preserved c = record {
   adds =
-      table_next c.args.accounts.now.users c.loop-i.i c.index-users-i.result c.as_bytes.result.now c.loop-i.table.items
-      c.push_user-in-loop-i.new.table.items
-      (subst (λ (users : List User). c.loop-i.i < length users) c.users-users.ensures.users c.loop-i-test.true)
+      table_next _ _ _ _ _ _ (subst (λ (users : List User). c.loop-i.i < length users) c.users-users.ensures.users c.loop-i-test.true)
       (subst (λ (users : List User). c.index-users-i.result ≡ get_or users c.loop-i.i c.index-users-i.result)
-      c.users-users.ensures.users c.index-users-i.is) c.as_bytes.ensures.value c.loop-i.invariant.adds
-      c.in_ok-push_user-2.ensures;
+      c.users-users.ensures.users c.index-users-i.is) c.as_bytes.ensures.value c.loop-i.invariant.adds c.in_ok-push_user-2.ensures;
   few =
       let more =
-      user_few c.loop-i.table.items c.push_user-in-loop-i.new.table.items _ _ _ _ c.in_ok-push_user-2.ensures
-      (rw c.as_bytes.ensures.value (short_name _ c.as_bytes.ensures.right)) in
+      user_few _ _ _ _ _ _ c.in_ok-push_user-2.ensures (rw c.as_bytes.ensures.value (short_name _ c.as_bytes.ensures.right)) in
       omega (arith, more, c.loop-i.invariant.few);
 }
