@@ -15,9 +15,8 @@ returns-in-MakeCategory g c =
       thread = c.args.thread;
       call = MakeCategory;
     } in
-    rw c.in-MakeCategory.is (as_value t (λ category. category ≡ c.args.objects.now.next_category) answers.Category
-    (λ n is. record { answer = n; determined = is; is_value = refl })
-    c.make_category.result c.category.result c.make_category.ensures c.category.ensures)
+    rw c.in-MakeCategory.is (as_value t (λ category. category ≡ c.args.objects.now.next_category) _
+    (λ n is. record { answer = n; determined = is; is_value = refl }) _ _ c.make_category.ensures c.category.ensures)
 
 pub returns-in-OwnLabel : goal.returns-in-OwnLabel
 returns-in-OwnLabel g c =
@@ -27,9 +26,8 @@ returns-in-OwnLabel g c =
       thread = c.args.thread;
       call = OwnLabel;
     } in
-    rw c.in-OwnLabel.is (as_value t (AreLabelsOf c.args.objects.now c.args.thread) (λ own. answers.OwnLabel own.0 own.1)
-    (λ own is. record { answer = own; determined = is; is_value = refl })
-    c.own_label.result c.own.result c.own_label.ensures c.own.ensures)
+    rw c.in-OwnLabel.is (as_value t _ (λ own. answers.OwnLabel own.0 own.1) (λ own is. record { answer = own; determined = is; is_value = refl })
+    _ _ c.own_label.ensures c.own.ensures)
 
 pub returns-in-MakeSegment : goal.returns-in-MakeSegment
 returns-in-MakeSegment g c =
@@ -39,9 +37,8 @@ returns-in-MakeSegment g c =
       thread = c.args.thread;
       call = MakeSegment c.in-MakeSegment.container c.in-MakeSegment.label c.in-MakeSegment.bytes;
     } in
-    rw c.in-MakeSegment.is (as_value t (IsNextNumber c.args.objects.now) answers.Object
-    (λ n is. record { answer = n; determined = is.0; is_value = refl })
-    c.copied_segment.result c.made.result (rw c.new-maker.ensures at c.copied_segment.ensures) c.made.ensures)
+    rw c.in-MakeSegment.is (as_value t _ _ (λ n is. record { answer = n; determined = is.0; is_value = refl })
+    _ _ (rw c.new-maker.ensures at c.copied_segment.ensures) c.made.ensures)
 
 pub returns-in-MakeContainer : goal.returns-in-MakeContainer
 returns-in-MakeContainer g c =
@@ -51,9 +48,7 @@ returns-in-MakeContainer g c =
       thread = c.args.thread;
       call = MakeContainer c.in-MakeContainer.container c.in-MakeContainer.label;
     } in
-    rw c.in-MakeContainer.is (as_value t (IsNextNumber c.args.objects.now) answers.Object
-    (λ n is. record { answer = n; determined = is.0; is_value = refl })
-    c.copied_container.result c.made-in-MakeContainer.result
+    rw c.in-MakeContainer.is (as_value t _ _ (λ n is. record { answer = n; determined = is.0; is_value = refl }) _ _
     (rw c.new-maker-in-MakeContainer.ensures at c.copied_container.ensures) c.made-in-MakeContainer.ensures)
 
 pub returns-in-MakeThread : goal.returns-in-MakeThread
@@ -64,9 +59,7 @@ returns-in-MakeThread g c =
       thread = c.args.thread;
       call = MakeThread c.in-MakeThread.container c.in-MakeThread.label c.in-MakeThread.clearance;
     } in
-    rw c.in-MakeThread.is (as_value t (IsNextNumber c.args.objects.now) answers.Object
-    (λ n is. record { answer = n; determined = is.0; is_value = refl })
-    c.copied_thread.result c.made-in-MakeThread.result
+    rw c.in-MakeThread.is (as_value t _ _ (λ n is. record { answer = n; determined = is.0; is_value = refl }) _ _
     (rw c.new-maker-in-MakeThread.ensures at c.copied_thread.ensures) c.made-in-MakeThread.ensures)
 
 pub returns-in-MakeGate : goal.returns-in-MakeGate
@@ -77,9 +70,8 @@ returns-in-MakeGate g c =
       thread = c.args.thread;
       call = MakeGate c.in-MakeGate.container c.in-MakeGate.label c.in-MakeGate.clearance c.in-MakeGate.entry;
     } in
-    rw c.in-MakeGate.is (as_value t (IsNextNumber c.args.objects.now) answers.Object
-    (λ n is. record { answer = n; determined = is.0; is_value = refl })
-    c.copied_gate.result c.made-in-MakeGate.result (rw c.new-maker-in-MakeGate.ensures at c.copied_gate.ensures) c.made-in-MakeGate.ensures)
+    rw c.in-MakeGate.is (as_value t _ _ (λ n is. record { answer = n; determined = is.0; is_value = refl })
+    _ _ (rw c.new-maker-in-MakeGate.ensures at c.copied_gate.ensures) c.made-in-MakeGate.ensures)
 
 pub returns-in-Enter : goal.returns-in-Enter
 returns-in-Enter g c =
@@ -89,11 +81,8 @@ returns-in-Enter g c =
       thread = c.args.thread;
       call = Enter c.in-Enter.container c.in-Enter.gate c.in-Enter.wanted c.in-Enter.clearance c.in-Enter.verify;
     } in
-    rw c.in-Enter.is (as_value t (IsEntryOf c.args.objects.now c.in-Enter.gate) answers.Entry
-    (λ entry is. record { answer = entry; determined = is; is_value = refl })
-    c.enter.result c.entry.result
-    (rw (c.new-access.ensures, c.label-in-Enter.ensures, c.label-in-Enter-2.ensures, c.label-in-Enter-3.ensures) at c.enter.ensures)
-    c.entry.ensures)
+    rw c.in-Enter.is (as_value t _ _ (λ entry is. record { answer = entry; determined = is; is_value = refl }) _ _
+    (rw (c.new-access.ensures, c.label-in-Enter.ensures, c.label-in-Enter-2.ensures, c.label-in-Enter-3.ensures) at c.enter.ensures) c.entry.ensures)
 
 pub returns-in-Read : goal.returns-in-Read
 returns-in-Read g c =
@@ -103,9 +92,8 @@ returns-in-Read g c =
       thread = c.args.thread;
       call = Read c.in-Read.container c.in-Read.segment;
     } in
-    rw c.in-Read.is (as_value t (AreBytesOf c.args.objects.now c.in-Read.segment) answers.Bytes
-    (λ bytes is. record { answer = bytes; determined = is; is_value = refl })
-    c.read.result c.bytes.result (rw c.new-access-in-Read.ensures at c.read.ensures) c.bytes.ensures)
+    rw c.in-Read.is (as_value t _ _ (λ bytes is. record { answer = bytes; determined = is; is_value = refl })
+    _ _ (rw c.new-access-in-Read.ensures at c.read.ensures) c.bytes.ensures)
 
 pub returns-in-LabelOf : goal.returns-in-LabelOf
 returns-in-LabelOf g c =
@@ -115,9 +103,8 @@ returns-in-LabelOf g c =
       thread = c.args.thread;
       call = LabelOf c.in-LabelOf.container c.in-LabelOf.object;
     } in
-    rw c.in-LabelOf.is (as_value t (IsLabelOf c.args.objects.now c.in-LabelOf.object) answers.Label
-    (λ label is. record { answer = label; determined = is; is_value = refl })
-    c.label_of.result c.label-in-LabelOf.result (rw c.new-access-in-LabelOf.ensures at c.label_of.ensures) c.label-in-LabelOf.ensures)
+    rw c.in-LabelOf.is (as_value t _ _ (λ label is. record { answer = label; determined = is; is_value = refl })
+    _ _ (rw c.new-access-in-LabelOf.ensures at c.label_of.ensures) c.label-in-LabelOf.ensures)
 
 pub returns-in-Write : goal.returns-in-Write
 returns-in-Write g c =
@@ -127,9 +114,8 @@ returns-in-Write g c =
       thread = c.args.thread;
       call = Write c.in-Write.container c.in-Write.segment c.in-Write.keep c.in-Write.bytes;
     } in
-    rw c.in-Write.is (as_value t (λ _. Unit {0}) (λ _. answers.Done)
-    (λ done is. record { answer = done; determined = tt; is_value = refl })
-    c.write.result c.done-in-Write.result (rw c.new-access-in-Write.ensures at c.write.ensures) c.done-in-Write.ensures)
+    rw c.in-Write.is (as_value t (λ _. Unit {0}) (λ _. answers.Done) (λ done is. record { answer = done; determined = tt; is_value = refl })
+    _ _ (rw c.new-access-in-Write.ensures at c.write.ensures) c.done-in-Write.ensures)
 
 pub returns-in-Unlink : goal.returns-in-Unlink
 returns-in-Unlink g c =
@@ -139,6 +125,5 @@ returns-in-Unlink g c =
       thread = c.args.thread;
       call = Unlink c.in-Unlink.container c.in-Unlink.object;
     } in
-    rw c.in-Unlink.is (as_value t (λ _. Unit {0}) (λ _. answers.Done)
-    (λ done is. record { answer = done; determined = tt; is_value = refl })
-    c.unlink.result c.done-in-Unlink.result (rw c.new-access-in-Unlink.ensures at c.unlink.ensures) c.done-in-Unlink.ensures)
+    rw c.in-Unlink.is (as_value t (λ _. Unit {0}) (λ _. answers.Done) (λ done is. record { answer = done; determined = tt; is_value = refl })
+    _ _ (rw c.new-access-in-Unlink.ensures at c.unlink.ensures) c.done-in-Unlink.ensures)
