@@ -14,41 +14,26 @@ use Rattle.histar_moves.proofs.entry.find_entry.Goals as goal
 pub returns-in_default-clause-runs : goal.returns-in_default-clause-runs
 unfolding find_entry
 returns-in_default-clause-runs g c =
-    part_as c.args.thread (find_entry c.args.roots.now c.args.path.now) c.args.kernel.now c.args.kernel.now
-    (find_entry c.args.roots.now []) (ap (find_entry c.args.roots.now) (no_names c.args.path.now (omega arith))) _
-    (refuses_at_once c.args.thread FoundEntry c.args.kernel.now EBUSY)
+    part_as _ _ _ _ _ (ap (find_entry c.args.roots.now) (no_names _ (omega arith))) _ (refuses_at_once _ FoundEntry _ EBUSY)
 
 pub returns-in_err-directory-clause-runs : goal.returns-in_err-directory-clause-runs
 unfolding find_entry
 returns-in_err-directory-clause-runs g c =
-    fails_so c.args.thread (find_entry c.args.roots.now c.args.path.now) c.args.kernel.now c.walk.new.kernel
-    c.in_err-directory.field-0.0 _ c.from_residual.ensures.1
-    (walk_failed c.args.thread c.args.roots.now c.args.kernel.now c.walk.new.kernel (find_entry c.args.roots.now)
-    c.args.path.now c.name-item.result (take (length c.args.path.now - 1) (drop 1 c.args.path.now))
-    (first_of_names c.args.path.now c.name-item.result (omega arith) c.name-item.is) (within c.name-item.result)
-    refl c.in_err-directory.field-0.0 c.in_err-directory.ensures)
+    fails_so c.args.thread _ c.args.kernel.now c.walk.new.kernel _ _ c.from_residual.ensures.1 (walk_failed _ _ _ _ (find_entry c.args.roots.now)
+    _ _ (take (length _ - 1) (drop 1 c.args.path.now)) (first_of_names _ _ (omega arith) c.name-item.is) (within c.name-item.result)
+    refl _ c.in_err-directory.ensures)
 
 pub returns-in_err-target-clause-runs : goal.returns-in_err-target-clause-runs
 unfolding find_entry
 returns-in_err-target-clause-runs g c =
-    fails_so c.args.thread (find_entry c.args.roots.now c.args.path.now) c.args.kernel.now c.walk.new.kernel
-    (Refused c.in_err-target.field-0.0) _ c.from_residual-in_err-target.ensures.1
-    (walked c.args.thread c.args.roots.now c.args.kernel.now c.walk.new.kernel (find_entry c.args.roots.now)
-    c.args.path.now c.name-item.result (take (length c.args.path.now - 1) (drop 1 c.args.path.now))
-    (first_of_names c.args.path.now c.name-item.result (omega arith) c.name-item.is) (within c.name-item.result)
-    refl c.walk.new.kernel c.in_ok-directory.directory c.in_ok-directory.ensures
-    (Err (Refused c.in_err-target.field-0.0))
-    (decides_not c.args.thread c.walk.new.kernel (entry_of c.in_ok-directory.directory c.name-item.result)
-    (entry_at (target_named c.in_ok-directory.directory c.name-item.result)) c.in_err-target.field-0.0
-    c.in_err-target.ensures))
+    fails_so c.args.thread _ c.args.kernel.now c.walk.new.kernel _ _ c.from_residual-in_err-target.ensures.1
+    (walked _ _ _ _ (find_entry c.args.roots.now) _ _ (take (length _ - 1) (drop 1 c.args.path.now))
+    (first_of_names _ _ (omega arith) c.name-item.is) (within _) refl _ c.in_ok-directory.directory c.in_ok-directory.ensures (Err _)
+    (decides_not _ _ (entry_of _ _) _ _ c.in_err-target.ensures))
 
 pub returns-clause-runs : goal.returns-clause-runs
 unfolding find_entry
 returns-clause-runs g c =
-    walked c.args.thread c.args.roots.now c.args.kernel.now c.walk.new.kernel (find_entry c.args.roots.now)
-    c.args.path.now c.name-item.result (take (length c.args.path.now - 1) (drop 1 c.args.path.now))
-    (first_of_names c.args.path.now c.name-item.result (omega arith) c.name-item.is) (within c.name-item.result)
-    refl c.walk.new.kernel c.in_ok-directory.directory c.in_ok-directory.ensures _
-    (decides c.args.thread c.walk.new.kernel (entry_of c.in_ok-directory.directory c.name-item.result)
-    (entry_at (target_named c.in_ok-directory.directory c.name-item.result)) c.in_ok-target.target
-    c.in_ok-target.ensures)
+    walked c.args.thread _ c.args.kernel.now c.walk.new.kernel (find_entry c.args.roots.now) _ _ (take (length _ - 1) (drop 1 c.args.path.now))
+    (first_of_names _ _ (omega arith) c.name-item.is) (within _) refl _ c.in_ok-directory.directory c.in_ok-directory.ensures _
+    (decides _ _ (entry_of _ _) _ _ c.in_ok-target.ensures)

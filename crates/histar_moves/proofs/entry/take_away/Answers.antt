@@ -9,20 +9,13 @@ use Rattle.histar_moves.proofs.entry.take_away.Goals as goal
 pub returns-in_err-unlink : goal.returns-in_err-unlink
 returns-in_err-unlink g c =
     let end = c.unlink.new.self in
-    fails_so c.args.thread (take_away c.args.entry) c.args.kernel.now end _ _ c.from_residual.ensures.1
-    (unlink_fails c.args.thread c.args.kernel.now end c.args.entry _ (unlinks c.args.thread c.args.kernel.now end c.args.entry c.object.result
-    c.object.ensures _ (refuses c.args.thread
-    (Unlink c.args.entry.place.container c.object.result) c.args.kernel.now end _ c.in_err-unlink.field-0.0
-    c.in_err-unlink.ensures)))
+    fails_so _ _ _ end _ _ c.from_residual.ensures.1 (unlink_fails _ _ end _ _ (unlinks _ _ end c.args.entry _ c.object.ensures _ (refuses _
+    _ _ end _ _ c.in_err-unlink.ensures)))
 
 pub returns : goal.returns
 returns g c =
     let mid = c.unlink.new.self in
     let end = c.write_entries.new.kernel in
-    takes_away c.args.thread c.args.kernel.now end c.args.entry mid (unlinks c.args.thread c.args.kernel.now mid c.args.entry c.object.result
-    c.object.ensures _ (grants c.args.thread
-    (Unlink c.args.entry.place.container c.object.result) c.args.kernel.now mid tt c.in_ok-unlink.ensures.0
-    c.in_ok-unlink.ensures.1)) c.write_entries.result
-    (writes_due c.args.thread mid end c.args.entry.place c.remove.new.self (map.remove c.args.entry.entries c.args.entry.name)
-    c.remove.ensures.without
-    c.write_entries.result c.write_entries.ensures)
+    takes_away _ _ end _ mid (unlinks _ _ mid c.args.entry _ c.object.ensures _ (grants _
+    (Unlink c.args.entry.place.container c.object.result) _ mid tt c.in_ok-unlink.ensures.0 c.in_ok-unlink.ensures.1)) _ (writes_due _ mid end _ _ _
+    c.remove.ensures.without _ c.write_entries.ensures)

@@ -17,69 +17,37 @@ use Rattle.histar_moves.proofs.rename.rename.Goals as goal
 pub returns-in_err-entry : goal.returns-in_err-entry
 unfolding rename_program
 returns-in_err-entry g c =
-    call_fails_so c.args.unix.now.caller.now.thread (rename_program c.args.unix.now.roots.now c.args.path.now c.args.name.now) c.args.kernel.now
-    c.find_entry.new.kernel c.in_err-entry.field-0.0 _
-    c.from_residual.ensures.1
-    (call_fails c.args.unix.now.caller.now.thread (find_entry c.args.unix.now.roots.now c.args.path.now) c.args.kernel.now c.find_entry.new.kernel _
-    c.in_err-entry.field-0.0 c.in_err-entry.ensures.runs)
+    call_fails_so _ _ _ _ _ _ c.from_residual.ensures.1 (call_fails _ _ _ _ _ _ c.in_err-entry.ensures.runs)
 
 pub returns-in_err-must_be_free : goal.returns-in_err-must_be_free
 unfolding rename_program
 returns-in_err-must_be_free g c =
-    call_fails_so c.args.unix.now.caller.now.thread (rename_program c.args.unix.now.roots.now c.args.path.now c.args.name.now) c.args.kernel.now
-    c.find_entry.new.kernel
-    (Refused c.in_err-must_be_free.field-0.0) _ c.from_residual-in_err-must_be_free.ensures.1
-    (then_call c.args.unix.now.caller.now.thread (find_entry c.args.unix.now.roots.now c.args.path.now) c.args.kernel.now c.find_entry.new.kernel _
-    c.find_entry.new.kernel c.in_ok-entry.entry c.in_ok-entry.ensures.runs _
-    (is_refused c.args.unix.now.caller.now.thread (must_be_free (map.get c.in_ok-entry.entry.entries c.args.name.now))
+    call_fails_so _ _ _ _ _ _ c.from_residual-in_err-must_be_free.ensures.1 (then_call _ _ _ _ _ _ _ c.in_ok-entry.ensures.runs _ (is_refused _ _
     (λ _. write_entries c.in_ok-entry.entry.place (map.insert (map.remove c.in_ok-entry.entry.entries c.in_ok-entry.entry.name) c.args.name.now
-    c.in_ok-entry.entry.target)
-    (λ _. Answers Done)) c.find_entry.new.kernel c.in_err-must_be_free.field-0.0 c.in_err-must_be_free.ensures))
+    c.in_ok-entry.entry.target) (λ _. Answers Done)) _ _ c.in_err-must_be_free.ensures))
 
 pub returns-in_err-entries : goal.returns-in_err-entries
 unfolding rename_program
 returns-in_err-entries g c =
     let due = map.insert (map.remove c.in_ok-entry.entry.entries c.in_ok-entry.entry.name) c.args.name.now c.in_ok-entry.entry.target in
-    call_fails_so c.args.unix.now.caller.now.thread (rename_program c.args.unix.now.roots.now c.args.path.now c.args.name.now) c.args.kernel.now
-    c.find_entry.new.kernel Stopped _ c.from_residual-in_err-entries.ensures.1
-    (then_call c.args.unix.now.caller.now.thread (find_entry c.args.unix.now.roots.now c.args.path.now) c.args.kernel.now c.find_entry.new.kernel _
-    c.find_entry.new.kernel c.in_ok-entry.entry c.in_ok-entry.ensures.runs _
-    (goes_on c.args.unix.now.caller.now.thread (must_be_free (map.get c.in_ok-entry.entry.entries c.args.name.now))
-    (λ _. write_entries c.in_ok-entry.entry.place due (λ _. Answers Done)) c.find_entry.new.kernel
-    c.find_entry.new.kernel tt c.in_ok-must_be_free.ensures _
-    (call_fails c.args.unix.now.caller.now.thread (write_entries c.in_ok-entry.entry.place due) c.find_entry.new.kernel c.find_entry.new.kernel
-    (λ _. Answers Done) Stopped
-    (before_ask c.args.unix.now.caller.now.thread (Write c.in_ok-entry.entry.place.container c.in_ok-entry.entry.place.listing 0 (spelling due))
-    c.find_entry.new.kernel))))
+    call_fails_so _ _ _ _ Stopped _ c.from_residual-in_err-entries.ensures.1 (then_call _ _ _ _ _ _ _ c.in_ok-entry.ensures.runs _
+    (goes_on _ (must_be_free (map.get c.in_ok-entry.entry.entries c.args.name.now))
+    (λ _. write_entries c.in_ok-entry.entry.place due (λ _. Answers Done)) _ _ tt c.in_ok-must_be_free.ensures _ (call_fails _ _ _ _
+    (λ _. Answers Done) Stopped (before_ask _ _ _))))
 
 pub returns-in_err-write_entries : goal.returns-in_err-write_entries
 unfolding rename_program
 returns-in_err-write_entries g c =
     let due = map.insert (map.remove c.in_ok-entry.entry.entries c.in_ok-entry.entry.name) c.args.name.now c.in_ok-entry.entry.target in
-    call_fails_so c.args.unix.now.caller.now.thread (rename_program c.args.unix.now.roots.now c.args.path.now c.args.name.now) c.args.kernel.now
-    c.write_entries.new.kernel c.in_err-write_entries.field-0.0 _
-    c.from_residual-in_err-write_entries.ensures.1
-    (then_call c.args.unix.now.caller.now.thread (find_entry c.args.unix.now.roots.now c.args.path.now) c.args.kernel.now c.write_entries.new.kernel _
-    c.find_entry.new.kernel c.in_ok-entry.entry c.in_ok-entry.ensures.runs _
-    (goes_on c.args.unix.now.caller.now.thread (must_be_free (map.get c.in_ok-entry.entry.entries c.args.name.now))
-    (λ _. write_entries c.in_ok-entry.entry.place due (λ _. Answers Done)) c.find_entry.new.kernel
-    c.write_entries.new.kernel tt c.in_ok-must_be_free.ensures _
-    (call_fails c.args.unix.now.caller.now.thread (write_entries c.in_ok-entry.entry.place due) c.find_entry.new.kernel c.write_entries.new.kernel
-    (λ _. Answers Done) c.in_err-write_entries.field-0.0
-    (writes_due c.args.unix.now.caller.now.thread c.find_entry.new.kernel c.write_entries.new.kernel c.in_ok-entry.entry.place c.in_ok-entries.entries
-    due c.in_ok-entries.ensures
-    (Err c.in_err-write_entries.field-0.0) c.in_err-write_entries.ensures))))
+    call_fails_so _ _ _ _ _ _ c.from_residual-in_err-write_entries.ensures.1 (then_call _ _ _ _ _ _ _ c.in_ok-entry.ensures.runs _
+    (goes_on _ (must_be_free (map.get c.in_ok-entry.entry.entries c.args.name.now))
+    (λ _. write_entries c.in_ok-entry.entry.place due (λ _. Answers Done)) _ _ tt c.in_ok-must_be_free.ensures _ (call_fails _ _ _ _
+    (λ _. Answers Done) _ (writes_due _ _ _ _ _ due c.in_ok-entries.ensures (Err _) c.in_err-write_entries.ensures))))
 
 pub returns : goal.returns
 unfolding rename_program
 returns g c =
     let due = map.insert (map.remove c.in_ok-entry.entry.entries c.in_ok-entry.entry.name) c.args.name.now c.in_ok-entry.entry.target in
-    then_call c.args.unix.now.caller.now.thread (find_entry c.args.unix.now.roots.now c.args.path.now) c.args.kernel.now c.write_entries.new.kernel _
-    c.find_entry.new.kernel c.in_ok-entry.entry c.in_ok-entry.ensures.runs _
-    (goes_on c.args.unix.now.caller.now.thread (must_be_free (map.get c.in_ok-entry.entry.entries c.args.name.now))
-    (λ _. write_entries c.in_ok-entry.entry.place due (λ _. Answers Done)) c.find_entry.new.kernel
-    c.write_entries.new.kernel tt c.in_ok-must_be_free.ensures _
-    (then_call c.args.unix.now.caller.now.thread (write_entries c.in_ok-entry.entry.place due) c.find_entry.new.kernel c.write_entries.new.kernel
-    (λ _. Answers Done) c.write_entries.new.kernel tt
-    (writes_due c.args.unix.now.caller.now.thread c.find_entry.new.kernel c.write_entries.new.kernel c.in_ok-entry.entry.place c.in_ok-entries.entries
-    due c.in_ok-entries.ensures (Ok tt) c.in_ok-write_entries.ensures) _ (says c.args.unix.now.caller.now.thread c.write_entries.new.kernel Done)))
+    then_call _ _ _ _ _ _ _ c.in_ok-entry.ensures.runs _ (goes_on _ _ (λ _. write_entries c.in_ok-entry.entry.place due (λ _. Answers Done)) _
+    _ tt c.in_ok-must_be_free.ensures _ (then_call _ _ _ _ (λ _. Answers Done) _ tt (writes_due _ _ _ _ _
+    due c.in_ok-entries.ensures (Ok tt) c.in_ok-write_entries.ensures) _ (says _ _ Done)))

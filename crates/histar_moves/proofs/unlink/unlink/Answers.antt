@@ -11,42 +11,23 @@ use Rattle.histar_moves.proofs.unlink.unlink.Goals as goal
 pub returns-in_err-entry : goal.returns-in_err-entry
 unfolding unlink_program
 returns-in_err-entry g c =
-    call_fails_so c.args.unix.now.caller.now.thread (unlink_program c.args.unix.now.roots.now c.args.path.now) c.args.kernel.now
-    c.find_entry.new.kernel c.in_err-entry.field-0.0 _ c.from_residual.ensures.1
-    (call_fails c.args.unix.now.caller.now.thread (find_entry c.args.unix.now.roots.now c.args.path.now) c.args.kernel.now c.find_entry.new.kernel _
-    c.in_err-entry.field-0.0 c.in_err-entry.ensures.runs)
+    call_fails_so _ _ _ _ _ _ c.from_residual.ensures.1 (call_fails _ _ _ _ _ _ c.in_err-entry.ensures.runs)
 
 pub returns-in_err-must_be_file : goal.returns-in_err-must_be_file
 unfolding unlink_program
 returns-in_err-must_be_file g c =
-    call_fails_so c.args.unix.now.caller.now.thread (unlink_program c.args.unix.now.roots.now c.args.path.now) c.args.kernel.now
-    c.find_entry.new.kernel (Refused c.in_err-must_be_file.field-0.0)
-    _ c.from_residual-in_err-must_be_file.ensures.1
-    (then_call c.args.unix.now.caller.now.thread (find_entry c.args.unix.now.roots.now c.args.path.now) c.args.kernel.now c.find_entry.new.kernel _
-    c.find_entry.new.kernel c.in_ok-entry.entry c.in_ok-entry.ensures.runs _
-    (is_refused c.args.unix.now.caller.now.thread (must_be_file c.in_ok-entry.entry.target) (λ _. take_away c.in_ok-entry.entry (λ _. Answers Done))
-    c.find_entry.new.kernel
-    c.in_err-must_be_file.field-0.0 c.in_err-must_be_file.ensures))
+    call_fails_so _ _ _ _ _ _ c.from_residual-in_err-must_be_file.ensures.1 (then_call _ _ _ _ _ _ _ c.in_ok-entry.ensures.runs _
+    (is_refused _ _ (λ _. take_away c.in_ok-entry.entry (λ _. Answers Done)) _ _ c.in_err-must_be_file.ensures))
 
 pub returns-in_err-take_away : goal.returns-in_err-take_away
 unfolding unlink_program
 returns-in_err-take_away g c =
-    call_fails_so c.args.unix.now.caller.now.thread (unlink_program c.args.unix.now.roots.now c.args.path.now) c.args.kernel.now
-    c.take_away.new.kernel c.in_err-take_away.field-0.0 _
-    c.from_residual-in_err-take_away.ensures.1
-    (then_call c.args.unix.now.caller.now.thread (find_entry c.args.unix.now.roots.now c.args.path.now) c.args.kernel.now c.take_away.new.kernel _
-    c.find_entry.new.kernel c.in_ok-entry.entry c.in_ok-entry.ensures.runs _
-    (goes_on c.args.unix.now.caller.now.thread (must_be_file c.in_ok-entry.entry.target) (λ _. take_away c.in_ok-entry.entry (λ _. Answers Done))
-    c.find_entry.new.kernel c.take_away.new.kernel tt c.in_ok-must_be_file.ensures _
-    (call_fails c.args.unix.now.caller.now.thread (take_away c.in_ok-entry.entry) c.find_entry.new.kernel c.take_away.new.kernel (λ _. Answers Done)
-    c.in_err-take_away.field-0.0 c.in_err-take_away.ensures)))
+    call_fails_so _ _ _ _ _ _ c.from_residual-in_err-take_away.ensures.1 (then_call _ _ _ _ _ _ _ c.in_ok-entry.ensures.runs _
+    (goes_on _ _ (λ _. take_away c.in_ok-entry.entry (λ _. Answers Done)) _ _ tt c.in_ok-must_be_file.ensures _
+    (call_fails _ _ _ _ (λ _. Answers Done) _ c.in_err-take_away.ensures)))
 
 pub returns : goal.returns
 unfolding unlink_program
 returns g c =
-    then_call c.args.unix.now.caller.now.thread (find_entry c.args.unix.now.roots.now c.args.path.now) c.args.kernel.now c.take_away.new.kernel _
-    c.find_entry.new.kernel c.in_ok-entry.entry c.in_ok-entry.ensures.runs _
-    (goes_on c.args.unix.now.caller.now.thread (must_be_file c.in_ok-entry.entry.target) (λ _. take_away c.in_ok-entry.entry (λ _. Answers Done))
-    c.find_entry.new.kernel c.take_away.new.kernel tt c.in_ok-must_be_file.ensures _
-    (then_call c.args.unix.now.caller.now.thread (take_away c.in_ok-entry.entry) c.find_entry.new.kernel c.take_away.new.kernel (λ _. Answers Done)
-    c.take_away.new.kernel tt c.in_ok-take_away.ensures _ (says c.args.unix.now.caller.now.thread c.take_away.new.kernel Done)))
+    then_call _ _ _ _ _ _ _ c.in_ok-entry.ensures.runs _ (goes_on _ _ (λ _. take_away c.in_ok-entry.entry (λ _. Answers Done))
+    _ _ tt c.in_ok-must_be_file.ensures _ (then_call _ _ _ _ (λ _. Answers Done) _ tt c.in_ok-take_away.ensures _ (says _ _ Done)))

@@ -11,36 +11,29 @@ use Rattle.histar_rules.proofs.entering.check_enter_in.Goals as goal
 
 pub returns-in_err-gate_label-clause-answer : goal.returns-in_err-gate_label-clause-answer
 returns-in_err-gate_label-clause-answer g c =
-    fails_at_denial _ _ c.from_residual-in_err-gate_label.result c.from_residual-in_err-gate_label.ensures.1
+    fails_at_denial _ _ _ c.from_residual-in_err-gate_label.ensures.1
     (gate_missing (g.S.LabelStore.labels c.args.store.now) c.args.table.now c.args.access.now.thread c.args.access.now.container
-    c.args.access.now.object
-    c.in_ok-found.ensures.answer _ _ c.in_err-gate_label.ensures.answer)
+    c.args.access.now.object c.in_ok-found.ensures.answer _ _ c.in_err-gate_label.ensures.answer)
 
 pub check_opening-requires-clause-own : goal.check_opening-requires-clause-own
 check_opening-requires-clause-own g c =
     subst (λ (labels : g.row.S-Id.Denot → Option Levels). IsSome (labels c.in_ok-found.found.own)) (sym c.in_ok-found.ensures.unchanged)
-    (label_stands (g.S.LabelStore.labels c.args.store.now) c.args.table.now c.requires.stand c.args.access.now.thread
-    (thread_of c.in_ok-found.found.own c.in_ok-found.found.own_clearance) c.in_ok-found.ensures.thread)
+    (label_stands _ c.args.table.now c.requires.stand _ _ c.in_ok-found.ensures.thread)
 
 pub check_opening-requires-clause-own_clearance : goal.check_opening-requires-clause-own_clearance
 check_opening-requires-clause-own_clearance g c =
     subst (λ (labels : g.row.S-Id.Denot → Option Levels). IsSome (labels c.in_ok-found.found.own_clearance)) (sym c.in_ok-found.ensures.unchanged)
-    (clearance_stands (g.S.LabelStore.labels c.args.store.now) c.args.table.now c.requires.stand c.args.access.now.thread
-    c.in_ok-found.found.own c.in_ok-found.found.own_clearance c.in_ok-found.ensures.thread)
+    (clearance_stands _ c.args.table.now c.requires.stand _ _ _ c.in_ok-found.ensures.thread)
 
 pub check_opening-requires-clause-gate : goal.check_opening-requires-clause-gate
 check_opening-requires-clause-gate g c =
     subst (λ (labels : g.row.S-Id.Denot → Option Levels). IsSome (labels c.in_ok-gate_label.gate_label)) (sym c.in_ok-found.ensures.unchanged)
-    (label_stands (g.S.LabelStore.labels c.args.store.now) c.args.table.now c.requires.stand c.args.access.now.object
-    (gate_of c.in_ok-gate_label.gate_label c.in_ok-gate_label.gate_clearance c.in_ok-gate_label.entry)
-    c.in_ok-gate_label.ensures.found)
+    (label_stands _ c.args.table.now c.requires.stand _ _ c.in_ok-gate_label.ensures.found)
 
 pub check_opening-requires-clause-gate_clearance : goal.check_opening-requires-clause-gate_clearance
 check_opening-requires-clause-gate_clearance g c =
     subst (λ (labels : g.row.S-Id.Denot → Option Levels). IsSome (labels c.in_ok-gate_label.gate_clearance)) (sym c.in_ok-found.ensures.unchanged)
-    (limit_stands (g.S.LabelStore.labels c.args.store.now) c.args.table.now c.requires.stand c.args.access.now.object
-    c.in_ok-gate_label.gate_label c.in_ok-gate_label.gate_clearance c.in_ok-gate_label.entry
-    c.in_ok-gate_label.ensures.found)
+    (limit_stands _ c.args.table.now c.requires.stand _ _ _ _ c.in_ok-gate_label.ensures.found)
 
 pub check_opening-requires-clause-wanted : goal.check_opening-requires-clause-wanted
 check_opening-requires-clause-wanted g c =
@@ -59,10 +52,9 @@ returns-in_err-check_opening-clause-answer g c =
       gate = (c.in_ok-gate_label.gate_label, c.in_ok-gate_label.gate_clearance);
       wanted = (c.args.wanted.label, c.args.wanted.clearance);
     } in
-    fails_at_denial _ _ c.from_residual-in_err-check_opening.result c.from_residual-in_err-check_opening.ensures.1
+    fails_at_denial _ _ _ c.from_residual-in_err-check_opening.ensures.1
     (enter_checked (g.S.LabelStore.labels c.args.store.now) c.args.table.now c.args.access.now.thread c.args.access.now.container
-    c.args.access.now.object c.args.next
-    c.args.wanted.verify.now opening c.in_ok-gate_label.entry c.in_ok-found.ensures.answer c.in_ok-found.ensures.thread
+    c.args.access.now.object c.args.next c.args.wanted.verify.now opening _ c.in_ok-found.ensures.answer c.in_ok-found.ensures.thread
     c.in_ok-gate_label.ensures.found
     ∙ ap (λ (labels : g.row.S-Id.Denot → Option Levels). no_opening labels opening c.args.wanted.verify.now c.args.next)
     (sym c.in_ok-found.ensures.unchanged)
@@ -77,8 +69,7 @@ returns-clause-answer g c =
       wanted = (c.args.wanted.label, c.args.wanted.clearance);
     } in
     enter_checked (g.S.LabelStore.labels c.args.store.now) c.args.table.now c.args.access.now.thread c.args.access.now.container
-    c.args.access.now.object c.args.next
-    c.args.wanted.verify.now opening c.in_ok-gate_label.entry c.in_ok-found.ensures.answer c.in_ok-found.ensures.thread
+    c.args.access.now.object c.args.next c.args.wanted.verify.now opening _ c.in_ok-found.ensures.answer c.in_ok-found.ensures.thread
     c.in_ok-gate_label.ensures.found
     ∙ ap (λ (labels : g.row.S-Id.Denot → Option Levels). no_opening labels opening c.args.wanted.verify.now c.args.next)
     (sym c.in_ok-found.ensures.unchanged)
@@ -89,6 +80,5 @@ returns-clause-thread g c = ap is_thread c.in_ok-found.ensures.thread
 
 pub returns-clause-entry : goal.returns-clause-entry
 returns-clause-entry g c =
-    sym (ap entry_there (object_shown (g.S.LabelStore.labels c.args.store.now) c.args.table.now c.args.access.now.object
-    (gate_of c.in_ok-gate_label.gate_label c.in_ok-gate_label.gate_clearance c.in_ok-gate_label.entry)
+    sym (ap entry_there (object_shown (g.S.LabelStore.labels c.args.store.now) c.args.table.now c.args.access.now.object _
     c.in_ok-gate_label.ensures.found))

@@ -31,9 +31,7 @@ check_enter_in-requires-clause-wanted g c =
 
 pub check_enter_in-requires-clause-clearance : goal.check_enter_in-requires-clause-clearance
 check_enter_in-requires-clause-clearance g c =
-    ap is_some
-    (c.put_copy-2.ensures.keeps c.in_ok-clearance.clearance c.args.labels.clearance.now
-    c.in_ok-clearance.ensures.stands)
+    ap is_some (c.put_copy-2.ensures.keeps c.in_ok-clearance.clearance c.args.labels.clearance.now c.in_ok-clearance.ensures.stands)
 
 pub returns-in_err-entry-clause-stand : goal.returns-in_err-entry-clause-stand
 returns-in_err-entry-clause-stand g c =
@@ -41,15 +39,14 @@ returns-in_err-entry-clause-stand g c =
 
 pub returns-in_err-entry-clause-answer : goal.returns-in_err-entry-clause-answer
 returns-in_err-entry-clause-answer g c =
-    refused_at_denial _ _ c.from_residual-in_err-entry.result c.from_residual-in_err-entry.ensures.1
+    refused_at_denial _ _ _ c.from_residual-in_err-entry.ensures.1
     (check_put_both _ _ (trans _ _ _ c.put_copy.ensures.keeps c.put_copy-2.ensures.keeps) c.args.table.now _ c.requires _ _ _ _
     c.in_ok-label.ensures.stands (c.put_copy-2.ensures.keeps _ _ c.in_ok-clearance.ensures.stands) c.args.next _ _ _
     ∙ c.in_err-entry.ensures.answer)
 
 pub returns-in_err-entry-clause-err : goal.returns-in_err-entry-clause-err
 returns-in_err-entry-clause-err g c =
-    on_err _ _
-    (shown_on _ _ (keeps_same _ _ (trans _ _ _ c.put_copy.ensures.keeps c.put_copy-2.ensures.keeps) _ c.check_enter_in.ensures.unchanged)
+    on_err _ _ (shown_on _ _ (keeps_same _ _ (trans _ _ _ c.put_copy.ensures.keeps c.put_copy-2.ensures.keeps) _ c.check_enter_in.ensures.unchanged)
     c.args.table.now c.requires)
 
 -- the labels that were put keep their Ids through the checks
@@ -62,8 +59,7 @@ returns-clause-stand g c =
     (ap (λ (labels : g.row.S-Id.Denot → Option Levels). labels c.in_ok-label.label) c.check_enter_in.ensures.unchanged
     ∙ c.in_ok-label.ensures.stands)
     (ap (λ (labels : g.row.S-Id.Denot → Option Levels). labels c.in_ok-clearance.clearance) c.check_enter_in.ensures.unchanged
-    ∙ c.put_copy-2.ensures.keeps _ _ c.in_ok-clearance.ensures.stands)
-    c.give_own.new.table c.give_own.ensures
+    ∙ c.put_copy-2.ensures.keeps _ _ c.in_ok-clearance.ensures.stands) c.give_own.new.table c.give_own.ensures
 
 pub returns-clause-answer : goal.returns-clause-answer
 returns-clause-answer g c =
@@ -77,8 +73,7 @@ returns-clause-ok g c =
     (ap (λ (labels : g.row.S-Id.Denot → Option Levels). labels c.in_ok-label.label) c.check_enter_in.ensures.unchanged
     ∙ c.in_ok-label.ensures.stands)
     (ap (λ (labels : g.row.S-Id.Denot → Option Levels). labels c.in_ok-clearance.clearance) c.check_enter_in.ensures.unchanged
-    ∙ c.put_copy-2.ensures.keeps _ _ c.in_ok-clearance.ensures.stands)
-    c.give_own.new.table c.give_own.ensures
+    ∙ c.put_copy-2.ensures.keeps _ _ c.in_ok-clearance.ensures.stands) c.give_own.new.table c.give_own.ensures
 
 pub returns-clause-entry : goal.returns-clause-entry
 returns-clause-entry g c =

@@ -16,20 +16,18 @@ give_ids_at-requires-clause-has g c o is =
 pub returns-clause-stand : goal.returns-clause-stand
 returns-clause-stand g c =
     let end : c.objects.number ≡ c.args.next_object = omega arith in
-    moved_stand (g.S.LabelStore.labels c.args.store.now) (g.S.LabelStore.labels c.args.fresh.now) c.args.table.now c.objects.table
-    c.args.next_object c.requires.unused (subst (AreMoved _ _ _ _) end c.objects.invariant)
+    moved_stand _ _ c.args.table.now c.objects.table _ c.requires.unused (subst (AreMoved _ _ _ _) end c.objects.invariant)
 
 pub returns-clause-same : goal.returns-clause-same
 returns-clause-same g c =
     let end : c.objects.number ≡ c.args.next_object = omega arith in
-    moved_shown (g.S.LabelStore.labels c.args.store.now) (g.S.LabelStore.labels c.args.fresh.now) c.args.table.now c.objects.table
-    c.args.next_object c.requires.unused (subst (AreMoved _ _ _ _) end c.objects.invariant)
+    moved_shown _ _ c.args.table.now c.objects.table _ c.requires.unused (subst (AreMoved _ _ _ _) end c.objects.invariant)
 
 pub objects-preserved : goal.objects-preserved
 objects-preserved g c =
     let old = g.S.LabelStore.labels c.args.store.now in
     let new = g.S.LabelStore.labels c.args.fresh.now in
     let after = objects_of c.give_ids_at.new.table in
-    moved_more old new (objects_of c.args.table.now) (objects_of c.objects.table) after c.objects.number c.objects.invariant
+    moved_more old new _ _ after _ c.objects.invariant
     (subst (λ (n : ℕ). IsMoved old new (objects_of c.objects.table n) (after n)) c.new.ensures c.give_ids_at.ensures.moved)
     (λ q other. c.give_ids_at.ensures.others q (λ e. other (e ∙ c.new.ensures)))

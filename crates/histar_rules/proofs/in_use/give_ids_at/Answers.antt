@@ -20,15 +20,15 @@ returns-in-Some-clause-moved g c =
     let new = g.S.LabelStore.labels c.args.fresh.now in
     let left : Object g.row.S-Id.Denot = record { label = c.found-object.result; kind = c.give_kind_ids.new.kind } in
     let after : objects_of (c.get_mut.follows.lender left) ≡ put (objects_of c.args.table.now) c.args.number left =
-    (on_some c.get_mut.result c.in-Some.object _ c.in-Some.is (c.get_mut.follows.holds left)).objects in
+    (on_some _ _ _ c.in-Some.is (c.get_mut.follows.holds left)).objects in
     subst (λ b. IsMoved old new b (objects_of (c.get_mut.follows.lender left) c.args.number)) c.in-Some.ensures.value
     (subst (IsMoved old new _) (sym (ap (λ objects. objects c.args.number) after ∙ put_here (objects_of c.args.table.now) c.args.number left))
-    (object_moved old new c.in-Some.object.now left (c.requires.stands c.in-Some.object.now (sym c.in-Some.ensures.value)).label
+    (object_moved old new _ left (c.requires.stands c.in-Some.object.now (sym c.in-Some.ensures.value)).label
     c.found-object.ensures c.give_kind_ids.ensures.stands c.give_kind_ids.ensures.same))
 
 pub returns-in-Some-clause-others : goal.returns-in-Some-clause-others
 returns-in-Some-clause-others g c q other =
     let left : Object g.row.S-Id.Denot = record { label = c.found-object.result; kind = c.give_kind_ids.new.kind } in
     let after : objects_of (c.get_mut.follows.lender left) ≡ put (objects_of c.args.table.now) c.args.number left =
-    (on_some c.get_mut.result c.in-Some.object _ c.in-Some.is (c.get_mut.follows.holds left)).objects in
-    ap (λ objects. objects q) after ∙ put_other (objects_of c.args.table.now) c.args.number left q other
+    (on_some _ _ _ c.in-Some.is (c.get_mut.follows.holds left)).objects in
+    ap (λ objects. objects q) after ∙ put_other (objects_of c.args.table.now) _ left q other

@@ -6,7 +6,5 @@ use Rattle.histar_rules.proofs.in_use.labels_in_use.Goals as goal
 
 pub objects-preserved : goal.objects-preserved
 objects-preserved g c =
-    labels_more (g.S.LabelStore.labels c.args.store.now) (g.S.LabelStore.labels c.objects.fresh)
-    (g.S.LabelStore.labels c.put_labels_at.new.fresh) c.put_labels_at.ensures.keeps
-    (objects_of c.args.table.now) c.objects.number c.requires
+    labels_more _ _ _ c.put_labels_at.ensures.keeps _ _ c.requires
     (λ o is. c.in_ok-exceptions.ensures.has o (ap (objects_of c.args.table.now) c.new.ensures ∙ is)) c.objects.invariant

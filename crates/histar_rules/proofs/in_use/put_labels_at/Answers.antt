@@ -9,7 +9,5 @@ put_clearance-requires g c = (c.requires.each c.args.number c.in-Some.object.now
 
 pub returns-clause-has : goal.returns-clause-has
 returns-clause-has g c o is =
-    labels_put (g.S.LabelStore.labels c.args.store.now) (g.S.LabelStore.labels c.put_label.new.fresh)
-    (g.S.LabelStore.labels c.put_clearance.new.fresh) c.put_clearance.ensures.keeps
-    (objects_of c.args.table.now c.args.number) c.in-Some.object.now o c.in-Some.ensures is
+    labels_put _ _ _ c.put_clearance.ensures.keeps _ _ o c.in-Some.ensures is
     (c.requires.each c.args.number c.in-Some.object.now (sym c.in-Some.ensures)) c.in_ok-own.ensures.has c.in_ok-clearance.ensures.has

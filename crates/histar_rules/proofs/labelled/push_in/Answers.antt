@@ -7,37 +7,30 @@ use Rattle.histar_rules.proofs.labelled.push_in.Goals as goal
 
 pub returns-in_err-object-clause-stand : goal.returns-in_err-object-clause-stand
 returns-in_err-object-clause-stand g c =
-    all_on (g.S.LabelStore.labels c.args.store.now) (g.S.LabelStore.labels c.put_object.new.store)
-    c.put_object.ensures.keeps (objects_of c.args.table.now) c.requires.stand
+    all_on _ _ c.put_object.ensures.keeps _ c.requires.stand
 
 pub returns-in_err-object-clause-err : goal.returns-in_err-object-clause-err
 returns-in_err-object-clause-err g c =
-    on_err _ _ (shown_on (g.S.LabelStore.labels c.args.store.now) (g.S.LabelStore.labels c.put_object.new.store)
-    c.put_object.ensures.keeps c.args.table.now c.requires.stand)
+    on_err _ _ (shown_on _ _ c.put_object.ensures.keeps c.args.table.now c.requires.stand)
 
 pub add-requires : goal.add-requires
 add-requires g c = none_there (g.S.LabelStore.labels c.args.store.now) c.args.table.now c.args.number c.requires.is_new
 
 pub returns-clause-stand : goal.returns-clause-stand
 returns-clause-stand g c =
-    placed_stand _ (objects_of c.args.table.now) (objects_of c.add.new.self) c.args.number c.in_ok-object.object
-    c.add.result c.add.ensures.ok c.add.ensures.err
+    placed_stand _ _ _ _ _ _ c.add.ensures.ok c.add.ensures.err
     (all_on _ _ c.put_object.ensures.keeps _ c.requires.stand) c.in_ok-object.ensures.stands
 
 pub returns-clause-ok : goal.returns-clause-ok
 returns-clause-ok g c =
     let o = c.in_ok-object.object in
     let same = shown_on _ _ c.put_object.ensures.keeps c.args.table.now c.requires.stand in
-    on_ok_weaker c.add.result
-    (λ (e : objects_of c.add.new.self ≡ put (objects_of c.args.table.now) c.args.number o).
-    shown_put (g.S.LabelStore.labels c.put_object.new.store) c.args.table.now c.add.new.self c.args.number o e
-    ∙ (λ i. put (same i) c.args.number (c.in_ok-object.ensures.value i)))
-    c.add.ensures.ok
+    on_ok_weaker _ (λ (e : objects_of c.add.new.self ≡ put (objects_of c.args.table.now) c.args.number o).
+    shown_put (g.S.LabelStore.labels c.put_object.new.store) c.args.table.now c.add.new.self _ o e
+    ∙ (λ i. put (same i) c.args.number (c.in_ok-object.ensures.value i))) c.add.ensures.ok
 
 pub returns-clause-err : goal.returns-clause-err
 returns-clause-err g c =
-    on_err_weaker c.add.result
-    (λ (e : objects_of c.add.new.self ≡ objects_of c.args.table.now).
+    on_err_weaker _ (λ (e : objects_of c.add.new.self ≡ objects_of c.args.table.now).
     shown_same (g.S.LabelStore.labels c.put_object.new.store) c.args.table.now c.add.new.self e
-    ∙ shown_on _ _ c.put_object.ensures.keeps c.args.table.now c.requires.stand)
-    c.add.ensures.err
+    ∙ shown_on _ _ c.put_object.ensures.keeps c.args.table.now c.requires.stand) c.add.ensures.err

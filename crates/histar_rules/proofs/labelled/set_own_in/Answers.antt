@@ -9,12 +9,11 @@ use Rattle.histar_rules.proofs.labelled.set_own_in.Goals as goal
 
 pub returns-in_err-clearance-clause-stand : goal.returns-in_err-clearance-clause-stand
 returns-in_err-clearance-clause-stand g c =
-    all_on _ (g.S.LabelStore.labels c.put.new.self) c.put.ensures.keeps (objects_of c.args.table.now) c.requires.stand
+    all_on _ _ c.put.ensures.keeps _ c.requires.stand
 
 pub returns-in_err-clearance-clause-err : goal.returns-in_err-clearance-clause-err
 returns-in_err-clearance-clause-err g c =
-    on_err _ _ (shown_on (g.S.LabelStore.labels c.args.store.now) (g.S.LabelStore.labels c.put.new.self) c.put.ensures.keeps
-    c.args.table.now c.requires.stand)
+    on_err _ _ (shown_on _ _ c.put.ensures.keeps c.args.table.now c.requires.stand)
 
 pub returns-in_err-label-clause-stand : goal.returns-in_err-label-clause-stand
 returns-in_err-label-clause-stand g c =
@@ -27,19 +26,15 @@ returns-in_err-label-clause-err g c =
 pub give_own-requires : goal.give_own-requires
 give_own-requires g c =
     let labels = g.S.LabelStore.labels c.args.store.now in
-    sym (ap is_thread (shows labels c.args.table.now c.args.thread) ∙ thread_by labels c.args.table.now (objects_of c.args.table.now c.args.thread))
+    sym (ap is_thread (shows labels c.args.table.now c.args.thread) ∙ thread_by labels c.args.table.now _)
     ∙ c.requires.is_there
 
 pub returns-clause-stand : goal.returns-clause-stand
 returns-clause-stand g c =
-    own_stand _ _ (trans _ _ _ c.put.ensures.keeps c.put-2.ensures.keeps) c.args.table.now c.args.thread c.requires.stand
-    c.in_ok-label.label c.in_ok-clearance.clearance c.args.label c.args.clearance c.in_ok-label.ensures.stands
-    (c.put-2.ensures.keeps c.in_ok-clearance.clearance c.args.clearance c.in_ok-clearance.ensures.stands)
-    c.give_own.new.table c.give_own.ensures
+    own_stand _ _ (trans _ _ _ c.put.ensures.keeps c.put-2.ensures.keeps) c.args.table.now _ c.requires.stand _ _ _ _ c.in_ok-label.ensures.stands
+    (c.put-2.ensures.keeps c.in_ok-clearance.clearance c.args.clearance c.in_ok-clearance.ensures.stands) c.give_own.new.table c.give_own.ensures
 
 pub returns-clause-ok : goal.returns-clause-ok
 returns-clause-ok g c =
-    own_shown _ _ (trans _ _ _ c.put.ensures.keeps c.put-2.ensures.keeps) c.args.table.now c.args.thread c.requires.stand
-    c.in_ok-label.label c.in_ok-clearance.clearance c.args.label c.args.clearance c.in_ok-label.ensures.stands
-    (c.put-2.ensures.keeps c.in_ok-clearance.clearance c.args.clearance c.in_ok-clearance.ensures.stands)
-    c.give_own.new.table c.give_own.ensures
+    own_shown _ _ (trans _ _ _ c.put.ensures.keeps c.put-2.ensures.keeps) c.args.table.now _ c.requires.stand _ _ _ _ c.in_ok-label.ensures.stands
+    (c.put-2.ensures.keeps c.in_ok-clearance.clearance c.args.clearance c.in_ok-clearance.ensures.stands) c.give_own.new.table c.give_own.ensures

@@ -11,23 +11,20 @@ use Rattle.histar_rules.proofs.labelled.splice_in.Goals as goal
 pub returns-in_err-new-clause-err : goal.returns-in_err-new-clause-err
 returns-in_err-new-clause-err g c =
     let left : Object g.row.L.Denot = record { label = c.in-Some.object.now.label; kind = Segment c.in-Segment.content } in
-    on_err _ _
-    (left_alone (objects_of c.args.table.now) _ c.args.segment c.in-Some.object.now c.in-Segment.content c.in-Some.ensures.value c.in-Segment.is
-    (on_some c.get_mut.result c.in-Some.object _ c.in-Some.is (c.get_mut.follows.holds left)).objects)
+    on_err _ _ (left_alone _ _ _ _ _ c.in-Some.ensures.value c.in-Segment.is (on_some _ _ _ c.in-Some.is (c.get_mut.follows.holds left)).objects)
 
 pub returns-in_ok-new-clause-ok : goal.returns-in_ok-new-clause-ok
 returns-in_ok-new-clause-ok g c =
     let left : Object g.row.L.Denot = record { label = c.in-Some.object.now.label; kind = Segment c.in_ok-new.new } in
-    spliced_there (objects_of c.args.table.now) _ c.args.segment c.in-Some.object.now c.in-Segment.content c.args.keep
-    c.args.bytes.now c.in_ok-new.new c.in-Some.ensures.value c.in-Segment.is
+    spliced_there _ _ _ _ _ c.args.keep c.args.bytes.now _ c.in-Some.ensures.value c.in-Segment.is
     (c.in_ok-new.ensures ∙ ap (λ (b : List ℕ). take c.args.keep b ++ c.args.bytes.now) c.as_slice.ensures)
-    (on_some c.get_mut.result c.in-Some.object _ c.in-Some.is (c.get_mut.follows.holds left)).objects
+    (on_some _ _ _ c.in-Some.is (c.get_mut.follows.holds left)).objects
 
 pub returns-in_default-kind : goal.returns-in_default-kind
 returns-in_default-kind g c =
     let left : Object g.row.L.Denot = record { label = c.in-Some.object.now.label; kind = c.in-Some.object.now.kind } in
     record {
-      ok = held_not (objects_of c.args.table.now) _ c.args.segment left _ c.in-Some.ensures.value (search rules)
-          (on_some c.get_mut.result c.in-Some.object _ c.in-Some.is (c.get_mut.follows.holds left)).objects;
+      ok = held_not _ _ _ left _ c.in-Some.ensures.value (search rules)
+          (on_some _ _ _ c.in-Some.is (c.get_mut.follows.holds left)).objects;
       err = tt;
     }

@@ -12,28 +12,24 @@ use Rattle.histar_rules.proofs.linked.read_in.Goals as goal
 
 pub returns-in_err-label-clause-answer : goal.returns-in_err-label-clause-answer
 returns-in_err-label-clause-answer g c =
-    fails_at_denial _ _ c.from_residual-in_err-label.result c.from_residual-in_err-label.ensures.1
+    fails_at_denial _ _ _ c.from_residual-in_err-label.ensures.1
     (segment_missing (g.S.LabelStore.labels c.args.store.now) c.args.table.now c.args.access.now.thread c.args.access.now.container
     c.args.access.now.object c.in_ok-found.ensures.answer _ _ c.in_err-label.ensures.answer)
 
 pub below_raised-requires-clause-lower_stands : goal.below_raised-requires-clause-lower_stands
 below_raised-requires-clause-lower_stands g c =
     subst (λ (labels : g.row.S-Id.Denot → Option Levels). IsSome (labels c.in_ok-label.label)) (sym c.in_ok-found.ensures.unchanged)
-    (label_stands (g.S.LabelStore.labels c.args.store.now) c.args.table.now c.requires c.args.access.now.object
-    (segment_of c.in_ok-label.label c.in_ok-label.bytes.now) c.in_ok-label.ensures.found)
+    (label_stands _ c.args.table.now c.requires _ _ c.in_ok-label.ensures.found)
 
 pub below_raised-requires-clause-upper_stands : goal.below_raised-requires-clause-upper_stands
 below_raised-requires-clause-upper_stands g c =
     subst (λ (labels : g.row.S-Id.Denot → Option Levels). IsSome (labels c.in_ok-found.found.own)) (sym c.in_ok-found.ensures.unchanged)
-    (label_stands (g.S.LabelStore.labels c.args.store.now) c.args.table.now c.requires c.args.access.now.thread
-    (thread_of c.in_ok-found.found.own c.in_ok-found.found.own_clearance) c.in_ok-found.ensures.thread)
+    (label_stands _ c.args.table.now c.requires _ _ c.in_ok-found.ensures.thread)
 
 pub returns-then-below_raised-clause-answer : goal.returns-then-below_raised-clause-answer
 returns-then-below_raised-clause-answer g c =
     read_found (g.S.LabelStore.labels c.args.store.now) c.args.table.now c.args.access.now.thread c.args.access.now.container c.args.access.now.object
-    c.in_ok-found.ensures.answer c.in_ok-found.found.own c.in_ok-found.found.own_clearance c.in_ok-found.ensures.thread c.in_ok-label.label
-    c.in_ok-label.bytes.now c.below_raised.result c.in_ok-label.ensures.found
-    (c.below_raised.ensures.answer
+    c.in_ok-found.ensures.answer _ _ c.in_ok-found.ensures.thread _ _ _ c.in_ok-label.ensures.found (c.below_raised.ensures.answer
     ∙ ap (λ (labels : g.row.S-Id.Denot → Option Levels).
     is_below_raised (label_at labels c.in_ok-label.label) (label_at labels c.in_ok-found.found.own)) c.in_ok-found.ensures.unchanged)
     ∙ ap (λ b. unless b Observe) c.if-below_raised.true
@@ -41,9 +37,7 @@ returns-then-below_raised-clause-answer g c =
 pub returns-else-below_raised-clause-answer : goal.returns-else-below_raised-clause-answer
 returns-else-below_raised-clause-answer g c =
     read_found (g.S.LabelStore.labels c.args.store.now) c.args.table.now c.args.access.now.thread c.args.access.now.container c.args.access.now.object
-    c.in_ok-found.ensures.answer c.in_ok-found.found.own c.in_ok-found.found.own_clearance c.in_ok-found.ensures.thread c.in_ok-label.label
-    c.in_ok-label.bytes.now c.below_raised.result c.in_ok-label.ensures.found
-    (c.below_raised.ensures.answer
+    c.in_ok-found.ensures.answer _ _ c.in_ok-found.ensures.thread _ _ _ c.in_ok-label.ensures.found (c.below_raised.ensures.answer
     ∙ ap (λ (labels : g.row.S-Id.Denot → Option Levels).
     is_below_raised (label_at labels c.in_ok-label.label) (label_at labels c.in_ok-found.found.own)) c.in_ok-found.ensures.unchanged)
     ∙ ap (λ b. unless b Observe) c.if-below_raised.false

@@ -6,20 +6,16 @@ use Rattle.histar_rules.proofs.Observed.{behind_refusal, linking_found}
 use Rattle.histar_rules.proofs.lookup.linked_in.Goals as goal
 
 pub returns-in_err-found-clause-answer : goal.returns-in_err-found-clause-answer
-returns-in_err-found-clause-answer g c = behind_refusal _ _ _ c.from_residual.result c.in_err-found.ensures.answer c.from_residual.ensures.1
+returns-in_err-found-clause-answer g c = behind_refusal _ _ _ _ c.in_err-found.ensures.answer c.from_residual.ensures.1
 
 pub returns-then-contains-clause-answer : goal.returns-then-contains-clause-answer
 returns-then-contains-clause-answer g c =
-    linking_found (g.S.LabelStore.labels c.args.store.now) c.args.table.now c.args.access.now.thread c.args.access.now.container
-    c.args.access.now.object
-    c.in_ok-found.found.label c.in_ok-found.found.links.now c.contains.result c.in_ok-found.ensures.answer c.in_ok-found.ensures.container
-    c.contains.ensures
+    linking_found (g.S.LabelStore.labels c.args.store.now) c.args.table.now c.args.access.now.thread c.args.access.now.container _
+    _ _ _ c.in_ok-found.ensures.answer c.in_ok-found.ensures.container c.contains.ensures
     ∙ ap (λ b. unless b NoEntry) c.if-contains.true
 
 pub returns-else-contains-clause-answer : goal.returns-else-contains-clause-answer
 returns-else-contains-clause-answer g c =
-    linking_found (g.S.LabelStore.labels c.args.store.now) c.args.table.now c.args.access.now.thread c.args.access.now.container
-    c.args.access.now.object
-    c.in_ok-found.found.label c.in_ok-found.found.links.now c.contains.result c.in_ok-found.ensures.answer c.in_ok-found.ensures.container
-    c.contains.ensures
+    linking_found (g.S.LabelStore.labels c.args.store.now) c.args.table.now c.args.access.now.thread c.args.access.now.container _
+    _ _ _ c.in_ok-found.ensures.answer c.in_ok-found.ensures.container c.contains.ensures
     ∙ ap (λ b. unless b NoEntry) c.if-contains.false

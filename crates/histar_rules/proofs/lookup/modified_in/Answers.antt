@@ -10,36 +10,30 @@ use Rattle.histar_rules.proofs.Observed.{behind_refusal, making_found, label_sta
 use Rattle.histar_rules.proofs.lookup.modified_in.Goals as goal
 
 pub returns-in_err-found-clause-answer : goal.returns-in_err-found-clause-answer
-returns-in_err-found-clause-answer g c = behind_refusal _ _ _ c.from_residual.result c.in_err-found.ensures.answer c.from_residual.ensures.1
+returns-in_err-found-clause-answer g c = behind_refusal _ _ _ _ c.in_err-found.ensures.answer c.from_residual.ensures.1
 
 pub below-requires-clause-lower_stands : goal.below-requires-clause-lower_stands
 below-requires-clause-lower_stands g c =
     subst (λ (labels : g.row.S-Id.Denot → Option Levels). IsSome (labels c.in_ok-found.found.own)) (sym c.in_ok-found.ensures.unchanged)
-    (label_stands (g.S.LabelStore.labels c.args.store.now) c.args.table.now c.requires c.args.maker.now.thread
-    (thread_of c.in_ok-found.found.own c.in_ok-found.found.own_clearance) c.in_ok-found.ensures.thread)
+    (label_stands _ c.args.table.now c.requires _ _ c.in_ok-found.ensures.thread)
 
 pub below-requires-clause-upper_stands : goal.below-requires-clause-upper_stands
 below-requires-clause-upper_stands g c =
     subst (λ (labels : g.row.S-Id.Denot → Option Levels). IsSome (labels c.in_ok-found.found.label)) (sym c.in_ok-found.ensures.unchanged)
-    (label_stands (g.S.LabelStore.labels c.args.store.now) c.args.table.now c.requires c.args.maker.now.container
-    (container_of c.in_ok-found.found.label c.in_ok-found.found.links.now) c.in_ok-found.ensures.container)
+    (label_stands _ c.args.table.now c.requires _ _ c.in_ok-found.ensures.container)
 
 pub returns-then-below-clause-answer : goal.returns-then-below-clause-answer
 returns-then-below-clause-answer g c =
-    making_found (g.S.LabelStore.labels c.args.store.now) c.args.table.now c.args.maker.now.thread c.args.maker.now.container c.in_ok-found.found.own
-    c.in_ok-found.found.own_clearance c.in_ok-found.found.label c.in_ok-found.found.links.now c.below.result c.in_ok-found.ensures.answer
-    c.in_ok-found.ensures.thread c.in_ok-found.ensures.container
-    (c.below.ensures.answer
+    making_found (g.S.LabelStore.labels c.args.store.now) c.args.table.now c.args.maker.now.thread c.args.maker.now.container _
+    _ _ _ _ c.in_ok-found.ensures.answer c.in_ok-found.ensures.thread c.in_ok-found.ensures.container (c.below.ensures.answer
     ∙ ap (λ (labels : g.row.S-Id.Denot → Option Levels).
     is_below (label_at labels c.in_ok-found.found.own) (label_at labels c.in_ok-found.found.label)) c.in_ok-found.ensures.unchanged)
     ∙ ap (λ b. unless b Modify) c.if-below.true
 
 pub returns-else-below-clause-answer : goal.returns-else-below-clause-answer
 returns-else-below-clause-answer g c =
-    making_found (g.S.LabelStore.labels c.args.store.now) c.args.table.now c.args.maker.now.thread c.args.maker.now.container c.in_ok-found.found.own
-    c.in_ok-found.found.own_clearance c.in_ok-found.found.label c.in_ok-found.found.links.now c.below.result c.in_ok-found.ensures.answer
-    c.in_ok-found.ensures.thread c.in_ok-found.ensures.container
-    (c.below.ensures.answer
+    making_found (g.S.LabelStore.labels c.args.store.now) c.args.table.now c.args.maker.now.thread c.args.maker.now.container _
+    _ _ _ _ c.in_ok-found.ensures.answer c.in_ok-found.ensures.thread c.in_ok-found.ensures.container (c.below.ensures.answer
     ∙ ap (λ (labels : g.row.S-Id.Denot → Option Levels).
     is_below (label_at labels c.in_ok-found.found.own) (label_at labels c.in_ok-found.found.label)) c.in_ok-found.ensures.unchanged)
     ∙ ap (λ b. unless b Modify) c.if-below.false

@@ -14,17 +14,14 @@ returns-in_default-clause-answer g c =
 
 pub check_range-requires-clause-own : goal.check_range-requires-clause-own
 check_range-requires-clause-own g c =
-    label_stands (g.S.LabelStore.labels c.args.store.now) c.args.table.now c.requires.stand c.args.thread
-    (thread_of c.in-Some.own.0 c.in-Some.own.1) c.in-Some.ensures
+    label_stands _ c.args.table.now c.requires.stand _ _ c.in-Some.ensures
 
 pub check_range-requires-clause-own_clearance : goal.check_range-requires-clause-own_clearance
 check_range-requires-clause-own_clearance g c =
-    clearance_stands (g.S.LabelStore.labels c.args.store.now) c.args.table.now c.requires.stand c.args.thread
-    c.in-Some.own.0 c.in-Some.own.1 c.in-Some.ensures
+    clearance_stands _ c.args.table.now c.requires.stand _ _ _ c.in-Some.ensures
 
 pub returns-clause-answer : goal.returns-clause-answer
 returns-clause-answer g c =
     subst (λ (f : Option Denied). FailsAt f c.check_range.result)
     (sym (label_ranged (g.S.LabelStore.labels c.args.store.now) c.args.table.now c.args.thread c.args.next
-    (label_at (g.S.LabelStore.labels c.args.store.now) c.args.label) c.in-Some.own.0 c.in-Some.own.1 c.in-Some.ensures))
-    c.check_range.ensures.answer
+    (label_at (g.S.LabelStore.labels c.args.store.now) c.args.label) _ _ c.in-Some.ensures)) c.check_range.ensures.answer

@@ -11,13 +11,11 @@ use Rattle.histar_rules.proofs.own.give_clearance.Goals as goal
 pub returns-in-Some : goal.returns-in-Some
 returns-in-Some g c =
     let left : Object g.row.L.Denot = record { label = c.in-Some.found.now.label; kind = c.set_kind_clearance.new.kind } in
-    (on_some c.get_mut.result c.in-Some.found _ c.in-Some.is (c.get_mut.follows.holds left)).objects
+    (on_some _ _ _ c.in-Some.is (c.get_mut.follows.holds left)).objects
     ∙ ap (λ k. put (objects_of c.args.table.now) c.args.object (record { label = c.in-Some.found.now.label; kind = k })) c.set_kind_clearance.ensures
-    ∙ put_changed (objects_of c.args.table.now) c.args.object (with_clearance c.args.clearance)
-    c.in-Some.found.now c.in-Some.ensures.value
+    ∙ put_changed _ _ _ _ c.in-Some.ensures.value
 
 pub returns-in_default : goal.returns-in_default
 returns-in_default g c =
     ap objects_of (c.get_mut.follows.holds-at-none)
-    ∙ changed_none (objects_of c.args.table.now) c.args.object (with_clearance c.args.clearance)
-    c.in_default.ensures.value
+    ∙ changed_none _ _ _ c.in_default.ensures.value

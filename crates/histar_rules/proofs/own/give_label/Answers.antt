@@ -11,11 +11,10 @@ use Rattle.histar_rules.proofs.own.give_label.Goals as goal
 pub returns-in-Some : goal.returns-in-Some
 returns-in-Some g c =
     let left : Object g.row.L.Denot = record { label = c.args.label; kind = c.in-Some.found.now.kind } in
-    (on_some c.get_mut.result c.in-Some.found _ c.in-Some.is (c.get_mut.follows.holds left)).objects
-    ∙ put_changed (objects_of c.args.table.now) c.args.object (with_label c.args.label) c.in-Some.found.now c.in-Some.ensures.value
+    (on_some _ _ _ c.in-Some.is (c.get_mut.follows.holds left)).objects
+    ∙ put_changed _ _ _ _ c.in-Some.ensures.value
 
 pub returns-in_default : goal.returns-in_default
 returns-in_default g c =
     ap objects_of (c.get_mut.follows.holds-at-none)
-    ∙ changed_none (objects_of c.args.table.now) c.args.object (with_label c.args.label)
-    c.in_default.ensures.value
+    ∙ changed_none _ _ _ c.in_default.ensures.value

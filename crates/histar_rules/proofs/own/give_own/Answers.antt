@@ -10,7 +10,7 @@ use Rattle.histar_rules.proofs.own.give_own.Goals as goal
 pub returns-in-Some : goal.returns-in-Some
 returns-in-Some g c =
     let left : Object g.row.L.Denot = record { label = c.args.own.0; kind = Thread c.args.own.1 } in
-    (on_some c.get_mut.result c.in-Some.object _ c.in-Some.is (c.get_mut.follows.holds left)).objects
+    (on_some _ _ _ c.in-Some.is (c.get_mut.follows.holds left)).objects
 
 pub returns-in_default : goal.returns-in_default
 returns-in_default g c = absurd (false≢true (ap is_thread c.in_default.ensures.value ∙ c.requires))

@@ -10,16 +10,15 @@ use Rattle.histar_rules.proofs.own.set_label_in.Goals as goal
 
 pub returns-in_err-id-clause-stand : goal.returns-in_err-id-clause-stand
 returns-in_err-id-clause-stand g c =
-    all_on _ (g.S.LabelStore.labels c.put_copy.new.store) c.put_copy.ensures.keeps (objects_of c.args.table.now) c.requires
+    all_on _ _ c.put_copy.ensures.keeps _ c.requires
 
 pub returns-in_err-id-clause-err : goal.returns-in_err-id-clause-err
 returns-in_err-id-clause-err g c =
-    on_err _ _ (shown_on (g.S.LabelStore.labels c.args.store.now) (g.S.LabelStore.labels c.put_copy.new.store) c.put_copy.ensures.keeps
-    c.args.table.now c.requires)
+    on_err _ _ (shown_on _ _ c.put_copy.ensures.keeps c.args.table.now c.requires)
 
 pub check_label_in-requires-clause-stand : goal.check_label_in-requires-clause-stand
 check_label_in-requires-clause-stand g c =
-    all_on _ (g.S.LabelStore.labels c.put_copy.new.store) c.put_copy.ensures.keeps (objects_of c.args.table.now) c.requires
+    all_on _ _ c.put_copy.ensures.keeps _ c.requires
 
 pub returns-in_err-check_label_in-clause-stand : goal.returns-in_err-check_label_in-clause-stand
 returns-in_err-check_label_in-clause-stand g c =
@@ -27,30 +26,29 @@ returns-in_err-check_label_in-clause-stand g c =
 
 pub returns-in_err-check_label_in-clause-answer : goal.returns-in_err-check_label_in-clause-answer
 returns-in_err-check_label_in-clause-answer g c =
-    refused_at_denial _ _ c.from_residual-in_err-check_label_in.result c.from_residual-in_err-check_label_in.ensures.1
-    (check_put _ _ c.put_copy.ensures.keeps c.args.table.now c.args.thread c.args.next calls.SetLabel c.in_ok-id.id c.args.label.now
+    refused_at_denial _ _ _ c.from_residual-in_err-check_label_in.ensures.1
+    (check_put _ _ c.put_copy.ensures.keeps c.args.table.now c.args.thread c.args.next calls.SetLabel _ _
     c.requires c.in_ok-id.ensures.stands ∙ c.in_err-check_label_in.ensures.answer)
 
 pub returns-in_err-check_label_in-clause-err : goal.returns-in_err-check_label_in-clause-err
 returns-in_err-check_label_in-clause-err g c =
-    on_err _ _ (shown_on _ _ (keeps_same _ _ c.put_copy.ensures.keeps _ c.check_label_in.ensures.unchanged)
-    c.args.table.now c.requires)
+    on_err _ _ (shown_on _ _ (keeps_same _ _ c.put_copy.ensures.keeps _ c.check_label_in.ensures.unchanged) c.args.table.now c.requires)
 
 pub returns-clause-stand : goal.returns-clause-stand
 returns-clause-stand g c =
     label_stand _ _ (keeps_same _ _ c.put_copy.ensures.keeps _ c.check_label_in.ensures.unchanged)
-    c.args.table.now c.give_label.new.table c.args.thread c.requires c.in_ok-id.id c.args.label.now
+    c.args.table.now c.give_label.new.table _ c.requires _ _
     (ap (λ (labels : g.row.S-Id.Denot → Option Levels). labels c.in_ok-id.id) c.check_label_in.ensures.unchanged ∙ c.in_ok-id.ensures.stands)
     c.give_label.ensures
 
 pub returns-clause-answer : goal.returns-clause-answer
 returns-clause-answer g c =
-    check_put _ _ c.put_copy.ensures.keeps c.args.table.now c.args.thread c.args.next calls.SetLabel c.in_ok-id.id c.args.label.now
+    check_put _ _ c.put_copy.ensures.keeps c.args.table.now c.args.thread c.args.next calls.SetLabel _ _
     c.requires c.in_ok-id.ensures.stands ∙ c.in_ok-check_label_in.ensures.answer
 
 pub returns-clause-ok : goal.returns-clause-ok
 returns-clause-ok g c =
     label_shown _ _ (keeps_same _ _ c.put_copy.ensures.keeps _ c.check_label_in.ensures.unchanged)
-    c.args.table.now c.give_label.new.table c.args.thread c.requires c.in_ok-id.id c.args.label.now
+    c.args.table.now c.give_label.new.table _ c.requires _ _
     (ap (λ (labels : g.row.S-Id.Denot → Option Levels). labels c.in_ok-id.id) c.check_label_in.ensures.unchanged ∙ c.in_ok-id.ensures.stands)
     c.give_label.ensures

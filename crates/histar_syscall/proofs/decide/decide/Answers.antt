@@ -12,14 +12,14 @@ returns-in-MakeCategory g c =
     rw c.in-MakeCategory.is (as_value (turn c.args.objects.now c.make_category.new.objects c.args.thread MakeCategory)
     (λ category. category ≡ c.args.objects.now.next_category) answers.Category
     (λ n is. record { answer = n; determined = is; is_value = refl })
-    c.make_category.result c.category.result c.make_category.ensures c.category.ensures)
+    _ _ c.make_category.ensures c.category.ensures)
 
 pub returns-in-OwnLabel : goal.returns-in-OwnLabel
 returns-in-OwnLabel g c =
     rw c.in-OwnLabel.is (as_value (turn c.args.objects.now c.args.objects.now c.args.thread OwnLabel)
     (AreLabelsOf c.args.objects.now c.args.thread) (λ own. answers.OwnLabel own.0 own.1)
     (λ own is. record { answer = own; determined = is; is_value = refl })
-    c.own_label.result c.own.result c.own_label.ensures c.own.ensures)
+    _ _ c.own_label.ensures c.own.ensures)
 
 pub returns-in-MakeSegment : goal.returns-in-MakeSegment
 returns-in-MakeSegment g c =
@@ -27,7 +27,7 @@ returns-in-MakeSegment g c =
     (MakeSegment c.in-MakeSegment.container c.in-MakeSegment.label c.in-MakeSegment.bytes))
     (IsNextNumber c.args.objects.now) answers.Object
     (λ n is. record { answer = n; determined = is.0; is_value = refl })
-    c.copied_segment.result c.made.result (rw c.new-maker.ensures at c.copied_segment.ensures) c.made.ensures)
+    _ _ (rw c.new-maker.ensures at c.copied_segment.ensures) c.made.ensures)
 
 pub returns-in-MakeContainer : goal.returns-in-MakeContainer
 returns-in-MakeContainer g c =
@@ -53,7 +53,7 @@ returns-in-MakeGate g c =
     (MakeGate c.in-MakeGate.container c.in-MakeGate.label c.in-MakeGate.clearance c.in-MakeGate.entry))
     (IsNextNumber c.args.objects.now) answers.Object
     (λ n is. record { answer = n; determined = is.0; is_value = refl })
-    c.copied_gate.result c.made-in-MakeGate.result (rw c.new-maker-in-MakeGate.ensures at c.copied_gate.ensures) c.made-in-MakeGate.ensures)
+    _ _ (rw c.new-maker-in-MakeGate.ensures at c.copied_gate.ensures) c.made-in-MakeGate.ensures)
 
 pub returns-in-Enter : goal.returns-in-Enter
 returns-in-Enter g c =
@@ -70,14 +70,14 @@ returns-in-Read g c =
     rw c.in-Read.is (as_value (turn c.args.objects.now c.read.new.objects c.args.thread (Read c.in-Read.container c.in-Read.segment))
     (AreBytesOf c.args.objects.now c.in-Read.segment) answers.Bytes
     (λ bytes is. record { answer = bytes; determined = is; is_value = refl })
-    c.read.result c.bytes.result (rw c.new-access-in-Read.ensures at c.read.ensures) c.bytes.ensures)
+    _ _ (rw c.new-access-in-Read.ensures at c.read.ensures) c.bytes.ensures)
 
 pub returns-in-LabelOf : goal.returns-in-LabelOf
 returns-in-LabelOf g c =
     rw c.in-LabelOf.is (as_value (turn c.args.objects.now c.label_of.new.self c.args.thread (LabelOf c.in-LabelOf.container c.in-LabelOf.object))
     (IsLabelOf c.args.objects.now c.in-LabelOf.object) answers.Label
     (λ label is. record { answer = label; determined = is; is_value = refl })
-    c.label_of.result c.label-in-LabelOf.result (rw c.new-access-in-LabelOf.ensures at c.label_of.ensures) c.label-in-LabelOf.ensures)
+    _ _ (rw c.new-access-in-LabelOf.ensures at c.label_of.ensures) c.label-in-LabelOf.ensures)
 
 pub returns-in-Write : goal.returns-in-Write
 returns-in-Write g c =
@@ -85,11 +85,11 @@ returns-in-Write g c =
     (Write c.in-Write.container c.in-Write.segment c.in-Write.keep c.in-Write.bytes))
     (λ _. Unit {0}) (λ _. answers.Done)
     (λ done is. record { answer = done; determined = tt; is_value = refl })
-    c.write.result c.done-in-Write.result (rw c.new-access-in-Write.ensures at c.write.ensures) c.done-in-Write.ensures)
+    _ _ (rw c.new-access-in-Write.ensures at c.write.ensures) c.done-in-Write.ensures)
 
 pub returns-in-Unlink : goal.returns-in-Unlink
 returns-in-Unlink g c =
     rw c.in-Unlink.is (as_value (turn c.args.objects.now c.unlink.new.objects c.args.thread (Unlink c.in-Unlink.container c.in-Unlink.object))
     (λ _. Unit {0}) (λ _. answers.Done)
     (λ done is. record { answer = done; determined = tt; is_value = refl })
-    c.unlink.result c.done-in-Unlink.result (rw c.new-access-in-Unlink.ensures at c.unlink.ensures) c.done-in-Unlink.ensures)
+    _ _ (rw c.new-access-in-Unlink.ensures at c.unlink.ensures) c.done-in-Unlink.ensures)

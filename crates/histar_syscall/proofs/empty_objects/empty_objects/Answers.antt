@@ -5,5 +5,4 @@ use Rattle.histar_syscall.proofs.empty_objects.empty_objects.Goals as goal
 
 pub returns : goal.returns
 returns g c =
-    empty_made (state_of c.new-objects.result) (state_of c.push_root.new.objects) (state_of c.add_boot_thread.new.objects)
-    c.new-objects.ensures c.in_ok-push_root.ensures.state c.in_ok-add_boot_thread.ensures
+    empty_made _ _ _ c.new-objects.ensures c.in_ok-push_root.ensures.state c.in_ok-add_boot_thread.ensures

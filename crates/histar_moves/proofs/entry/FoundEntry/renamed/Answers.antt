@@ -8,8 +8,7 @@ use Rattle.histar_moves.proofs.entry.FoundEntry.renamed.Goals as goal
 
 pub insert-requires-clause-room : goal.insert-requires-clause-room
 insert-requires-clause-room c =
-    subst (λ (dir : Entries). map.len dir < 64) (sym c.remove.ensures.without)
-    (room_without c.args.self.entries c.args.self.name c.args.self.target c.remove.ensures.listable c.requires)
+    subst (λ (dir : Entries). map.len dir < 64) (sym c.remove.ensures.without) (room_without _ _ _ c.remove.ensures.listable c.requires)
 
 pub insert-requires-clause-leads : goal.insert-requires-clause-leads
-insert-requires-clause-leads c = leads_somewhere c.args.self.entries c.args.self.name c.args.self.target c.remove.ensures.listable c.requires
+insert-requires-clause-leads c = leads_somewhere _ _ _ c.remove.ensures.listable c.requires

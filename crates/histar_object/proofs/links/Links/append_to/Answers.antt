@@ -5,6 +5,4 @@ use Rattle.histar_object.proofs.links.Links.append_to.Goals as goal
 pub returns : goal.returns
 returns c =
     let given = c.into_iter-number-iterator.ensures.into_iter_gives in
-    appended c.self.inside.numbers.keys c.into_iter-number-iterator.result c.loop-number.number-iterator
-    c.args.list.now.items c.loop-number.list.items c.args.self.now
-    c.self.view_is given.0 given.4 c.in-None.ensures.steps.0 c.loop-number.invariant
+    appended _ _ _ _ _ _ c.self.view_is given.0 given.4 c.in-None.ensures.steps.0 c.loop-number.invariant

@@ -6,6 +6,6 @@ use Rattle.histar_object.proofs.links.Links.contains.Goals as goal
 
 pub returns : goal.returns
 returns c =
-    c.contains.ensures ∙ ap (is_listed c.self.inside.numbers.keys) c.number.ensures
-    ∙ sym (contains_listed c.self.inside.numbers.keys c.args.object)
+    c.contains.ensures ∙ ap (is_listed _) c.number.ensures
+    ∙ sym (contains_listed _ _)
     ∙ ap (λ s. set.contains s c.args.object) c.self.view_is

@@ -4,5 +4,4 @@ use Rattle.histar_object.proofs.links.Links.insert.Goals as goal
 
 pub returns-clause-ok : goal.returns-clause-ok
 returns-clause-ok c =
-    rw (← c.self.view_is, ← c.number.ensures)
-    (inserted c.self.inside.numbers.keys c.insert.new.self.keys c.number.result c.in_ok-insert.ensures.updates.0)
+    rw (← c.self.view_is, ← c.number.ensures) (inserted _ _ _ c.in_ok-insert.ensures.updates.0)

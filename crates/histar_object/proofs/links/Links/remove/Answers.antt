@@ -4,4 +4,4 @@ use Rattle.histar_object.proofs.links.Links.remove.Goals as goal
 
 pub returns : goal.returns
 returns c =
-    rw (← c.self.view_is, ← c.number.ensures) (removed c.self.inside.numbers.keys c.remove.new.self.keys c.number.result c.remove.ensures.updates.0)
+    rw (← c.self.view_is, ← c.number.ensures) (removed _ _ _ c.remove.ensures.updates.0)

@@ -15,5 +15,4 @@ pub returns : goal.returns
 returns c =
     let at_place : in_place c.self.inside.listed.items c.args.id ≡ c.place.result = ap (λ l. in_place l c.args.id) (sym c.deref.ensures.value) ∙ sym
     c.place.ensures in
-    rw (← c.self.view_is) (sym (found_in_place c.self.inside.listed.items c.self.inside.others.entries c.args.id c.in-Some.slot
-    (at_place ∙ c.in-Some.is)))
+    rw (← c.self.view_is) (sym (found_in_place c.self.inside.listed.items c.self.inside.others.entries c.args.id _ (at_place ∙ c.in-Some.is)))

@@ -10,7 +10,7 @@ invariant_of-self c =
     (none_in_map c.self.inside.listed.items c.self.inside.others.entries c.args.id (rw (← c.self.view_is) at c.requires.absent)))
 
 pub returns-in-Ok-clause-once : goal.returns-in-Ok-clause-once
-returns-in-Ok-clause-once c = distinct_in_both c.push.new.self.items c.self.inside.others.entries (invariant_of-self c)
+returns-in-Ok-clause-once c = distinct_in_both _ _ (invariant_of-self c)
 
 pub returns-in-Ok-clause-updates : goal.returns-in-Ok-clause-updates
 returns-in-Ok-clause-updates c =
@@ -19,16 +19,14 @@ returns-in-Ok-clause-updates c =
 
 pub invariant_of-self-in-Ok-insert : goal.invariant_of-self-in-Ok-insert
 invariant_of-self-in-Ok-insert c =
-    AreApart-put c.self.inside.listed.items c.self.inside.others.entries c.self.invariant c.args.id c.insert.new.self.entries (Some c.args.slot)
+    AreApart-put _ _ c.self.invariant _ _ (Some _)
     (none_in_place c.self.inside.listed.items c.self.inside.others.entries c.args.id (rw (← c.self.view_is) at c.requires.absent))
-    c.insert.ensures.unique
-    c.in-Ok-insert.ensures.updates.0
+    c.insert.ensures.unique c.in-Ok-insert.ensures.updates.0
 
 pub returns-in-Ok-insert-clause-once : goal.returns-in-Ok-insert-clause-once
-returns-in-Ok-insert-clause-once c = distinct_in_both c.self.inside.listed.items c.insert.new.self.entries (invariant_of-self-in-Ok-insert c)
+returns-in-Ok-insert-clause-once c = distinct_in_both _ _ (invariant_of-self-in-Ok-insert c)
 
 pub returns-in-Ok-insert-clause-updates : goal.returns-in-Ok-insert-clause-updates
 returns-in-Ok-insert-clause-updates c q =
     let none = none_in_place c.self.inside.listed.items c.self.inside.others.entries c.args.id (rw (← c.self.view_is) at c.requires.absent) in
-    rw (← c.self.view_is) (found_put c.self.inside.listed.items c.self.inside.others.entries c.args.id c.insert.new.self.entries (Some c.args.slot)
-    none q (c.in-Ok-insert.ensures.updates.0 q))
+    rw (← c.self.view_is) (found_put c.self.inside.listed.items _ _ _ (Some _) none q (c.in-Ok-insert.ensures.updates.0 q))

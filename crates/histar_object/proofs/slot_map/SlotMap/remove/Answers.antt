@@ -17,9 +17,7 @@ returns-in_default-clause-unchanged c =
 
 pub invariant_of-self : goal.invariant_of-self
 invariant_of-self c =
-    AreApart-put c.self.inside.listed.items c.self.inside.others.entries c.self.invariant c.args.id
-    c.remove.new.self.entries None
-    (ap (λ l. in_place l c.args.id) (sym c.deref.ensures.value) ∙ sym c.place.ensures ∙ c.in_default.is)
+    AreApart-put _ _ c.self.invariant _ _ None (ap (λ l. in_place l c.args.id) (sym c.deref.ensures.value) ∙ sym c.place.ensures ∙ c.in_default.is)
     c.remove.ensures.unique c.remove.ensures.updates.0
 
 pub returns-in_default-clause-value : goal.returns-in_default-clause-value
@@ -30,13 +28,12 @@ returns-in_default-clause-value c =
     ∙ c.in_default.is)))
 
 pub returns-in_default-clause-once : goal.returns-in_default-clause-once
-returns-in_default-clause-once c = distinct_in_both c.self.inside.listed.items c.remove.new.self.entries (invariant_of-self c)
+returns-in_default-clause-once c = distinct_in_both _ _ (invariant_of-self c)
 
 pub returns-in_default-clause-updates : goal.returns-in_default-clause-updates
 returns-in_default-clause-updates c q =
-    rw (← c.self.view_is) (found_put c.self.inside.listed.items c.self.inside.others.entries c.args.id c.remove.new.self.entries None
-    (ap (λ l. in_place l c.args.id) (sym c.deref.ensures.value) ∙ sym c.place.ensures ∙ c.in_default.is) q
-    (c.remove.ensures.updates.0 q))
+    rw (← c.self.view_is) (found_put _ _ _ _ None
+    (ap (λ l. in_place l c.args.id) (sym c.deref.ensures.value) ∙ sym c.place.ensures ∙ c.in_default.is) q (c.remove.ensures.updates.0 q))
 
 pub index_mut-requires : goal.index_mut-requires
 index_mut-requires c =
@@ -44,18 +41,17 @@ index_mut-requires c =
     omega (arith, c.number.ensures, in_place_within c.args.id c.in-Some.slot c.self.inside.listed.items found)
 
 pub invariant_of-self-2 : goal.invariant_of-self-2
-invariant_of-self-2 c = AreApart-emptied c.self.inside.listed.items c.self.inside.others.entries c.self.invariant c.number.result
+invariant_of-self-2 c = AreApart-emptied _ _ c.self.invariant _
 
 pub returns-clause-value : goal.returns-clause-value
 returns-clause-value c =
-    rw (← c.self.view_is) (sym (found_in_place c.self.inside.listed.items c.self.inside.others.entries c.args.id c.in-Some.slot
+    rw (← c.self.view_is) (sym (found_in_place c.self.inside.listed.items c.self.inside.others.entries c.args.id _
     (ap (λ l. in_place l c.args.id) (sym c.deref.ensures.value) ∙ sym c.place.ensures ∙ c.in-Some.is)))
 
 pub returns-clause-once : goal.returns-clause-once
-returns-clause-once c = distinct_in_both _ c.self.inside.others.entries (invariant_of-self-2 c)
+returns-clause-once c = distinct_in_both _ _ (invariant_of-self-2 c)
 
 pub returns-clause-updates : goal.returns-clause-updates
 returns-clause-updates c =
-    rw (c.number.ensures, ← c.self.view_is) (found_emptied c.self.inside.listed.items c.self.inside.others.entries c.args.id
-    (c.self.invariant.apart c.args.id c.in-Some.slot
+    rw (c.number.ensures, ← c.self.view_is) (found_emptied _ _ _ (c.self.invariant.apart c.args.id c.in-Some.slot
     (ap (λ l. in_place l c.args.id) (sym c.deref.ensures.value) ∙ sym c.place.ensures ∙ c.in-Some.is)))

@@ -4,18 +4,15 @@ use Rattle.histar_object.proofs.slot_map.SlotMap.reserve.Goals as goal
 
 pub invariant_of-self-2 : goal.invariant_of-self-2
 invariant_of-self-2 c =
-    AreApart-alike c.self.inside.listed.items c.self.inside.others.entries c.self.invariant _ c.reserve.new.self.entries
-    c.reserve.ensures.unique c.reserve_place.ensures.slots c.reserve.ensures.entries.2
+    AreApart-alike _ _ c.self.invariant _ _ c.reserve.ensures.unique c.reserve_place.ensures.slots c.reserve.ensures.entries.2
 
 pub returns-clause-once : goal.returns-clause-once
-returns-clause-once c = distinct_in_both _ c.reserve.new.self.entries (invariant_of-self-2 c)
+returns-clause-once c = distinct_in_both _ _ (invariant_of-self-2 c)
 
 pub returns-clause-slots : goal.returns-clause-slots
 returns-clause-slots c q =
-    rw (← c.self.view_is) (found_alike c.self.inside.listed.items c.self.inside.others.entries _ c.reserve.new.self.entries q
-    (c.reserve_place.ensures.slots q) (c.reserve.ensures.entries.2 q))
+    rw (← c.self.view_is) (found_alike _ _ _ _ q (c.reserve_place.ensures.slots q) (c.reserve.ensures.entries.2 q))
 
 pub returns-in_err-reserve-clause-once : goal.returns-in_err-reserve-clause-once
 returns-in_err-reserve-clause-once c =
-    rw c.in_err-reserve.ensures.err
-    (distinct_in_both c.self.inside.listed.items c.self.inside.others.entries c.self.invariant)
+    rw c.in_err-reserve.ensures.err (distinct_in_both _ _ c.self.invariant)

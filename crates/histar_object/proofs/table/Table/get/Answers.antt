@@ -9,12 +9,10 @@ pub returns-in_err-slot : goal.returns-in_err-slot
 returns-in_err-slot g c =
     let none : slot_at c.self.inside.slots.entries c.args.id ≡ None = sym c.get.ensures ∙ c.in_err-slot.was in
     ap option_copied c.from_residual.ensures
-    ∙ rw (← c.self.view_is)
-    (sym (none_at (get c.self.inside.objects) c.self.inside.slots.entries c.self.invariant c.args.id none))
+    ∙ rw (← c.self.view_is) (sym (none_at _ _ c.self.invariant _ none))
 
 pub returns : goal.returns
 returns g c =
-    let here : Some c.in_ok-slot.slot ≡ slot_at c.self.inside.slots.entries c.args.id = sym c.in_ok-slot.was ∙ c.get.ensures in
+    let here : Some _ ≡ slot_at c.self.inside.slots.entries c.args.id = sym c.in_ok-slot.was ∙ c.get.ensures in
     c.get-2.ensures
-    ∙ rw (← c.self.view_is) (found_at (get c.self.inside.objects) c.self.inside.slots.entries c.self.invariant c.args.id
-    c.in_ok-slot.slot here)
+    ∙ rw (← c.self.view_is) (found_at _ _ c.self.invariant _ _ here)

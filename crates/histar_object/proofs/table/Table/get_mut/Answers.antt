@@ -19,20 +19,19 @@ returns-in_err-slot g c =
       (refl, λ w. tt, c.self.view_is),
       record {
         writes_back = tt;
-        value = rw (← c.self.view_is) (sym (none_at (get c.self.inside.objects) c.self.inside.slots.entries c.self.invariant
-            c.args.id none));
+        value = rw (← c.self.view_is) (sym (none_at _ _ c.self.invariant
+            _ none));
       },
     )
 
 pub invariant_of-self-lent : goal.invariant_of-self-lent
 invariant_of-self-lent g c lent =
     let old = get c.self.inside.objects in
-    let here : slot_at c.self.inside.slots.entries c.args.id ≡ Some c.in_ok-slot.slot = sym c.get.ensures ∙ c.in_ok-slot.was in (
+    let here : slot_at c.self.inside.slots.entries c.args.id ≡ Some _ = sym c.get.ensures ∙ c.in_ok-slot.was in (
       λ w. (let updates = Updates-with_value c.self.inside.objects c.in_ok-slot.slot w (c.self.invariant.filled c.args.id c.in_ok-slot.slot here) in
           let new = get (with_value c.self.inside.objects c.in_ok-slot.slot w) in
-          let one = written old new c.self.inside.slots.entries c.self.invariant c.args.id c.in_ok-slot.slot w here updates.changed updates.others in
-          IsPlaced-changed old new c.self.inside.slots.entries c.self.inside.slots.entries c.args.id c.in_ok-slot.slot (Some c.in_ok-slot.slot)
-          (Some w) one c.self.invariant c.self.invariant.once),
+          let one = written old new _ c.self.invariant c.args.id _ w here updates.changed updates.others in
+          IsPlaced-changed old new _ _ _ _ (Some _) (Some w) one c.self.invariant c.self.invariant.once),
       c.self.invariant,
     )
 

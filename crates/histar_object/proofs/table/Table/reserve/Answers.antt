@@ -11,13 +11,11 @@ returns-in_err-reserve-clause-objects g c =
 
 pub invariant_of-self-2 : goal.invariant_of-self-2
 invariant_of-self-2 g c =
-    IsPlaced-reordered (get c.self.inside.objects) (get c.reserve.new.self) c.self.inside.slots.entries c.reserve-2.new.self.entries c.self.invariant
-    (ap get c.reserve.ensures.rest_kept) c.reserve-2.ensures.slots c.reserve-2.ensures.once
+    IsPlaced-reordered _ _ _ _ c.self.invariant (ap get c.reserve.ensures.rest_kept) c.reserve-2.ensures.slots c.reserve-2.ensures.once
 
 pub returns-clause-objects : goal.returns-clause-objects
 returns-clause-objects g c =
-    rw (← c.self.view_is) (objects-reordered (get c.self.inside.objects) (get c.reserve.new.self) c.self.inside.slots.entries
-    c.reserve-2.new.self.entries c.self.invariant
+    rw (← c.self.view_is) (objects-reordered _ _ _ _ c.self.invariant
     (ap get c.reserve.ensures.rest_kept) c.reserve-2.ensures.slots c.reserve-2.ensures.once)
 
 pub returns-clause-slots : goal.returns-clause-slots

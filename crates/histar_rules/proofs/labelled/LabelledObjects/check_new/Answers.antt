@@ -15,14 +15,12 @@ use Rattle.histar_rules.proofs.labelled.LabelledObjects.check_new.Goals as goal
 pub labels_in-requires-clause-first : goal.labels_in-requires-clause-first
 labels_in-requires-clause-first g c =
     subst (λ (labels : g.row.S-Id.Denot → Option Levels). IsSome (labels c.in_ok-found.found.own)) (sym c.in_ok-found.ensures.unchanged)
-    (label_stands (g.S.LabelStore.labels c.self.inside.store) c.self.inside.table c.self.invariant.stand c.args.maker.now.thread
-    (thread_of c.in_ok-found.found.own c.in_ok-found.found.own_clearance) c.in_ok-found.ensures.thread)
+    (label_stands _ c.self.inside.table c.self.invariant.stand _ _ c.in_ok-found.ensures.thread)
 
 pub labels_in-requires-clause-second : goal.labels_in-requires-clause-second
 labels_in-requires-clause-second g c =
     subst (λ (labels : g.row.S-Id.Denot → Option Levels). IsSome (labels c.in_ok-found.found.own_clearance)) (sym c.in_ok-found.ensures.unchanged)
-    (clearance_stands (g.S.LabelStore.labels c.self.inside.store) c.self.inside.table c.self.invariant.stand c.args.maker.now.thread
-    c.in_ok-found.found.own c.in_ok-found.found.own_clearance c.in_ok-found.ensures.thread)
+    (clearance_stands _ c.self.inside.table c.self.invariant.stand _ _ _ c.in_ok-found.ensures.thread)
 
 pub returns-clause-answer : goal.returns-clause-answer
 returns-clause-answer g c =
@@ -35,10 +33,8 @@ returns-clause-answer g c =
       next_category = c.next-next.ensures.category i;
     } in
     subst (λ (f : Option Denied). FailsAt f c.check_new.result)
-    (sym (new_found (g.S.LabelStore.labels c.self.inside.store) c.self.inside.table c.args.maker.now.thread c.args.maker.now.container found.own
-    found.own_clearance c.in_ok-found.ensures.answer c.in_ok-found.ensures.thread c.next-next.result c.args.label.now
-    c.args.size c.labels_in.result.0.now c.labels_in.result.1.now
+    (sym (new_found (g.S.LabelStore.labels c.self.inside.store) c.self.inside.table c.args.maker.now.thread c.args.maker.now.container _
+    _ c.in_ok-found.ensures.answer c.in_ok-found.ensures.thread c.next-next.result _ c.args.size _ _
     (c.labels_in.ensures.first ∙ ap (λ (labels : g.row.S-Id.Denot → Option Levels). label_at labels found.own) kept)
     (c.labels_in.ensures.second ∙ ap (λ (labels : g.row.S-Id.Denot → Option Levels). label_at labels found.own_clearance) kept))
-    ∙ ap (λ (s : State). no_new s c.args.maker.now.thread c.args.maker.now.container c.args.label.now c.args.size) same)
-    c.check_new.ensures
+    ∙ ap (λ (s : State). no_new s c.args.maker.now.thread c.args.maker.now.container c.args.label.now c.args.size) same) c.check_new.ensures

@@ -8,10 +8,9 @@ use Rattle.histar_rules.proofs.labelled.LabelledObjects.clearance.Goals as goal
 pub unwrap-requires : goal.unwrap-requires
 unwrap-requires g c =
     let stands = c.self.invariant.stand.each c.args.object c.in-Some.object.now (sym c.get.ensures ∙ ap option_copied c.in-Some.is) in
-    copied_some c.get-in-Thread.result _ c.get-in-Thread.ensures
-    (subst (KindStands (g.S.LabelStore.labels c.self.inside.store)) c.in-Thread.is stands.kind)
+    copied_some _ _ c.get-in-Thread.ensures (subst (KindStands (g.S.LabelStore.labels c.self.inside.store)) c.in-Thread.is stands.kind)
 
 pub unwrap-requires-in-Gate : goal.unwrap-requires-in-Gate
 unwrap-requires-in-Gate g c =
     let stands = c.self.invariant.stand.each c.args.object c.in-Some.object.now (sym c.get.ensures ∙ ap option_copied c.in-Some.is) in
-    copied_some c.get-in-Gate.result _ c.get-in-Gate.ensures (subst (KindStands (g.S.LabelStore.labels c.self.inside.store)) c.in-Gate.is stands.kind)
+    copied_some _ _ c.get-in-Gate.ensures (subst (KindStands (g.S.LabelStore.labels c.self.inside.store)) c.in-Gate.is stands.kind)

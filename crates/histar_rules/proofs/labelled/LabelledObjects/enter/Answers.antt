@@ -11,11 +11,9 @@ use Rattle.histar_rules.proofs.labelled.LabelledObjects.enter.Goals as goal
 
 pub invariant_of-self : goal.invariant_of-self
 invariant_of-self g c =
-    kept_entered (g.S.LabelStore.labels c.self.inside.store) (g.S.LabelStore.labels c.enter_in.new.store) c.self.inside.table
-    c.enter_in.new.table c.next-next.result c.self.inside.next_object c.args.access.now.thread c.args.access.now.container c.args.access.now.object
-    c.args.labels.wanted.now c.args.labels.clearance.now c.args.labels.verify.now c.enter_in.result
-    c.enter_in.ensures.stand c.self.invariant.unused c.self.invariant.positive
-    c.enter_in.ensures.answer c.enter_in.ensures.ok c.enter_in.ensures.err
+    kept_entered (g.S.LabelStore.labels c.self.inside.store) _ c.self.inside.table
+    _ c.next-next.result _ _ c.args.access.now.container c.args.access.now.object _ _ c.args.labels.verify.now _
+    c.enter_in.ensures.stand c.self.invariant.unused c.self.invariant.positive c.enter_in.ensures.answer c.enter_in.ensures.ok c.enter_in.ensures.err
 
 pub returns-clause-answer : goal.returns-clause-answer
 returns-clause-answer g c =
@@ -27,8 +25,7 @@ returns-clause-answer g c =
     })
     ∙ c.forget_unused_labels.ensures in
     subst (λ (s : State). FailsAtUnlessExhausted (check s c.args.access.now.thread (Enter c.args.access.now.container c.args.access.now.object
-    c.args.labels.wanted.now c.args.labels.clearance.now c.args.labels.verify.now)) c.enter_in.result) same
-    c.enter_in.ensures.answer
+    c.args.labels.wanted.now c.args.labels.clearance.now c.args.labels.verify.now)) c.enter_in.result) same c.enter_in.ensures.answer
 
 pub returns-clause-entry : goal.returns-clause-entry
 returns-clause-entry g c =

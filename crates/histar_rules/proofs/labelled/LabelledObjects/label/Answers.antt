@@ -6,6 +6,5 @@ use Rattle.histar_rules.proofs.labelled.LabelledObjects.label.Goals as goal
 
 pub unwrap-requires : goal.unwrap-requires
 unwrap-requires g c =
-    copied_some c.get-in-Some.result _ c.get-in-Some.ensures
-    ((c.self.invariant.stand.each c.args.object c.in-Some.object.now
+    copied_some _ _ c.get-in-Some.ensures ((c.self.invariant.stand.each c.args.object c.in-Some.object.now
     (sym c.get.ensures ∙ ap option_copied c.in-Some.is)).label)

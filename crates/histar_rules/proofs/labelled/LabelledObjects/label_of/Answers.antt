@@ -13,13 +13,12 @@ use Rattle.histar_rules.proofs.labelled.LabelledObjects.label_of.Goals as goal
 pub returns-in_default : goal.returns-in_default
 returns-in_default g c =
     let labels = g.S.LabelStore.labels c.self.inside.store in
-    absurd (label_revealed (state_shown labels c.self.inside.table) c.args.access.now.thread c.args.access.now.container c.args.access.now.object
+    absurd (label_revealed (state_shown labels c.self.inside.table) _ _ _
     (subst (λ (k : ObjectsModel). AreTree (objects_of k.objects)) (sym c.self.view_is) c.requires) c.in_ok-label.ensures.answer
     (no_label_shown labels c.self.inside.table c.args.access.now.object (sym c.in_ok-label.ensures.label ∙ c.in_default.is)))
 
 pub unwrap-requires : goal.unwrap-requires
 unwrap-requires g c =
-    copied_some c.get.result _ c.get.ensures
+    copied_some _ _ c.get.ensures
     (subst (λ (labels : g.row.S-Id.Denot → Option Levels). IsSome (labels c.in-Some.label)) (sym c.in_ok-label.ensures.unchanged)
-    (found_stands (g.S.LabelStore.labels c.self.inside.store) c.self.inside.table c.self.invariant.stand c.args.access.now.object
-    c.in-Some.label (sym c.in_ok-label.ensures.label ∙ c.in-Some.is)))
+    (found_stands _ c.self.inside.table c.self.invariant.stand _ _ (sym c.in_ok-label.ensures.label ∙ c.in-Some.is)))

@@ -3,7 +3,7 @@ use Rattle.histar_container.proofs.Keeping.{nothing_kept, nothing_shown}
 use Rattle.histar_rules.proofs.labelled.LabelledObjects.new.Goals as goal
 
 pub invariant_of-result : goal.invariant_of-result
-invariant_of-result g c = nothing_kept (g.S.LabelStore.labels c.args.store) c.new.result c.args.next_object c.requires c.new.ensures
+invariant_of-result g c = nothing_kept _ _ _ c.requires c.new.ensures
 
 pub returns : goal.returns
 returns g c =

@@ -6,11 +6,8 @@ use Rattle.histar_rules.proofs.labelled.LabelledObjects.own.Goals as goal
 
 pub unwrap-label-requires : goal.unwrap-label-requires
 unwrap-label-requires g c =
-    copied_some c.get.result _ c.get.ensures
-    (label_stands (g.S.LabelStore.labels c.self.inside.store) c.self.inside.table c.self.invariant.stand c.args.thread
-    (thread_of _ _) c.in-Some.ensures)
+    copied_some _ _ c.get.ensures (label_stands _ c.self.inside.table c.self.invariant.stand _ (thread_of _ _) c.in-Some.ensures)
 
 pub unwrap-clearance-requires : goal.unwrap-clearance-requires
 unwrap-clearance-requires g c =
-    copied_some c.get-2.result _ c.get-2.ensures
-    (clearance_stands (g.S.LabelStore.labels c.self.inside.store) c.self.inside.table c.self.invariant.stand c.args.thread _ _ c.in-Some.ensures)
+    copied_some _ _ c.get-2.ensures (clearance_stands _ c.self.inside.table c.self.invariant.stand _ _ _ c.in-Some.ensures)

@@ -13,6 +13,5 @@ invariant_of-self-2 g c =
     let o : Object Levels = record { label = c.args.label; kind = c.args.kind } in
     let unused : IsUnusedFrom before c.new-number.result = rw c.new-number.ensures c.self.invariant.unused in
     let kept =
-    kept_next (g.S.LabelStore.labels c.push_in.new.store) before c.push_in.new.table c.new-number.result o
-    c.in_ok-push_in.ensures.stand unused c.in_ok-push_in.ensures.ok in
+    kept_next _ before _ _ o c.in_ok-push_in.ensures.stand unused c.in_ok-push_in.ensures.ok in
     subst (λ (n : ℕ). IsKept (g.S.LabelStore.labels c.push_in.new.store) c.push_in.new.table (n + 1)) c.new-number.ensures kept

@@ -14,22 +14,15 @@ remove_tree-requires-clause-tree g c =
 
 pub invariant_of-self : goal.invariant_of-self
 invariant_of-self g c =
-    kept_removed (g.S.LabelStore.labels c.self.inside.store) c.self.inside.table c.remove_tree.new.table
-    c.args.container c.args.object c.self.inside.next_object c.remove_tree.result c.self.invariant
-    (subst (λ (k : ObjectsModel). AreTree (objects_of k.objects)) (sym c.self.view_is) c.requires.tree)
-    (subst
-    (λ (k : ObjectsModel). set.contains (links_in (objects_of k.objects c.args.container)) c.args.object ≡ true)
-    (sym c.self.view_is) c.requires.linked)
-    c.remove_tree.ensures.ok c.remove_tree.ensures.err
+    kept_removed _ _ _ _ _ _ _ c.self.invariant (subst (λ (k : ObjectsModel). AreTree (objects_of k.objects)) (sym c.self.view_is) c.requires.tree)
+    (subst (λ (k : ObjectsModel). set.contains (links_in (objects_of k.objects c.args.container)) c.args.object ≡ true)
+    (sym c.self.view_is) c.requires.linked) c.remove_tree.ensures.ok c.remove_tree.ensures.err
 
 pub returns-clause-ok : goal.returns-clause-ok
 returns-clause-ok g c =
-    removed_ok (g.S.LabelStore.labels c.self.inside.store) c.self.inside.table c.remove_tree.new.table c.args.container
-    c.args.object c.self.inside.next_object c.self.inside.next_category c.args.self.now c.self.view_is
-    c.remove_tree.result c.remove_tree.ensures.ok
+    removed_ok (g.S.LabelStore.labels c.self.inside.store) _ c.remove_tree.new.table _ _ _ _ _ c.self.view_is _ c.remove_tree.ensures.ok
 
 pub returns-clause-err : goal.returns-clause-err
 returns-clause-err g c =
-    removed_err (g.S.LabelStore.labels c.self.inside.store) c.self.inside.table c.remove_tree.new.table c.args.container
-    c.args.object c.self.inside.next_object c.self.inside.next_category c.args.self.now c.self.view_is
-    c.remove_tree.result c.remove_tree.ensures.err
+    removed_err (g.S.LabelStore.labels c.self.inside.store) _ c.remove_tree.new.table c.args.container c.args.object _ _ _ c.self.view_is
+    _ c.remove_tree.ensures.err

@@ -14,10 +14,7 @@ set_own_in-requires-clause-is_there g c =
 
 pub invariant_of-self : goal.invariant_of-self
 invariant_of-self g c =
-    kept_own (g.S.LabelStore.labels c.set_own_in.new.store)
-    (objects_of (shown (g.S.LabelStore.labels c.self.inside.store) c.self.inside.table)) c.set_own_in.new.table
-    c.self.inside.next_object c.args.thread (thread_of c.args.label c.args.clearance) c.set_own_in.result
-    c.set_own_in.ensures.stand c.self.invariant.unused c.self.invariant.positive
+    kept_own _ _ _ _ _ _ _ c.set_own_in.ensures.stand c.self.invariant.unused c.self.invariant.positive
     (ap (λ (k : ObjectsModel). is_thread (objects_of k.objects c.args.thread)) c.self.view_is
     ∙ ap (λ (s : State). is_thread (s.objects c.args.thread)) c.forget_unused_labels.ensures ∙ c.requires)
     c.set_own_in.ensures.ok c.set_own_in.ensures.err

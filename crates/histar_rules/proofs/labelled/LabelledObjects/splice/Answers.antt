@@ -10,16 +10,13 @@ use Rattle.histar_rules.proofs.labelled.LabelledObjects.splice.Goals as goal
 
 pub invariant_of-self : goal.invariant_of-self
 invariant_of-self g c =
-    kept_spliced (g.S.LabelStore.labels c.self.inside.store) c.self.inside.table c.splice_in.new.table
-    c.self.inside.next_object c.args.segment _ c.splice_in.result
-    c.splice_in.ensures.ok c.splice_in.ensures.err c.self.invariant
+    kept_spliced _ _ _ _ _ _ _ c.splice_in.ensures.ok c.splice_in.ensures.err c.self.invariant
 
 pub returns-clause-ok : goal.returns-clause-ok
 returns-clause-ok g c =
     on_ok_weaker c.splice_in.result (λ e.
     let shows =
-    spliced_shown (g.S.LabelStore.labels c.self.inside.store) c.self.inside.table c.args.segment
-    c.splice_in.new.table c.args.keep c.args.bytes.now e in
+    spliced_shown (g.S.LabelStore.labels c.self.inside.store) c.self.inside.table _ c.splice_in.new.table c.args.keep c.args.bytes.now e in
     (λ i. record { objects = shows i; next_object = c.self.inside.next_object; next_category = c.self.inside.next_category })
     ∙ ap (λ (k : ObjectsModel). with_segment_bytes (state_of k) c.args.segment
     (take c.args.keep (bytes_in (objects_of k.objects c.args.segment)) ++ c.args.bytes.now)) c.self.view_is) c.splice_in.ensures.ok

@@ -11,12 +11,12 @@ use Rattle.histar_syscall.proofs.kernel.Kernel.ask_own_label.Goals as goal
 pub returns-in_err-make_room : goal.returns-in_err-make_room
 returns-in_err-make_room g c =
     let before : KernelModel = record { kept = c.self.inside.objects; line = c.self.inside.line; trace = c.self.inside.trace.entries } in
-    unstored c.args.self.now before c.make_room.new.self.entries c.args.thread OwnLabel c.from_residual.result (λ _.
+    unstored _ before _ _ OwnLabel _ (λ _.
     (own : Levels × Levels) × AreLabelsOf c.args.self.now.kept c.args.thread own) c.self.view_is c.make_room.ensures.entries c.from_residual.ensures.1
 
 pub invariant_of-self-2 : goal.invariant_of-self-2
 invariant_of-self-2 g c =
-    sound_decided c.self.inside.objects c.self.inside.objects c.args.thread OwnLabel c.check_own_label-answer.result (λ _.
+    sound_decided c.self.inside.objects c.self.inside.objects _ OwnLabel _ (λ _.
     (own : Levels × Levels) × AreLabelsOf c.self.inside.objects c.args.thread own) c.self.invariant c.check_own_label-answer.ensures
 
 pub returns : goal.returns

@@ -9,21 +9,18 @@ use Rattle.histar_syscall.proofs.kernel.Kernel.enter.Goals as goal
 pub returns-in_err-call : goal.returns-in_err-call
 returns-in_err-call g c =
     let before : KernelModel = record { kept = c.self.inside.objects; line = c.self.inside.line; trace = c.self.inside.trace.entries } in
-    unstored c.args.self.now before c.store_enter.new.self.entries c.args.thread (Enter c.args.container c.args.gate c.args.labels.wanted.now
-    c.args.labels.clearance.now c.args.labels.verify.now) c.from_residual.result (IsEntryOf c.args.self.now.kept c.args.gate) c.self.view_is
-    c.store_enter.ensures.entries c.from_residual.ensures.1
+    unstored _ before _ _ _ _ _ c.self.view_is c.store_enter.ensures.entries c.from_residual.ensures.1
 
 pub invariant_of-self-2 : goal.invariant_of-self-2
 invariant_of-self-2 g c =
     sound_decided c.self.inside.objects c.enter-answer.new.objects c.args.thread (Enter c.args.container c.args.gate c.args.labels.wanted.now
-    c.args.labels.clearance.now c.args.labels.verify.now) c.enter-answer.result (IsEntryOf c.self.inside.objects c.args.gate) c.self.invariant (rw
+    c.args.labels.clearance.now c.args.labels.verify.now) _ (IsEntryOf c.self.inside.objects c.args.gate) c.self.invariant (rw
     c.new-access.ensures at c.enter-answer.ensures)
 
 pub returns : goal.returns
 returns g c =
     let before : KernelModel = record { kept = c.self.inside.objects; line = c.self.inside.line; trace = c.self.inside.trace.entries } in
-    recorded c.args.self.now before c.enter-answer.new.objects c.store_enter.new.self.entries c.record.new.self.entries c.args.thread (Enter
-    c.args.container c.args.gate c.args.labels.wanted.now c.args.labels.clearance.now c.args.labels.verify.now) c.enter-answer.result
+    recorded _ before _ _ c.record.new.self.entries _ _ _
     c.record.result (λ k. IsEntryOf k.kept c.args.gate) c.self.view_is c.store_enter.ensures.entries (rw c.new-access.ensures at
     c.enter-answer.ensures) c.record.ensures.outcome (c.record.ensures.entries (Enter c.args.container c.args.gate c.args.labels.wanted.now
     c.args.labels.clearance.now c.args.labels.verify.now) c.in_ok-call.ensures.stands)

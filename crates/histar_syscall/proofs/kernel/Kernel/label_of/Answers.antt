@@ -10,18 +10,16 @@ use Rattle.histar_syscall.proofs.kernel.Kernel.label_of.Goals as goal
 pub returns-in_err-make_room : goal.returns-in_err-make_room
 returns-in_err-make_room g c =
     let before : KernelModel = record { kept = c.self.inside.objects; line = c.self.inside.line; trace = c.self.inside.trace.entries } in
-    unstored c.args.self.now before c.make_room.new.self.entries c.args.thread (LabelOf c.args.container c.args.object) c.from_residual.result
-    (IsLabelOf c.args.self.now.kept c.args.object) c.self.view_is c.make_room.ensures.entries c.from_residual.ensures.1
+    unstored _ before _ _ _ _ _ c.self.view_is c.make_room.ensures.entries c.from_residual.ensures.1
 
 pub invariant_of-self-2 : goal.invariant_of-self-2
 invariant_of-self-2 g c =
-    sound_decided c.self.inside.objects c.label_of-answer.new.self c.args.thread (LabelOf c.args.container c.args.object) c.label_of-answer.result
+    sound_decided c.self.inside.objects c.label_of-answer.new.self c.args.thread (LabelOf c.args.container c.args.object) _
     (IsLabelOf c.self.inside.objects c.args.object) c.self.invariant (rw c.new-access.ensures at c.label_of-answer.ensures)
 
 pub returns : goal.returns
 returns g c =
     let before : KernelModel = record { kept = c.self.inside.objects; line = c.self.inside.line; trace = c.self.inside.trace.entries } in
-    recorded c.args.self.now before c.label_of-answer.new.self c.make_room.new.self.entries c.record.new.self.entries c.args.thread (LabelOf
-    c.args.container c.args.object) c.label_of-answer.result c.record.result (λ k. IsLabelOf k.kept c.args.object) c.self.view_is
+    recorded _ before _ _ c.record.new.self.entries _ _ _ c.record.result (λ k. IsLabelOf k.kept c.args.object) c.self.view_is
     c.make_room.ensures.entries (rw c.new-access.ensures at c.label_of-answer.ensures) c.record.ensures.outcome (c.record.ensures.entries (LabelOf
     c.args.container c.args.object) (record { kept = tt; is = refl }))

@@ -10,7 +10,7 @@ pub unwrap-requires : goal.unwrap-requires
 unwrap-requires g c =
     let own = c.in_ok-ask_own_label.ensures.1.1.0 in
     let still = own ∙ sym (ap (λ (s : State). label_there (s.objects c.args.thread)) c.in_ok-ask_own_label.ensures.0.state) in
-    copied_some c.label.result _ c.label.ensures (subst IsSome still refl)
+    copied_some _ _ c.label.ensures (subst IsSome still refl)
 
 pub returns : goal.returns
 returns g c =

@@ -9,18 +9,16 @@ use Rattle.histar_syscall.proofs.kernel.Kernel.make_container.Goals as goal
 pub returns-in_err-call : goal.returns-in_err-call
 returns-in_err-call g c =
     let before : KernelModel = record { kept = c.self.inside.objects; line = c.self.inside.line; trace = c.self.inside.trace.entries } in
-    unstored c.args.self.now before c.store_make_container.new.self.entries c.args.thread (MakeContainer c.args.container c.args.label)
-    c.from_residual.result (IsNextNumber c.args.self.now.kept) c.self.view_is c.store_make_container.ensures.entries c.from_residual.ensures.1
+    unstored _ before _ _ _ _ _ c.self.view_is c.store_make_container.ensures.entries c.from_residual.ensures.1
 
 pub invariant_of-self-2 : goal.invariant_of-self-2
 invariant_of-self-2 g c =
     sound_decided c.self.inside.objects c.make_container-answer.new.objects c.args.thread (MakeContainer c.args.container c.args.label)
-    c.make_container-answer.result (IsNextNumber c.self.inside.objects) c.self.invariant (rw c.new-maker.ensures at c.make_container-answer.ensures)
+    _ (IsNextNumber c.self.inside.objects) c.self.invariant (rw c.new-maker.ensures at c.make_container-answer.ensures)
 
 pub returns : goal.returns
 returns g c =
     let before : KernelModel = record { kept = c.self.inside.objects; line = c.self.inside.line; trace = c.self.inside.trace.entries } in
-    recorded c.args.self.now before c.make_container-answer.new.objects c.store_make_container.new.self.entries c.record.new.self.entries
-    c.args.thread (MakeContainer c.args.container c.args.label) c.make_container-answer.result c.record.result (λ k. IsNextNumber k.kept)
+    recorded _ before _ _ c.record.new.self.entries _ _ _ c.record.result (λ k. IsNextNumber k.kept)
     c.self.view_is c.store_make_container.ensures.entries (rw c.new-maker.ensures at c.make_container-answer.ensures) c.record.ensures.outcome
     (c.record.ensures.entries (MakeContainer c.args.container c.args.label) c.in_ok-call.ensures.stands)

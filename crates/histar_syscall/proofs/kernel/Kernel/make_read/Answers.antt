@@ -9,18 +9,16 @@ use Rattle.histar_syscall.proofs.kernel.Kernel.make_read.Goals as goal
 pub returns-in_err-make_room : goal.returns-in_err-make_room
 returns-in_err-make_room g c =
     let before : KernelModel = record { kept = c.self.inside.objects; line = c.self.inside.line; trace = c.self.inside.trace.entries } in
-    unstored c.args.self.now before c.make_room.new.self.entries c.args.thread (Read c.args.container c.args.segment) c.from_residual.result (λ _.
-    Unit {0}) c.self.view_is c.make_room.ensures.entries c.from_residual.ensures.1
+    unstored _ before _ _ _ _ (λ _. Unit {0}) c.self.view_is c.make_room.ensures.entries c.from_residual.ensures.1
 
 pub invariant_of-self-2 : goal.invariant_of-self-2
 invariant_of-self-2 g c =
     sound_decided c.self.inside.objects c.check_read-answer.new.objects c.args.thread (Read c.args.container c.args.segment)
-    c.check_read-answer.result (λ _. Unit {0}) c.self.invariant (rw c.new-access.ensures at c.check_read-answer.ensures)
+    _ (λ _. Unit {0}) c.self.invariant (rw c.new-access.ensures at c.check_read-answer.ensures)
 
 pub returns : goal.returns
 returns g c =
     let before : KernelModel = record { kept = c.self.inside.objects; line = c.self.inside.line; trace = c.self.inside.trace.entries } in
-    recorded c.args.self.now before c.check_read-answer.new.objects c.make_room.new.self.entries c.record.new.self.entries c.args.thread (Read
-    c.args.container c.args.segment) c.check_read-answer.result c.record.result (λ _ _. Unit {0}) c.self.view_is c.make_room.ensures.entries (rw
+    recorded _ before _ _ c.record.new.self.entries _ _ _ c.record.result (λ _ _. Unit {0}) c.self.view_is c.make_room.ensures.entries (rw
     c.new-access.ensures at c.check_read-answer.ensures) c.record.ensures.outcome (c.record.ensures.entries (Read c.args.container c.args.segment)
     (record { kept = tt; is = refl }))

@@ -9,18 +9,16 @@ use Rattle.histar_syscall.proofs.kernel.Kernel.make_thread.Goals as goal
 pub returns-in_err-call : goal.returns-in_err-call
 returns-in_err-call g c =
     let before : KernelModel = record { kept = c.self.inside.objects; line = c.self.inside.line; trace = c.self.inside.trace.entries } in
-    unstored c.args.self.now before c.store_make_thread.new.self.entries c.args.thread (MakeThread c.args.container c.args.label c.args.clearance)
-    c.from_residual.result (IsNextNumber c.args.self.now.kept) c.self.view_is c.store_make_thread.ensures.entries c.from_residual.ensures.1
+    unstored _ before _ _ _ _ _ c.self.view_is c.store_make_thread.ensures.entries c.from_residual.ensures.1
 
 pub invariant_of-self-2 : goal.invariant_of-self-2
 invariant_of-self-2 g c =
     sound_decided c.self.inside.objects c.make_thread-answer.new.objects c.args.thread (MakeThread c.args.container c.args.label c.args.clearance)
-    c.make_thread-answer.result (IsNextNumber c.self.inside.objects) c.self.invariant (rw c.new-maker.ensures at c.make_thread-answer.ensures)
+    _ (IsNextNumber c.self.inside.objects) c.self.invariant (rw c.new-maker.ensures at c.make_thread-answer.ensures)
 
 pub returns : goal.returns
 returns g c =
     let before : KernelModel = record { kept = c.self.inside.objects; line = c.self.inside.line; trace = c.self.inside.trace.entries } in
-    recorded c.args.self.now before c.make_thread-answer.new.objects c.store_make_thread.new.self.entries c.record.new.self.entries c.args.thread
-    (MakeThread c.args.container c.args.label c.args.clearance) c.make_thread-answer.result c.record.result (λ k. IsNextNumber k.kept)
+    recorded _ before _ _ c.record.new.self.entries _ _ _ c.record.result (λ k. IsNextNumber k.kept)
     c.self.view_is c.store_make_thread.ensures.entries (rw c.new-maker.ensures at c.make_thread-answer.ensures) c.record.ensures.outcome
     (c.record.ensures.entries (MakeThread c.args.container c.args.label c.args.clearance) c.in_ok-call.ensures.stands)

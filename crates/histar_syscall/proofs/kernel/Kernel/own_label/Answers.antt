@@ -10,17 +10,15 @@ use Rattle.histar_syscall.proofs.kernel.Kernel.own_label.Goals as goal
 pub returns-in_err-make_room : goal.returns-in_err-make_room
 returns-in_err-make_room g c =
     let before : KernelModel = record { kept = c.self.inside.objects; line = c.self.inside.line; trace = c.self.inside.trace.entries } in
-    unstored c.args.self.now before c.make_room.new.self.entries c.args.thread OwnLabel c.from_residual.result (AreLabelsOf c.args.self.now.kept
-    c.args.thread) c.self.view_is c.make_room.ensures.entries c.from_residual.ensures.1
+    unstored _ before _ _ OwnLabel _ _ c.self.view_is c.make_room.ensures.entries c.from_residual.ensures.1
 
 pub invariant_of-self-2 : goal.invariant_of-self-2
 invariant_of-self-2 g c =
-    sound_decided c.self.inside.objects c.self.inside.objects c.args.thread OwnLabel c.own_label-answer.result (AreLabelsOf c.self.inside.objects
-    c.args.thread) c.self.invariant c.own_label-answer.ensures
+    sound_decided c.self.inside.objects c.self.inside.objects _ OwnLabel _ _ c.self.invariant c.own_label-answer.ensures
 
 pub returns : goal.returns
 returns g c =
     let before : KernelModel = record { kept = c.self.inside.objects; line = c.self.inside.line; trace = c.self.inside.trace.entries } in
-    recorded c.args.self.now before c.self.inside.objects c.make_room.new.self.entries c.record.new.self.entries c.args.thread OwnLabel
-    c.own_label-answer.result c.record.result (λ k. AreLabelsOf k.kept c.args.thread) c.self.view_is c.make_room.ensures.entries
+    recorded _ before _ _ c.record.new.self.entries _ OwnLabel
+    _ c.record.result (λ k. AreLabelsOf k.kept c.args.thread) c.self.view_is c.make_room.ensures.entries
     c.own_label-answer.ensures c.record.ensures.outcome (c.record.ensures.entries OwnLabel (record { kept = tt; is = refl }))

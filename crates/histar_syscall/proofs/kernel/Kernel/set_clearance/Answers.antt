@@ -8,18 +8,16 @@ use Rattle.histar_syscall.proofs.kernel.Kernel.set_clearance.Goals as goal
 pub returns-in_err-call : goal.returns-in_err-call
 returns-in_err-call g c =
     let before : KernelModel = record { kept = c.self.inside.objects; line = c.self.inside.line; trace = c.self.inside.trace.entries } in
-    unstored c.args.self.now before c.store_set_clearance.new.self.entries c.args.thread (SetClearance c.args.clearance) c.from_residual.result (λ
-    _. Unit {0}) c.self.view_is c.store_set_clearance.ensures.entries c.from_residual.ensures.1
+    unstored _ before _ _ _ _ (λ _. Unit {0}) c.self.view_is c.store_set_clearance.ensures.entries c.from_residual.ensures.1
 
 pub invariant_of-self-2 : goal.invariant_of-self-2
 invariant_of-self-2 g c =
     sound_decided c.self.inside.objects c.set_clearance-answer.new.objects c.args.thread (SetClearance c.args.clearance)
-    c.set_clearance-answer.result (λ _. Unit {0}) c.self.invariant c.set_clearance-answer.ensures
+    _ (λ _. Unit {0}) c.self.invariant c.set_clearance-answer.ensures
 
 pub returns : goal.returns
 returns g c =
     let before : KernelModel = record { kept = c.self.inside.objects; line = c.self.inside.line; trace = c.self.inside.trace.entries } in
-    recorded c.args.self.now before c.set_clearance-answer.new.objects c.store_set_clearance.new.self.entries c.record.new.self.entries
-    c.args.thread (SetClearance c.args.clearance) c.set_clearance-answer.result c.record.result (λ _ _. Unit {0}) c.self.view_is
+    recorded _ before _ _ c.record.new.self.entries _ _ _ c.record.result (λ _ _. Unit {0}) c.self.view_is
     c.store_set_clearance.ensures.entries c.set_clearance-answer.ensures c.record.ensures.outcome (c.record.ensures.entries (SetClearance
     c.args.clearance) c.in_ok-call.ensures.stands)
