@@ -1,16 +1,23 @@
 -- How the code of `exit` runs its program: what is left of it, from one part to the next.
-use Rattle.std.specs.Prelude.{ℕ}
+use Rattle.std.specs.Prelude.{◌≡◌, ℕ, Result, Ok, Err}
+use Rattle.std.proofs.Common.{refl, ap}
+use Rattle.std.specs.Result.{IsErrAnd}
 use Rattle.histar_flat.specs.declared.replies.Reply.TheVariants.{Done}
 use Rattle.histar_rules.specs.declared.raw.RawCall.TheVariants.{Unlink}
 use Rattle.histar_syscall.specs.KernelModel.{KernelModel}
-use Rattle.histar_layout.specs.Status.{ProcessStatus}
+use Rattle.histar_layout.specs.Status.{ProcessStatus, once_exited}
+use Rattle.histar_layout.specs.declared.status.StatusHead.{StatusHead}
+use Rattle.histar_programs.specs.declared.call_error.CallError.{CallError}
 use Rattle.histar_programs.specs.declared.roots.Home.{Home}
 use Rattle.histar_programs.specs.Parts.{ask}
-use Rattle.histar_programs.specs.Programs.{Part, Program}
+use Rattle.histar_programs.specs.Programs.{Part, Program, RunsPart}
 use Rattle.histar_programs.specs.Programs.Program.{Answers}
-use Rattle.histar_programs.proofs.Exits.{Leaves}
+use Rattle.histar_programs.proofs.Exits.{Leaves, ends_in_so, further_in, whole_part}
 use Rattle.histar_process.specs.ExitCall.{end_process, exit_program}
-use Rattle.histar_process.specs.Parts.{read_status}
+use Rattle.histar_process.specs.Parts.{read_status, write_status}
+use Rattle.histar_process.specs.Reading.{IsSegment}
+use Rattle.histar_process.specs.declared.find.Segment.{Segment}
+use Rattle.histar_process.proofs.Calling.{unlinked_so}
 
 module _ (me : Home) (number : ℕ) where
   -- what comes after the segment is written
@@ -25,3 +32,21 @@ module _ (me : Home) (number : ℕ) where
   pub begun : (t : ℕ) (old : KernelModel) → Leaves t (exit_program me number) old (read_status me after_status) old
   unfolding exit_program
   begun t old = record { leads = λ new result on. on }
+
+module _ (t : ℕ) (me : Home) (status : ProcessStatus) (number : ℕ) (old new : KernelModel) where
+  -- the segment isn't written, and with it the process isn't ended
+  pub not_written : (call_error : CallError) (result : Result (Unit {0}) CallError) → IsErrAnd result (λ e. e ≡ call_error)
+      → RunsPart (write_status me (once_exited number status)) old new t (Err call_error) → RunsPart (end_process me status number) old new t result
+  not_written =
+      ends_in_so (write_status me (once_exited number status)) (after_write me number status)
+      (whole_part t (end_process me status number) old) new
+
+  -- the segment is written, and the internal container that it shows is all that is left to unlink
+  pub unlinked : (segment : Segment) → IsSegment segment status → (mid : KernelModel)
+      → RunsPart (write_status me (once_exited number status)) old mid t (Ok tt) → (result : Result (Unit {0}) CallError)
+      → RunsPart (ask (Unlink me.container segment.head.internal)) mid new t result → RunsPart (end_process me status number) old new t result
+  unlinked segment shown mid written result unlinks =
+      (further_in (write_status me (once_exited number status)) (after_write me number status)
+      (whole_part t (end_process me status number) old) mid tt written).leads new result
+      (unlinked_so t mid new me.container me.container segment.head.internal status.internal refl (ap (λ (h : StatusHead). h.internal) shown.head)
+      result unlinks)
