@@ -5,7 +5,7 @@ use Rattle.histar_label.specs.Levels.{Levels}
 use Rattle.histar_rules.specs.declared.raw.RawCall.{RawCall}
 use Rattle.histar_rules.specs.declared.raw.RawCall.TheVariants.{MakeCategory, MakeSegment, MakeContainer, MakeThread, Write}
 use Rattle.histar_syscall.specs.KernelModel.{KernelModel}
-use Rattle.histar_layout.specs.Status.{ProcessStatus, status_bytes, with_child_listed}
+use Rattle.histar_layout.specs.Status.{ProcessStatus, started, status_bytes, with_child_listed}
 use Rattle.histar_layout.specs.Labelling.{guarded_by}
 use Rattle.histar_programs.specs.Parts.{ask}
 use Rattle.histar_programs.specs.Programs.{Part, RunsPart}
@@ -63,6 +63,12 @@ module _ (t : ℕ) (old new : KernelModel) where
 -- memory ran out before a process segment was written
 pub before_write : (t : ℕ) (home : Home) (status : ProcessStatus) (k : KernelModel) → RunsPart (write_status home status) k k t (Err Stopped)
 before_write t home status k = before_ask t (Write home.container home.segment 0 (status_bytes status)) k
+
+-- memory ran out before a process segment was made
+pub before_segment : (t : ℕ) (body : Body) (jobs : List ℕ) (write : ℕ) (k : KernelModel)
+    → RunsPart (make_segment body.container jobs write body.internal body.thread) k k t (Err Stopped)
+before_segment t body jobs write k =
+    before_ask t (MakeSegment body.container (guarded_by jobs (write ∷ [])) (status_bytes (started body.internal body.thread))) k
 
 -- ---- the two categories
 
