@@ -1,5 +1,5 @@
 -- How the code of `wrap` runs its program, from one part to the next.
-use Rattle.std.proofs.Common.{◌≡◌, ℕ, ◌+◌, List, ◌∷◌, None, Some, Result, Ok, Err, length, inl, sym, ap, ◌∙◌, subst}
+use Rattle.std.proofs.Common.{◌≡◌, ℕ, ◌+◌, List, ◌∷◌, None, Some, Result, Ok, Err, length, inl, refl, sym, ap, ◌∙◌, subst}
 use Rattle.std.specs.Prelude.{false}
 use Rattle.std.specs.Result.{IsErrAnd}
 use Rattle.histar_flat.specs.Accounts.{Accounts}
@@ -43,7 +43,7 @@ module _ (t : ℕ) (own : Levels × Levels) (label : Levels) (room : Room) (k : 
 
   -- memory ran out before a scratch directory was made
   pub before_scratch : RunsPart (make_scratch own label room) k k t (Err HasStopped)
-  before_scratch = without_container t own label room k k HasStopped before_container
+  before_scratch = without_container t own label room k k HasStopped (Err HasStopped) refl before_container
 
 module _ (accounts : Accounts) (own : Levels) (job user : ℕ) (jobs : List ℕ)
     (is : IsUserOf own (length accounts.users) user) (jobs_are : jobs ≡ jobs_with own job) where
