@@ -14,7 +14,7 @@ use Rattle.histar_programs.specs.declared.roots.Place.{Place}
 use Rattle.histar_programs.specs.declared.find.Room.{Room}
 use Rattle.histar_programs.specs.Parts.{ask, write_entries}
 use Rattle.histar_programs.specs.Programs.{Part, RunsPart}
-use Rattle.histar_programs.proofs.Running.{before_ask, part_fails, then_part}
+use Rattle.histar_programs.proofs.Running.{before_ask}
 use Rattle.histar_programs.proofs.Exits.{LeavesPart, ends_in_so, further_in}
 use Rattle.histar_wrap.specs.Scratch.{ask_or_give_back, hold_job, make_scratch}
 use Rattle.histar_wrap.specs.declared.scratch.Wrapper.{Wrapper}
@@ -70,25 +70,26 @@ module _ (t : ℕ) (own : Levels × Levels) (label : Levels) (room : Room) (old 
         → LeavesPart (Unit {0}) t (make_scratch own label room) old (after_listing room container listing) late
     with_listing = further_in (ask (MakeSegment container label [])) (after_listing room container) with_container
 
-module _ (t : ℕ) (own : Levels × Levels) (job : ℕ) (old new : KernelModel) where
+module _ (t : ℕ) (own : Levels × Levels) (job : ℕ) (old : KernelModel) where
   -- what comes after the label of the thread that holds a job
   abbrev after_label : Unit {0} → Part (Unit {0})
   after_label done = ask (SetClearance (with_level own.1 job L3))
 
-  -- the label was not given
-  pub hold_fails : (call_error : CallError)
-      → RunsPart (ask (SetLabel (with_level own.0 job Star))) old new t (Err call_error)
-      → RunsPart (hold_job own job) old new t (Err call_error)
+  -- at first the whole part is left
+  hold_begun : LeavesPart (Unit {0}) t (hold_job own job) old
+      (λ rest. ask (SetLabel (with_level own.0 job Star)) (λ done. after_label done rest)) old
   unfolding hold_job
-  hold_fails call_error first = part_fails t (ask (SetLabel (with_level own.0 job Star))) old new after_label call_error first
+  hold_begun = record { leads = λ new result on. on }
 
-  -- the label was given
-  pub hold_then : (mid : KernelModel) → RunsPart (ask (SetLabel (with_level own.0 job Star))) old mid t (Ok tt)
-      → (result : Result (Unit {0}) CallError)
-      → RunsPart (ask (SetClearance (with_level own.1 job L3))) mid new t result
-      → RunsPart (hold_job own job) old new t result
-  unfolding hold_job
-  hold_then mid first result second = then_part t (ask (SetLabel (with_level own.0 job Star))) old new after_label mid tt first result second
+  -- the label was not given
+  pub without_label : (new : KernelModel) (call_error : CallError) (result : Result (Unit {0}) CallError) → IsErrAnd result (λ e. e ≡ call_error)
+      → RunsPart (ask (SetLabel (with_level own.0 job Star))) old new t (Err call_error) → RunsPart (hold_job own job) old new t result
+  without_label = ends_in_so (ask (SetLabel (with_level own.0 job Star))) after_label hold_begun
+
+  -- the label was given, and the clearance is still to be given
+  pub with_label : (mid : KernelModel) → RunsPart (ask (SetLabel (with_level own.0 job Star))) old mid t (Ok tt)
+      → LeavesPart (Unit {0}) t (hold_job own job) old (ask (SetClearance (with_level own.1 job L3))) mid
+  with_label mid = further_in (ask (SetLabel (with_level own.0 job Star))) after_label hold_begun mid tt
 
 -- a raw call with the expected label
 module _ (t : ℕ) (old new : KernelModel) (label due : Levels) (same : label ≡ due) (result : Result (Unit {0}) CallError) where
