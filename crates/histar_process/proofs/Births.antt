@@ -228,7 +228,7 @@ module _ (t : ℕ) (parent : Home) (status : ProcessStatus) (newborn : Newborn) 
 
 module _ (t : ℕ) (parent : Home) (status : ProcessStatus) (kin : Kin) (old : KernelModel) where
   -- at first the whole birth is left
-  pub begun : LeavesPart (Unit {0}) t (birth parent status kin) old (λ rest. make_categories (λ own. make_objects parent status kin own rest)) old
+  begun : LeavesPart (Unit {0}) t (birth parent status kin) old (λ rest. make_categories (λ own. make_objects parent status kin own rest)) old
   unfolding birth make_categories make_containers
   begun = record { leads = λ new result on. on }
 
@@ -236,3 +236,14 @@ module _ (t : ℕ) (parent : Home) (status : ProcessStatus) (kin : Kin) (old : K
   pub without_categories : (new : KernelModel) (call_error : CallError) → RunsPart make_categories old new t (Err call_error)
       → RunsPart (birth parent status kin) old new t (Err call_error)
   without_categories new call_error first = ends_in make_categories (make_objects parent status kin) begun new call_error first
+
+  -- the two categories aren't made, and `?` passed the error on
+  pub without_categories_so : (new : KernelModel) (call_error : CallError) (result : Result (Unit {0}) CallError)
+      → IsErrAnd result (λ e. e ≡ call_error) → RunsPart make_categories old new t (Err call_error)
+      → RunsPart (birth parent status kin) old new t result
+  without_categories_so = ends_in_so make_categories (make_objects parent status kin) begun
+
+  -- the two categories are made, and the objects are still to be made
+  pub with_categories : (mid : KernelModel) (own : ℕ × ℕ) → RunsPart make_categories old mid t (Ok own)
+      → LeavesPart (Unit {0}) t (birth parent status kin) old (make_objects parent status kin own) mid
+  with_categories = further_in make_categories (make_objects parent status kin) begun
