@@ -1,8 +1,6 @@
 -- Proves the goals of `bear_child` of src/spawn.rt that the search leaves open.
 use Rattle.std.proofs.Common.{◌∙◌}
 use Rattle.histar_programs.proofs.Running.{fails_so}
-use Rattle.histar_programs.specs.declared.call_error.CallError.TheVariants.{Stopped}
-use Rattle.histar_process.specs.Birth.{birth}
 use Rattle.histar_programs.specs.Kin.{kin_of}
 use Rattle.histar_process.proofs.Calling.{before_birth, born_so, kin_is}
 use Rattle.histar_process.proofs.spawn.bear_child.Goals as goal
