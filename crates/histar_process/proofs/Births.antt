@@ -17,7 +17,7 @@ use Rattle.histar_process.specs.Birth.{birth}
 use Rattle.histar_process.specs.Births.{kin_of_newborn, make_body, make_categories, make_containers, make_objects, make_segment, make_thread}
 use Rattle.histar_process.specs.declared.birth.Body.{Body}
 use Rattle.histar_process.specs.declared.birth.Newborn.{Newborn}
-use Rattle.histar_programs.proofs.Exits.{LeavesPart, ends_in, ends_in_so, further_in, whole_part}
+use Rattle.histar_programs.proofs.Exits.{LeavesPart, ends_in_so, further_in, whole_part}
 use Rattle.histar_programs.specs.Kin.{Kin}
 use Rattle.histar_process.specs.Parts.{write_status}
 
@@ -154,9 +154,13 @@ module _ (t : ℕ) (parent : ℕ) (newborn : Newborn) (old : KernelModel) where
   abbrev child : ℕ × ℕ → Part ℕ
   child made = make_thread made.1 newborn.owned.now newborn.jobs.now newborn.read newborn.write
 
+  -- what these make
+  abbrev body_of : ℕ × ℕ → ℕ → Body
+  body_of made thread = record { container = made.0; internal = made.1; thread = thread }
+
   -- what comes after the thread
   abbrev after_thread : ℕ × ℕ → ℕ → Part Body
-  after_thread made thread rest = rest (record { container = made.0; internal = made.1; thread = thread })
+  after_thread made thread rest = rest (body_of made thread)
 
   -- what comes after the two containers
   abbrev after_containers : ℕ × ℕ → Part Body
@@ -172,18 +176,20 @@ module _ (t : ℕ) (parent : ℕ) (newborn : Newborn) (old : KernelModel) where
   without_containers = ends_in_so both after_containers (whole_part t its_body old)
 
   module _ (mid : KernelModel) (made : ℕ × ℕ) (first : RunsPart both old mid t (Ok made)) (new : KernelModel) where
+    -- the two containers are made
+    with_containers : LeavesPart Body t its_body old (after_containers made) mid
+    with_containers = further_in both after_containers (whole_part t its_body old) mid made first
+
     -- the thread isn't made
     pub without_thread : (call_error : CallError) (result : Result Body CallError) → IsErrAnd result (λ e. e ≡ call_error)
         → RunsPart (child made) mid new t (Err call_error) → RunsPart its_body old new t result
-    without_thread = ends_in_so (child made) (after_thread made) (further_in both after_containers (whole_part t its_body old) mid made first) new
+    without_thread = ends_in_so (child made) (after_thread made) with_containers new
 
     -- the containers and the thread are made
-    pub with_thread : (thread : ℕ) → RunsPart (child made) mid new t (Ok thread)
-        → RunsPart its_body old new t (Ok (record { container = made.0; internal = made.1; thread = thread }))
+    pub with_thread : (thread : ℕ) → RunsPart (child made) mid new t (Ok thread) → RunsPart its_body old new t (Ok (body_of made thread))
     with_thread thread second =
-        (further_in (child made) (after_thread made) (further_in both after_containers (whole_part t its_body old) mid made first)
-        new thread second).leads new (Ok (record { container = made.0; internal = made.1; thread = thread }))
-        (hands t new (record { container = made.0; internal = made.1; thread = thread }))
+        (further_in (child made) (after_thread made) with_containers new thread second).leads new (Ok (body_of made thread))
+        (hands t new (body_of made thread))
 
 module _ (t : ℕ) (parent : Home) (status : ProcessStatus) (newborn : Newborn) (old : KernelModel) where
   -- the part that makes the process segment
@@ -233,15 +239,10 @@ module _ (t : ℕ) (parent : Home) (status : ProcessStatus) (kin : Kin) (old : K
   begun = record { leads = λ new result on. on }
 
   -- the two categories aren't made
-  pub without_categories : (new : KernelModel) (call_error : CallError) → RunsPart make_categories old new t (Err call_error)
-      → RunsPart (birth parent status kin) old new t (Err call_error)
-  without_categories new call_error first = ends_in make_categories (make_objects parent status kin) begun new call_error first
-
-  -- the two categories aren't made, and `?` passed the error on
-  pub without_categories_so : (new : KernelModel) (call_error : CallError) (result : Result (Unit {0}) CallError)
+  pub without_categories : (new : KernelModel) (call_error : CallError) (result : Result (Unit {0}) CallError)
       → IsErrAnd result (λ e. e ≡ call_error) → RunsPart make_categories old new t (Err call_error)
       → RunsPart (birth parent status kin) old new t result
-  without_categories_so = ends_in_so make_categories (make_objects parent status kin) begun
+  without_categories = ends_in_so make_categories (make_objects parent status kin) begun
 
   -- the two categories are made, and the objects are still to be made
   pub with_categories : (mid : KernelModel) (own : ℕ × ℕ) → RunsPart make_categories old mid t (Ok own)

@@ -24,15 +24,15 @@ use Rattle.histar_process.proofs.Calling.{unlinked_so}
 
 module _ (me : Home) (number : ℕ) where
   -- what comes after the segment is written
-  abbrev pub after_write : ProcessStatus → Unit {0} → Part (Unit {0})
+  abbrev after_write : ProcessStatus → Unit {0} → Part (Unit {0})
   after_write status done = ask (Unlink me.container status.internal)
 
   -- what is still to do once the segment was read
-  abbrev pub after_status : ProcessStatus → Program
+  abbrev after_status : ProcessStatus → Program
   after_status status = end_process me status number (λ (done : Unit {0}). Answers Done)
 
   -- at first the whole program is left
-  pub begun : (t : ℕ) (old : KernelModel) → Leaves t (exit_program me number) old (read_status me after_status) old
+  begun : (t : ℕ) (old : KernelModel) → Leaves t (exit_program me number) old (read_status me after_status) old
   unfolding exit_program
   begun t old = record { leads = λ new result on. on }
 
