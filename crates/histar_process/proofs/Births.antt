@@ -1,20 +1,23 @@
 -- How the code that makes the objects of a child runs its parts.
 use Rattle.std.proofs.Common.{◌≡◌, ℕ, List, [], ◌∷◌, Result, Ok, Err, ap, subst}
+use Rattle.std.specs.Result.{IsErrAnd}
 use Rattle.histar_label.specs.Levels.{Levels}
 use Rattle.histar_rules.specs.declared.raw.RawCall.{RawCall}
 use Rattle.histar_rules.specs.declared.raw.RawCall.TheVariants.{MakeCategory, MakeSegment, MakeContainer, MakeThread, Write}
 use Rattle.histar_syscall.specs.KernelModel.{KernelModel}
-use Rattle.histar_layout.specs.Status.{ProcessStatus, with_child_listed}
+use Rattle.histar_layout.specs.Status.{ProcessStatus, started, status_bytes, with_child_listed}
 use Rattle.histar_layout.specs.Labelling.{guarded_by}
 use Rattle.histar_programs.specs.Parts.{ask}
 use Rattle.histar_programs.specs.Programs.{Part, RunsPart}
 use Rattle.histar_programs.specs.declared.call_error.CallError.{CallError}
+use Rattle.histar_programs.specs.declared.call_error.CallError.TheVariants.{Stopped}
 use Rattle.histar_programs.specs.declared.roots.Home.{Home}
-use Rattle.histar_programs.proofs.Running.{hands, then_part, part_fails}
+use Rattle.histar_programs.proofs.Running.{before_ask, hands, then_part, part_fails}
 use Rattle.histar_process.specs.Birth.{birth}
-use Rattle.histar_process.specs.Births.{make_categories, make_containers, make_objects, make_segment, make_thread}
+use Rattle.histar_process.specs.Births.{kin_of_newborn, make_body, make_categories, make_containers, make_objects, make_segment, make_thread}
 use Rattle.histar_process.specs.declared.birth.Body.{Body}
-use Rattle.histar_programs.proofs.Exits.{LeavesPart, ends_in}
+use Rattle.histar_process.specs.declared.birth.Newborn.{Newborn}
+use Rattle.histar_programs.proofs.Exits.{LeavesPart, ends_in_so, further_in, whole_part}
 use Rattle.histar_programs.specs.Kin.{Kin}
 use Rattle.histar_process.specs.Parts.{write_status}
 
@@ -56,6 +59,16 @@ module _ (t : ℕ) (old new : KernelModel) where
   written_so home bytes due is result runs =
       subst (λ (bs : List ℕ). RunsPart {A = Unit {0}} (ask (Write home.container home.segment 0 bs)) old new t result)
       is runs
+
+-- memory ran out before a process segment was written
+pub before_write : (t : ℕ) (home : Home) (status : ProcessStatus) (k : KernelModel) → RunsPart (write_status home status) k k t (Err Stopped)
+before_write t home status k = before_ask t (Write home.container home.segment 0 (status_bytes status)) k
+
+-- memory ran out before a process segment was made
+pub before_segment : (t : ℕ) (body : Body) (jobs : List ℕ) (write : ℕ) (k : KernelModel)
+    → RunsPart (make_segment body.container jobs write body.internal body.thread) k k t (Err Stopped)
+before_segment t body jobs write k =
+    before_ask t (MakeSegment body.container (guarded_by jobs (write ∷ [])) (status_bytes (started body.internal body.thread))) k
 
 -- ---- the two categories
 
@@ -128,28 +141,110 @@ module _ (t : ℕ) (old new : KernelModel) (parent : ℕ) (jobs : List ℕ) (rea
 
 -- ---- the whole birth
 
-module _ (kin : Kin) (own : ℕ × ℕ) where
+-- the two categories of a child that is being born
+abbrev own_of : Newborn → ℕ × ℕ
+own_of newborn = (newborn.read, newborn.write)
+
+module _ (t : ℕ) (parent : ℕ) (newborn : Newborn) (old : KernelModel) where
+  -- the part that makes the two containers
+  abbrev both : Part (ℕ × ℕ)
+  both = make_containers parent newborn.jobs.now newborn.read newborn.write
+
+  -- the part that makes the thread
+  abbrev child : ℕ × ℕ → Part ℕ
+  child made = make_thread made.1 newborn.owned.now newborn.jobs.now newborn.read newborn.write
+
+  -- what these make
+  abbrev body_of : ℕ × ℕ → ℕ → Body
+  body_of made thread = record { container = made.0; internal = made.1; thread = thread }
+
+  -- what comes after the thread
+  abbrev after_thread : ℕ × ℕ → ℕ → Part Body
+  after_thread made thread rest = rest (body_of made thread)
+
   -- what comes after the two containers
-  abbrev pub after_containers : ℕ × ℕ → Part Body
-  after_containers made rest =
-      make_thread made.1 kin.owned kin.jobs own.0 own.1 (λ thread. rest (record { container = made.0; internal = made.1; thread = thread }))
+  abbrev after_containers : ℕ × ℕ → Part Body
+  after_containers made rest = child made (λ thread. after_thread made thread rest)
 
-  module _ (parent : Home) (status : ProcessStatus) where
-    -- what comes after the process segment
-    abbrev pub after_segment : Body → ℕ → Part (Unit {0})
-    after_segment body segment = write_status parent (with_child_listed body.container segment status)
+  -- the two containers and the thread
+  abbrev its_body : Part Body
+  its_body = make_body parent (kin_of_newborn newborn) (own_of newborn)
 
-    -- what comes after the containers and the thread
-    abbrev pub after_body : Body → Part (Unit {0})
-    after_body body rest = make_segment body.container kin.jobs own.1 body.internal body.thread (λ segment. after_segment body segment rest)
+  -- the two containers aren't made
+  pub without_containers : (new : KernelModel) (call_error : CallError) (result : Result Body CallError) → IsErrAnd result (λ e. e ≡ call_error)
+      → RunsPart both old new t (Err call_error) → RunsPart its_body old new t result
+  without_containers = ends_in_so both after_containers (whole_part t its_body old)
+
+  module _ (mid : KernelModel) (made : ℕ × ℕ) (first : RunsPart both old mid t (Ok made)) (new : KernelModel) where
+    -- the two containers are made
+    with_containers : LeavesPart Body t its_body old (after_containers made) mid
+    with_containers = further_in both after_containers (whole_part t its_body old) mid made first
+
+    -- the thread isn't made
+    pub without_thread : (call_error : CallError) (result : Result Body CallError) → IsErrAnd result (λ e. e ≡ call_error)
+        → RunsPart (child made) mid new t (Err call_error) → RunsPart its_body old new t result
+    without_thread = ends_in_so (child made) (after_thread made) with_containers new
+
+    -- the containers and the thread are made
+    pub with_thread : (thread : ℕ) → RunsPart (child made) mid new t (Ok thread) → RunsPart its_body old new t (Ok (body_of made thread))
+    with_thread thread second =
+        (further_in (child made) (after_thread made) with_containers new thread second).leads new (Ok (body_of made thread))
+        (hands t new (body_of made thread))
+
+module _ (t : ℕ) (parent : Home) (status : ProcessStatus) (newborn : Newborn) (old : KernelModel) where
+  -- the part that makes the process segment
+  abbrev segment_of : Body → Part ℕ
+  segment_of body = make_segment body.container newborn.jobs.now newborn.write body.internal body.thread
+
+  -- what comes after the process segment
+  abbrev after_segment : Body → ℕ → Part (Unit {0})
+  after_segment body segment = write_status parent (with_child_listed body.container segment status)
+
+  -- what comes after the containers and the thread
+  abbrev after_body : Body → Part (Unit {0})
+  after_body body rest = segment_of body (λ segment. after_segment body segment rest)
+
+  -- all objects
+  abbrev its_objects : Part (Unit {0})
+  its_objects = make_objects parent status (kin_of_newborn newborn) (own_of newborn)
+
+  -- the containers and the thread
+  abbrev body_there : Part Body
+  body_there = make_body parent.container (kin_of_newborn newborn) (own_of newborn)
+
+  -- the containers and the thread aren't made
+  pub without_body : (new : KernelModel) (call_error : CallError) (result : Result (Unit {0}) CallError) → IsErrAnd result (λ e. e ≡ call_error)
+      → RunsPart body_there old new t (Err call_error) → RunsPart its_objects old new t result
+  without_body = ends_in_so body_there after_body (whole_part t its_objects old)
+
+  module _ (mid : KernelModel) (body : Body) (first : RunsPart body_there old mid t (Ok body)) where
+    -- these are made
+    with_body : LeavesPart (Unit {0}) t its_objects old (after_body body) mid
+    with_body = further_in body_there after_body (whole_part t its_objects old) mid body first
+
+    -- the process segment isn't made
+    pub without_segment : (new : KernelModel) (call_error : CallError) (result : Result (Unit {0}) CallError) → IsErrAnd result (λ e. e ≡ call_error)
+        → RunsPart (segment_of body) mid new t (Err call_error) → RunsPart its_objects old new t result
+    without_segment = ends_in_so (segment_of body) (after_segment body) with_body
+
+    -- the process segment is made, and the child is still to be added to the segment of its parent
+    pub with_segment : (later : KernelModel) (segment : ℕ) → RunsPart (segment_of body) mid later t (Ok segment)
+        → LeavesPart (Unit {0}) t its_objects old (after_segment body segment) later
+    with_segment = further_in (segment_of body) (after_segment body) with_body
 
 module _ (t : ℕ) (parent : Home) (status : ProcessStatus) (kin : Kin) (old : KernelModel) where
   -- at first the whole birth is left
-  pub begun : LeavesPart (Unit {0}) t (birth parent status kin) old (λ rest. make_categories (λ own. make_objects parent status kin own rest)) old
+  begun : LeavesPart (Unit {0}) t (birth parent status kin) old (λ rest. make_categories (λ own. make_objects parent status kin own rest)) old
   unfolding birth make_categories make_containers
   begun = record { leads = λ new result on. on }
 
   -- the two categories aren't made
-  pub without_categories : (new : KernelModel) (call_error : CallError) → RunsPart make_categories old new t (Err call_error)
-      → RunsPart (birth parent status kin) old new t (Err call_error)
-  without_categories new call_error first = ends_in make_categories (make_objects parent status kin) begun new call_error first
+  pub without_categories : (new : KernelModel) (call_error : CallError) (result : Result (Unit {0}) CallError)
+      → IsErrAnd result (λ e. e ≡ call_error) → RunsPart make_categories old new t (Err call_error)
+      → RunsPart (birth parent status kin) old new t result
+  without_categories = ends_in_so make_categories (make_objects parent status kin) begun
+
+  -- the two categories are made, and the objects are still to be made
+  pub with_categories : (mid : KernelModel) (own : ℕ × ℕ) → RunsPart make_categories old mid t (Ok own)
+      → LeavesPart (Unit {0}) t (birth parent status kin) old (make_objects parent status kin own) mid
+  with_categories = further_in make_categories (make_objects parent status kin) begun

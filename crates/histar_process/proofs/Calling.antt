@@ -56,7 +56,8 @@ module _ (t : ℕ) (old new : KernelModel) where
 -- memory ran out before a birth
 pub before_birth : (t : ℕ) (parent : Home) (status : ProcessStatus) (kin : Kin) (k : KernelModel)
     → RunsPart (birth parent status kin) k k t (Err Stopped)
-before_birth t parent status kin k = without_categories t parent status kin k k Stopped (no_read t k k Stopped (before_ask t MakeCategory k))
+before_birth t parent status kin k =
+    without_categories t parent status kin k k Stopped (Err Stopped) refl (no_read t k k Stopped (before_ask t MakeCategory k))
 
 -- the kin that the code computed are those that the label determines
 pub kin_is : (own : Levels) (accounts : Accounts) (user : ℕ) (in_job : Bool) (owned jobs : List ℕ)

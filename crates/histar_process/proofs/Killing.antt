@@ -1,71 +1,118 @@
 -- How the code that kills a child runs its program, from one part to the next.
-use Rattle.std.proofs.Common.{◌≡◌, ℕ, Result, Ok, Err}
+use Rattle.std.proofs.Common.{◌≡◌, ℕ, List, ◌∷◌, Result, Ok, Err, ap, ◌∙◌}
+use Rattle.std.specs.Result.{IsErrAnd}
+use Rattle.histar_flat.specs.Words.{ProcName}
 use Rattle.histar_flat.specs.declared.replies.Errno.{Errno}
+use Rattle.histar_flat.specs.declared.replies.Reply.{Reply}
+use Rattle.histar_flat.specs.declared.replies.Reply.TheVariants.{Done}
 use Rattle.histar_rules.specs.declared.raw.RawCall.TheVariants.{Unlink}
 use Rattle.histar_syscall.specs.KernelModel.{KernelModel}
-use Rattle.histar_layout.specs.Status.{ProcessStatus, child_at, without_child}
+use Rattle.histar_layout.specs.Status.{ProcessStatus, child_at, status_in, without_child}
 use Rattle.histar_layout.specs.declared.status.Child.{Child}
 use Rattle.histar_layout.specs.declared.status.StatusHead.{StatusHead}
 use Rattle.histar_programs.specs.Parts.{ask, given}
-use Rattle.histar_programs.specs.Programs.{Part, RunsPart}
+use Rattle.histar_programs.specs.Programs.{Part, Program, Runs, RunsPart}
+use Rattle.histar_programs.specs.Programs.Program.{Answers}
+use Rattle.histar_programs.specs.Refusals.{settled}
 use Rattle.histar_programs.specs.declared.call_error.CallError.{CallError}
 use Rattle.histar_programs.specs.declared.call_error.CallError.TheVariants.{Refused}
 use Rattle.histar_programs.specs.declared.roots.Home.{Home}
-use Rattle.histar_programs.proofs.Running.{part_fails, then_part}
-use Rattle.histar_process.specs.KillCall.{kill_known}
-use Rattle.histar_process.specs.Parts.{home_of, must_be_there, write_status}
-use Rattle.histar_process.specs.Reading.{read_head}
+use Rattle.histar_programs.specs.declared.roots.Roots.{Roots}
+use Rattle.histar_programs.proofs.Exits.{Leaves, LeavesPart, ends_in_so, ends_so, further, further_in}
+use Rattle.histar_programs.proofs.Running.{says}
+use Rattle.histar_process.specs.KillCall.{KillsKnown, kill_known, kill_program}
+use Rattle.histar_process.specs.Parts.{find_home, home_of, must_be_there, read_status, write_status}
+use Rattle.histar_process.specs.Reading.{RunsReading, read_head}
+use Rattle.histar_process.specs.declared.find.Segment.{Segment}
 use Rattle.histar_process.proofs.Segments.{decided, decided_not}
 
-module _ (t : ℕ) (home : Home) (status : ProcessStatus) (n : ℕ) (old new : KernelModel) where
-  abbrev pub there : Result Child Errno
+module _ (home : Home) (status : ProcessStatus) (n : ℕ) where
+  -- the child that is to be killed, or that it isn't there
+  abbrev there : Result Child Errno
   there = must_be_there (child_at status.children n)
 
   -- what comes after the container is unlinked
-  abbrev after_unlink : Unit {0} → Part (Unit {0})
+  abbrev pub after_unlink : Unit {0} → Part (Unit {0})
   after_unlink done = write_status home (without_child n status)
 
   -- what comes after the child's own segment was read
-  abbrev after_head : Child → StatusHead → Part (Unit {0})
+  abbrev pub after_head : Child → StatusHead → Part (Unit {0})
   after_head child head rest = ask (Unlink home.container child.container) (λ done. after_unlink done rest)
 
   -- what comes after the child was found
   abbrev after_child : Child → Part (Unit {0})
   after_child child rest = read_head (home_of child) (λ head. after_head child head rest)
 
-  -- no child has the number
-  pub no_child : (errno : Errno) → Err errno ≡ there → RunsPart (kill_known home status n) old old t (Err (Refused errno))
-  unfolding read_head
-  no_child errno is = part_fails t (given there) old old after_child (Refused errno) (decided_not t old there errno is)
-
-  module _ (child : Child) (is : Ok child ≡ there) where
-    with_child : (result : Result (Unit {0}) CallError) → RunsPart (after_child child) old new t result
-        → RunsPart (kill_known home status n) old new t result
+  module _ (t : ℕ) (old : KernelModel) where
+    -- at first the whole part is left
+    begun : LeavesPart (Unit {0}) t (kill_known home status n) old (λ rest. given there (λ child. after_child child rest)) old
     unfolding read_head
-    with_child result second = then_part t (given there) old new after_child old child (decided t old there child is) result second
+    begun = record { leads = λ new result on. on }
 
-    -- the child's segment isn't read
-    pub not_read : (call_error : CallError) → RunsPart (read_head (home_of child)) old new t (Err call_error)
-        → RunsPart (kill_known home status n) old new t (Err call_error)
-    not_read call_error second = with_child (Err call_error) (part_fails t (read_head (home_of child)) old new (after_head child) call_error second)
+    -- no child has the number
+    pub no_child : (errno : Errno) (result : Result (Unit {0}) CallError) → IsErrAnd result (λ e. e ≡ Refused errno) → Err errno ≡ there
+        → RunsPart (kill_known home status n) old old t result
+    no_child errno result gave is = ends_in_so (given there) after_child begun old (Refused errno) result gave (decided_not t old there errno is)
 
-    module _ (mid : KernelModel) (head : StatusHead) (second : RunsPart (read_head (home_of child)) old mid t (Ok head)) where
-      with_head : (result : Result (Unit {0}) CallError) → RunsPart (after_head child head) mid new t result
-          → RunsPart (kill_known home status n) old new t result
-      with_head result third = with_child result (then_part t (read_head (home_of child)) old new (after_head child) mid head second result third)
+    module _ (child : Child) (is : Ok child ≡ there) where
+      -- the child was found
+      with_child : LeavesPart (Unit {0}) t (kill_known home status n) old (after_child child) old
+      with_child = further_in (given there) after_child begun old child (decided t old there child is)
 
-      -- the child's container isn't unlinked
-      pub not_unlinked : (call_error : CallError)
-          → RunsPart (ask (Unlink home.container child.container)) mid new t (Err call_error)
-          → RunsPart (kill_known home status n) old new t (Err call_error)
-      not_unlinked call_error third =
-          with_head (Err call_error)
-          (part_fails t (ask (Unlink home.container child.container)) mid new after_unlink call_error third)
+      -- the child's segment isn't read
+      pub not_read : (new : KernelModel) (call_error : CallError) (result : Result (Unit {0}) CallError) → IsErrAnd result (λ e. e ≡ call_error)
+          → RunsPart (read_head (home_of child)) old new t (Err call_error) → RunsPart (kill_known home status n) old new t result
+      not_read = ends_in_so (read_head (home_of child)) (after_head child) with_child
 
-      -- the child's container is unlinked, and the segment is written without the child, or not
-      pub unlinked : (late : KernelModel) → RunsPart (ask (Unlink home.container child.container)) mid late t (Ok tt)
-          → (result : Result (Unit {0}) CallError)
-          → RunsPart (write_status home (without_child n status)) late new t result → RunsPart (kill_known home status n) old new t result
-      unlinked late third result fourth =
-          with_head result (then_part t (ask (Unlink home.container child.container)) mid new after_unlink late tt third result
-          fourth)
+      -- the child's segment is read
+      pub with_head : (mid : KernelModel) (head : StatusHead) → RunsPart (read_head (home_of child)) old mid t (Ok head)
+          → LeavesPart (Unit {0}) t (kill_known home status n) old (after_head child head) mid
+      with_head = further_in (read_head (home_of child)) (after_head child) with_child
+
+module _ (roots : Roots) (n : ℕ) (above : ProcName) (t : ℕ) (old : KernelModel) where
+  -- what is still to do once the segment above was read
+  abbrev after_status : Home → ProcessStatus → Program
+  after_status home status = kill_known home status n (λ (done : Unit {0}). Answers Done)
+
+  -- what is still to do once the process above was found
+  abbrev after_home : Home → Program
+  after_home home = read_status home (after_status home)
+
+  -- at first the whole program is left
+  call_begun : Leaves t (kill_program roots (n ∷ above)) old (find_home roots.home above after_home) old
+  unfolding kill_program
+  call_begun = record { leads = λ new result on. on }
+
+  -- the process above isn't found
+  pub not_found : (new : KernelModel) (call_error : CallError) (result : Result Reply CallError) → IsErrAnd result (λ e. e ≡ call_error)
+      → RunsPart (find_home roots.home above) old new t (Err call_error) → Runs (kill_program roots (n ∷ above)) old new t (settled result)
+  not_found = ends_so (find_home roots.home above) after_home call_begun
+
+  module _ (mid : KernelModel) (home : Home) (found : RunsPart (find_home roots.home above) old mid t (Ok home)) where
+    -- the process above is found
+    with_home : Leaves t (kill_program roots (n ∷ above)) old (after_home home) mid
+    with_home = further (find_home roots.home above) after_home call_begun mid home found
+
+    -- its segment isn't read
+    pub not_read_above : (new : KernelModel) (call_error : CallError) (result : Result Reply CallError) → IsErrAnd result (λ e. e ≡ call_error)
+        → RunsPart (read_status home) mid new t (Err call_error) → Runs (kill_program roots (n ∷ above)) old new t (settled result)
+    not_read_above = ends_so (read_status home) (after_status home) with_home
+
+    module _ (later : KernelModel) (segment : Segment) (read : RunsReading home mid later t (Ok segment)) (bytes : List ℕ)
+        (same : bytes ≡ segment.bytes) (new : KernelModel) where
+      -- its segment is read
+      with_status : Leaves t (kill_program roots (n ∷ above)) old (after_status home read.0) later
+      with_status = further (read_status home) (after_status home) with_home later read.0 read.2
+
+      -- the child isn't killed
+      pub not_killed : (call_error : CallError) (result : Result Reply CallError) → IsErrAnd result (λ e. e ≡ call_error)
+          → KillsKnown home bytes n later new t (Err call_error) → Runs (kill_program roots (n ∷ above)) old new t (settled result)
+      not_killed call_error result gave kills =
+          ends_so (kill_known home read.0 n) (λ (done : Unit {0}). Answers Done) with_status new call_error result gave
+          (kills read.0 (ap status_in same ∙ read.1.status_is))
+
+      -- the child is killed
+      pub killed : KillsKnown home bytes n later new t (Ok tt) → Runs (kill_program roots (n ∷ above)) old new t (Ok Done)
+      killed kills =
+          (further (kill_known home read.0 n) (λ (done : Unit {0}). Answers Done) with_status new tt
+          (kills read.0 (ap status_in same ∙ read.1.status_is))).leads new (Ok Done) (says t new Done)

@@ -2,13 +2,16 @@
 use Rattle.std.proofs.Common.{◌≡◌, ℕ, ◌≤◌, List, [], ◌∷◌, length, get_or, take, drop, ◌-◌, Option, None, Some, Result, Ok, Err, refl, sym, ap, ◌∙◌}
 use Rattle.std.proofs.Common.{subst, arith}
 use Rattle.std.specs.Prelude.{option_map}
+use Rattle.std.specs.Borrow.{Bor}
 use Rattle.std.specs.Result.{IsErrAnd}
 use Rattle.std.proofs.lemmas.Option.{same_Some}
 use Rattle.std.proofs.lemmas.Result.{err_from_is_err_and}
 use Rattle.histar_flat.specs.Words.{ProcName}
 use Rattle.histar_flat.specs.declared.replies.Errno.{Errno}
 use Rattle.histar_rules.specs.declared.raw.RawCall.TheVariants.{Read}
-use Rattle.histar_syscall.specs.KernelModel.{KernelModel}
+use Rattle.histar_rules.specs.declared.raw.Refusal.{Refusal}
+use Rattle.histar_rules.specs.Rules.{AreBytesOf}
+use Rattle.histar_syscall.specs.KernelModel.{KernelModel, ReadsLent}
 use Rattle.histar_syscall.proofs.Runs.{same_kernel}
 use Rattle.histar_layout.specs.Status.{ProcessStatus, child_at, head_of, look_for, status_in}
 use Rattle.histar_layout.specs.declared.status.Child.{Child}
@@ -19,7 +22,8 @@ use Rattle.histar_programs.specs.declared.call_error.CallError.TheVariants.{Refu
 use Rattle.histar_programs.specs.declared.roots.Home.{Home}
 use Rattle.histar_programs.specs.Programs.{Program, Part, RunsPart}
 use Rattle.histar_programs.specs.Parts.{ask, given, if_there}
-use Rattle.histar_programs.proofs.Running.{gives, gives_not, hands, refuses_at_once, then_part, part_fails}
+use Rattle.histar_programs.specs.Refusals.{call_error_of, errno_for}
+use Rattle.histar_programs.proofs.Running.{gives, gives_not, grants, hands, refuses, refuses_at_once, then_part, part_fails}
 use Rattle.histar_process.specs.declared.find.Segment.{Segment}
 use Rattle.histar_process.specs.Parts.{find_home, home_of, must_be_there, read_status}
 use Rattle.histar_process.specs.Reading.{RunsReading, read_head, look_up}
@@ -53,6 +57,21 @@ child_looked (Some status) number found e = (status, refl, ap of_ok e)
     of_ok (Err fault) = None
 
 -- ---- reading a process segment
+
+module _ (t : ℕ) (old new : KernelModel) (home : Home) (result : Result (Bor (List ℕ)) Refusal)
+    (lent : ReadsLent old t home.container home.segment result new) where
+  -- the kernel lent the bytes of the segment
+  pub bytes_lent : (bytes : Bor (List ℕ)) → result ≡ Ok bytes → RunsPart (ask (Read home.container home.segment)) old new t (Ok bytes.now)
+  bytes_lent bytes is =
+      let answered = subst (λ (r : Result (Bor (List ℕ)) Refusal). ReadsLent old t home.container home.segment r new) is lent in
+      grants t (Read home.container home.segment) old new bytes.now answered.0 answered.1
+
+  -- the kernel lent no bytes
+  pub not_lent : (refusal : Refusal) → result ≡ Err refusal
+      → RunsPart (ask (Read home.container home.segment)) old new t (Err (call_error_of (errno_for (Read home.container home.segment)) refusal))
+  not_lent refusal is =
+      refuses t (Read home.container home.segment) old new (λ (bytes : Bor (List ℕ)). AreBytesOf old.kept home.segment bytes.now) refusal
+      (subst (λ (r : Result (Bor (List ℕ)) Refusal). ReadsLent old t home.container home.segment r new) is lent)
 
 -- what comes after the bytes of a process segment
 abbrev after_bytes : List ℕ → Part ProcessStatus

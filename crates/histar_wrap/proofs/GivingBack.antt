@@ -1,5 +1,6 @@
 -- How the code that gives up what a thread took runs its parts.
 use Rattle.std.proofs.Common.{◌≡◌, ℕ, Option, None, Some, Result, Ok, Err, inl, refl, sym, ap, subst}
+use Rattle.std.specs.Result.{IsErrAnd}
 use Rattle.histar_flat.specs.declared.replies.Errno.{Errno}
 use Rattle.histar_flat.specs.declared.replies.Reply.TheVariants as replies
 use Rattle.histar_label.specs.Levels.{Levels}
@@ -15,7 +16,7 @@ use Rattle.histar_programs.specs.declared.call_error.CallError.TheVariants.{Refu
 use Rattle.histar_programs.specs.Refusals.{errno_for, call_error_of, call_error_with}
 use Rattle.histar_programs.specs.Programs.{AnswerOf, IsAnswer, Program, Part, LeadsTo, RunsPart}
 use Rattle.histar_programs.specs.Programs.Program.{Answers}
-use Rattle.histar_programs.proofs.Running.{asked, onward, then_part, part_fails}
+use Rattle.histar_programs.proofs.Running.{asked, fails_so, onward, then_part, part_fails}
 use Rattle.histar_wrap.specs.Scratch.{ask_or_give_back, give_back, gives_back_with, or_given_back, or_stops}
 use Rattle.histar_wrap.specs.Steps.{ask_or_stop, restore, stopping}
 
@@ -146,3 +147,19 @@ module _ (t : ℕ) (old new : KernelModel) where
     unfolding RunsPart
     gives_back_not A part mid errno first (Refused other) second = λ rest. onward t (first rest) (second (λ _. Answers (replies.Refused errno)))
     gives_back_not A part mid errno first Stopped second = λ rest. (first rest).begins new (second (λ _. Answers (replies.Refused errno)))
+
+module _ (t : ℕ) (call : RawCall) (old mid : KernelModel) (own : Levels × Levels) {A : Type 0} (P : A → Type 0) (refusal : Refusal) (errno : Errno)
+    (denied : Answered {A = A} old mid t call (Err refusal) P) (is : Refused errno ≡ call_error_of (errno_for call) refusal) (new : KernelModel) where
+  -- the raw call was denied, and what was taken is given back
+  pub given_back : RunsPart (restore own) mid new t (Ok tt) → RunsPart (ask_or_give_back own call) old new t (Err (Refused errno))
+  given_back second =
+      gives_back t old new own (AnswerOf call) (ask_or_give_back own call) mid errno
+      (leads_back t call old mid own P refusal errno denied (sym is)) second
+
+  -- the raw call was denied, and giving back what was taken stopped the call
+  pub given_back_not : (call_error : CallError) (result : Result (AnswerOf call) CallError) → IsErrAnd result (λ e. e ≡ call_error)
+      → RunsPart (restore own) mid new t (Err call_error) → RunsPart (ask_or_give_back own call) old new t result
+  given_back_not call_error result gave second =
+      fails_so t (ask_or_give_back own call) old new call_error result gave
+      (gives_back_not t old new own (AnswerOf call) (ask_or_give_back own call) mid errno
+      (leads_back t call old mid own P refusal errno denied (sym is)) call_error second)

@@ -16,16 +16,9 @@ returns-in_err-label g c =
 
 pub returns-in_err-made : goal.returns-in_err-made
 returns-in_err-made g c =
-    let due = guarded_by (c.args.guard.now.own.now ++ c.args.guard.now.jobs.now) (c.args.guard.now.write ∷ []) in
-    fails_so c.args.thread (ask (MakeContainer c.args.container due)) c.args.kernel.now c.make_container.new.self _ _
-    c.from_residual-in_err-made.ensures.1
-    (container_so c.args.thread c.args.kernel.now c.make_container.new.self c.args.container _ due c.in_ok-label.ensures _
-    (refuses c.args.thread (MakeContainer c.args.container c.in_ok-label.label) c.args.kernel.now c.make_container.new.self _ c.in_err-made.field-0.0
-    c.in_err-made.ensures))
+    fails_so _ _ _ _ _ _ c.from_residual-in_err-made.ensures.1
+    (container_so _ _ _ _ _ _ c.in_ok-label.ensures _ (refuses _ _ _ _ _ _ c.in_err-made.ensures))
 
 pub returns : goal.returns
 returns g c =
-    let due = guarded_by (c.args.guard.now.own.now ++ c.args.guard.now.jobs.now) (c.args.guard.now.write ∷ []) in
-    container_so c.args.thread c.args.kernel.now c.make_container.new.self c.args.container _ due c.in_ok-label.ensures _
-    (grants c.args.thread (MakeContainer c.args.container c.in_ok-label.label) c.args.kernel.now c.make_container.new.self c.in_ok-made.made
-    c.in_ok-made.ensures.0 c.in_ok-made.ensures.1.0)
+    container_so _ _ _ _ _ _ c.in_ok-label.ensures _ (grants _ _ _ _ c.in_ok-made.made c.in_ok-made.ensures.0 c.in_ok-made.ensures.1.0)

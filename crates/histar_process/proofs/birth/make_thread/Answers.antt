@@ -2,8 +2,6 @@
 use Rattle.std.proofs.Common.{ℕ, List, ◌∷◌, ◌++◌}
 use Rattle.histar_rules.specs.declared.raw.RawCall.TheVariants.{MakeThread}
 use Rattle.histar_layout.specs.Labelling.{owner_label, cleared_at}
-use Rattle.histar_programs.specs.Parts.{ask}
-use Rattle.histar_programs.specs.declared.call_error.CallError.TheVariants.{Stopped}
 use Rattle.histar_programs.proofs.Running.{grants, refuses, before_ask, fails_so}
 use Rattle.histar_process.proofs.Births.{thread_so}
 use Rattle.histar_process.proofs.birth.make_thread.Goals as goal
@@ -11,23 +9,18 @@ use Rattle.histar_process.proofs.birth.make_thread.Goals as goal
 pub returns-in_err-label : goal.returns-in_err-label
 returns-in_err-label g c =
     let owned : List ℕ = c.args.newborn.now.read ∷ c.args.newborn.now.write ∷ c.args.newborn.now.owned.now in
-    let call = MakeThread c.args.internal (owner_label owned c.args.newborn.now.jobs.now) (cleared_at (owned ++ c.args.newborn.now.jobs.now)) in
-    fails_so c.args.thread (ask call) c.args.kernel.now c.args.kernel.now Stopped _ c.from_residual.ensures.1
-    (before_ask c.args.thread call c.args.kernel.now)
+    fails_so _ _ _ _ _ _ c.from_residual.ensures.1
+    (before_ask c.args.thread
+    (MakeThread c.args.internal (owner_label owned c.args.newborn.now.jobs.now) (cleared_at (owned ++ c.args.newborn.now.jobs.now)))
+    c.args.kernel.now)
 
 pub returns-in_err-made : goal.returns-in_err-made
 returns-in_err-made g c =
-    let owned : List ℕ = c.args.newborn.now.read ∷ c.args.newborn.now.write ∷ c.args.newborn.now.owned.now in
-    let call = MakeThread c.args.internal (owner_label owned c.args.newborn.now.jobs.now) (cleared_at (owned ++ c.args.newborn.now.jobs.now)) in
-    let made = MakeThread c.args.internal c.in_ok-label.label c.in_ok-label.clearance in
-    fails_so c.args.thread (ask call) c.args.kernel.now c.make_thread.new.self _ _ c.from_residual-in_err-made.ensures.1
-    (thread_so c.args.thread c.args.kernel.now c.make_thread.new.self c.args.internal _ _ _ _ c.in_ok-label.ensures.label
-    c.in_ok-label.ensures.clearance _
-    (refuses c.args.thread made c.args.kernel.now c.make_thread.new.self _ c.in_err-made.field-0.0 c.in_err-made.ensures))
+    fails_so _ _ _ _ _ _ c.from_residual-in_err-made.ensures.1
+    (thread_so _ _ _ c.args.internal _ _ _ _ c.in_ok-label.ensures.label c.in_ok-label.ensures.clearance _
+    (refuses _ _ _ _ _ _ c.in_err-made.ensures))
 
 pub returns : goal.returns
 returns g c =
-    let made = MakeThread c.args.internal c.in_ok-label.label c.in_ok-label.clearance in
-    thread_so c.args.thread c.args.kernel.now c.make_thread.new.self c.args.internal _ _ _ _ c.in_ok-label.ensures.label
-    c.in_ok-label.ensures.clearance _
-    (grants c.args.thread made c.args.kernel.now c.make_thread.new.self c.in_ok-made.made c.in_ok-made.ensures.0 c.in_ok-made.ensures.1.0)
+    thread_so _ _ _ c.args.internal _ _ _ _ c.in_ok-label.ensures.label c.in_ok-label.ensures.clearance _
+    (grants _ _ _ _ c.in_ok-made.made c.in_ok-made.ensures.0 c.in_ok-made.ensures.1.0)

@@ -9,22 +9,19 @@ use Rattle.histar_process.proofs.find.read_segment.Goals as goal
 
 pub returns-in_err-bytes : goal.returns-in_err-bytes
 returns-in_err-bytes g c =
-    let call = Read c.args.home.now.container c.args.home.now.segment in
     reading_fails c.args.thread c.args.home.now c.args.kernel.now c.read_copy.new.self _ _ c.from_residual.ensures.1
     (read_fails c.args.thread c.args.kernel.now c.read_copy.new.self c.args.home.now _
-    (refuses c.args.thread call c.args.kernel.now c.read_copy.new.self _ c.in_err-bytes.field-0.0 c.in_err-bytes.ensures))
+    (refuses _ (Read c.args.home.now.container c.args.home.now.segment) _ _ _ _ c.in_err-bytes.ensures))
 
 pub returns-in_default : goal.returns-in_default
 returns-in_default g c =
-    let call = Read c.args.home.now.container c.args.home.now.segment in
     segment_none c.args.thread c.args.kernel.now c.read_copy.new.self c.args.home.now c.in_ok-bytes.bytes
-    (grants c.args.thread call c.args.kernel.now c.read_copy.new.self c.in_ok-bytes.bytes c.in_ok-bytes.ensures.0 c.in_ok-bytes.ensures.1)
+    (grants _ (Read c.args.home.now.container c.args.home.now.segment) _ _ _ c.in_ok-bytes.ensures.0 c.in_ok-bytes.ensures.1)
     (subst (λ (bytes : List ℕ). None ≡ option_map head_of (status_in bytes)) c.as_slice.ensures c.in_default.ensures)
 
 pub returns : goal.returns
 returns g c =
-    let call = Read c.args.home.now.container c.args.home.now.segment in
     segment_read c.args.thread c.args.kernel.now c.read_copy.new.self c.args.home.now c.in_ok-bytes.bytes
-    (grants c.args.thread call c.args.kernel.now c.read_copy.new.self c.in_ok-bytes.bytes c.in_ok-bytes.ensures.0 c.in_ok-bytes.ensures.1)
+    (grants _ (Read c.args.home.now.container c.args.home.now.segment) _ _ _ c.in_ok-bytes.ensures.0 c.in_ok-bytes.ensures.1)
     c.in-Some.head
     (subst (λ (bytes : List ℕ). Some c.in-Some.head ≡ option_map head_of (status_in bytes)) c.as_slice.ensures c.in-Some.ensures)

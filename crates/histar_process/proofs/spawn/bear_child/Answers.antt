@@ -1,23 +1,20 @@
 -- Proves the goals of `bear_child` of src/spawn.rt that the search leaves open.
 use Rattle.std.proofs.Common.{◌∙◌}
 use Rattle.histar_programs.proofs.Running.{fails_so}
-use Rattle.histar_programs.specs.declared.call_error.CallError.TheVariants.{Stopped}
-use Rattle.histar_process.specs.Birth.{birth}
 use Rattle.histar_programs.specs.Kin.{kin_of}
 use Rattle.histar_process.proofs.Calling.{before_birth, born_so, kin_is}
 use Rattle.histar_process.proofs.spawn.bear_child.Goals as goal
 
 pub returns-in_err-jobs : goal.returns-in_err-jobs
 returns-in_err-jobs g c status is =
-    let kin = kin_of c.args.unix.now.users.now c.args.own.now in
-    fails_so c.args.unix.now.caller.now.thread (birth c.args.unix.now.caller.now.home status kin) c.args.kernel.now c.args.kernel.now Stopped _
-    c.from_residual.ensures.1 (before_birth c.args.unix.now.caller.now.thread c.args.unix.now.caller.now.home status kin c.args.kernel.now)
+    fails_so _ _ _ _ _ _ c.from_residual.ensures.1
+    (before_birth c.args.unix.now.caller.now.thread c.args.unix.now.caller.now.home status (kin_of c.args.unix.now.users.now c.args.own.now)
+    c.args.kernel.now)
 
 pub returns-in_err-owned : goal.returns-in_err-owned
 returns-in_err-owned g c status is =
-    let kin = kin_of c.args.unix.now.users.now c.args.own.now in
-    fails_so c.args.unix.now.caller.now.thread (birth c.args.unix.now.caller.now.home status kin) c.args.kernel.now c.args.kernel.now Stopped _
-    c.from_residual-in_err-owned.ensures.1 (before_birth c.args.unix.now.caller.now.thread c.args.unix.now.caller.now.home status kin
+    fails_so _ _ _ _ _ _ c.from_residual-in_err-owned.ensures.1
+    (before_birth c.args.unix.now.caller.now.thread c.args.unix.now.caller.now.home status (kin_of c.args.unix.now.users.now c.args.own.now)
     c.args.kernel.now)
 
 pub returns : goal.returns

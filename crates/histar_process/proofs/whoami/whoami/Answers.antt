@@ -1,8 +1,10 @@
 -- Proves the goals of `whoami` of src/whoami.rt that the search leaves open.
-use Rattle.std.proofs.Common.{Result, length, not, sym, ap, subst, ◌∙◌}
+use Rattle.std.proofs.Common.{◌≡◌, Result, length, not, sym, ap, subst, ◌∙◌}
+use Rattle.std.specs.Borrow.{Bor}
 use Rattle.histar_flat.specs.declared.replies.Reply.TheVariants.{User}
 use Rattle.histar_label.specs.Levels.{Levels}
 use Rattle.histar_rules.specs.declared.raw.RawCall.TheVariants.{OwnLabel}
+use Rattle.histar_rules.specs.declared.raw.Refusal.{Refusal}
 use Rattle.histar_syscall.specs.KernelModel.{OwnLent}
 use Rattle.histar_layout.specs.Categories.{user_of}
 use Rattle.histar_programs.specs.Parts.{ask}
@@ -11,23 +13,30 @@ use Rattle.histar_layout.proofs.UserOf.{user_is}
 use Rattle.histar_programs.specs.Kin.{user_name}
 use Rattle.histar_layout.specs.Jobs.{is_empty, jobs_in}
 use Rattle.histar_process.specs.Whoami.{whoami_program}
+use Rattle.histar_process.proofs.whoami.whoami.Given as given
+use Rattle.histar_process.proofs.whoami.whoami.Goals.{After-lend_own_label}
 use Rattle.histar_process.proofs.whoami.whoami.Goals as goal
+
+-- the kernel lent the thread's own label, or refused to
+lent : (g : given.Over) (c : After-lend_own_label g) (result : Result (Bor Levels) Refusal) → c.lend_own_label.result ≡ result
+    → OwnLent c.args.kernel.now c.args.unix.now.caller.now.thread result c.lend_own_label.follows.lender-at-none
+lent g c result is =
+    subst (λ (r : Result (Bor Levels) Refusal). OwnLent c.args.kernel.now c.args.unix.now.caller.now.thread r c.lend_own_label.follows.lender-at-none)
+    is c.lend_own_label.follows.holds-at-none
 
 pub returns-in_err-own : goal.returns-in_err-own
 unfolding whoami_program
 returns-in_err-own g c =
-    let left = subst (λ (r : Result _ _). OwnLent c.args.kernel.now c.args.unix.now.caller.now.thread r c.lend_own_label.follows.lender-at-none)
-    c.in_err-own.was c.lend_own_label.follows.holds-at-none in
     call_fails_so c.args.unix.now.caller.now.thread (whoami_program c.args.unix.now.users.now) c.args.kernel.now
     c.lend_own_label.follows.lender-at-none _ _ c.from_residual.ensures.1
     (call_fails c.args.unix.now.caller.now.thread (ask OwnLabel) c.args.kernel.now c.lend_own_label.follows.lender-at-none _ _
-    (refuses c.args.unix.now.caller.now.thread OwnLabel c.args.kernel.now c.lend_own_label.follows.lender-at-none _ c.in_err-own.field-0.0 left))
+    (refuses c.args.unix.now.caller.now.thread OwnLabel c.args.kernel.now c.lend_own_label.follows.lender-at-none _ c.in_err-own.field-0.0
+    (lent g (goal.at.returns-in_err-own g c).After-lend_own_label _ c.in_err-own.was)))
 
 pub returns : goal.returns
 unfolding whoami_program
 returns g c =
-    let left = subst (λ (r : Result _ _). OwnLent c.args.kernel.now c.args.unix.now.caller.now.thread r c.lend_own_label.follows.lender-at-none)
-    c.in_ok-own.was c.lend_own_label.follows.holds-at-none in
+    let left = lent g (goal.at.returns g c).After-lend_own_label _ c.in_ok-own.was in
     let accounts = c.args.unix.now.users.now in
     let users = accounts.users in
     let own = c.in_ok-own.own.now in
