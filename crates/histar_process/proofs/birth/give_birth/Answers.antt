@@ -4,11 +4,10 @@ use Rattle.histar_process.proofs.birth.give_birth.Goals as goal
 
 pub returns-in_err-read : goal.returns-in_err-read
 returns-in_err-read g c = λ status revealed.
-    without_categories _ c.args.parent.now.home.now status
+    without_categories _ _ status
     (record { owned = c.args.inherited.now.owned.now; jobs = c.args.inherited.now.jobs.now }) _ _ _ _ c.from_residual.ensures.1 c.in_err-read.ensures
 
 pub returns : goal.returns
 returns g c = λ status revealed.
-    (with_categories _ c.args.parent.now.home.now status
-    (record { owned = c.args.inherited.now.owned.now; jobs = c.args.inherited.now.jobs.now }) _ _ (c.in_ok-read.read, c.in_ok-read.write)
+    (with_categories _ _ status (record { owned = c.args.inherited.now.owned.now; jobs = c.args.inherited.now.jobs.now }) _ _ _
     c.in_ok-read.ensures).leads _ _ (c.make_objects.ensures status revealed)

@@ -11,8 +11,7 @@ use Rattle.histar_process.proofs.birth.make_guarded.Goals as goal
 pub returns-in_err-label : goal.returns-in_err-label
 returns-in_err-label g c =
     let call = MakeContainer c.args.container (guarded_by (c.args.guard.now.own.now ++ c.args.guard.now.jobs.now) (c.args.guard.now.write ∷ [])) in
-    fails_so c.args.thread (ask call) c.args.kernel.now c.args.kernel.now Stopped _ c.from_residual.ensures.1
-    (before_ask c.args.thread call c.args.kernel.now)
+    fails_so _ _ _ _ Stopped _ c.from_residual.ensures.1 (before_ask _ call _)
 
 pub returns-in_err-made : goal.returns-in_err-made
 returns-in_err-made g c =
@@ -21,4 +20,4 @@ returns-in_err-made g c =
 
 pub returns : goal.returns
 returns g c =
-    container_so _ _ _ _ _ _ c.in_ok-label.ensures _ (grants _ _ _ _ c.in_ok-made.made c.in_ok-made.ensures.0 c.in_ok-made.ensures.1.0)
+    container_so _ _ _ _ _ _ c.in_ok-label.ensures _ (grants _ _ _ _ _ c.in_ok-made.ensures.0 c.in_ok-made.ensures.1.0)

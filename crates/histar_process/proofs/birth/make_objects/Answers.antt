@@ -10,19 +10,16 @@ returns-in_err-body g c status revealed =
 
 pub returns-in_err-segment : goal.returns-in_err-segment
 returns-in_err-segment g c status revealed =
-    without_segment _ c.args.parent.now.home.now status c.args.newborn.now _ _ c.in_ok-body.body c.in_ok-body.ensures _ _ _
+    without_segment _ c.args.parent.now.home.now status c.args.newborn.now _ _ _ c.in_ok-body.ensures _ _ _
     c.from_residual-in_err-segment.ensures.1 c.in_err-segment.ensures
 
 pub returns-in_err-grown : goal.returns-in_err-grown
 returns-in_err-grown g c status revealed =
     fails_so _ _ _ _ _ _ c.from_residual-in_err-grown.ensures.1
-    ((with_segment _ c.args.parent.now.home.now status c.args.newborn.now _ _ c.in_ok-body.body c.in_ok-body.ensures _ c.in_ok-segment.segment
-    c.in_ok-segment.ensures).leads _ _
-    (before_write c.args.thread c.args.parent.now.home.now (with_child_listed c.in_ok-body.body.container c.in_ok-segment.segment status)
-    c.make_segment.new.kernel))
+    ((with_segment _ c.args.parent.now.home.now status c.args.newborn.now _ _ _ c.in_ok-body.ensures _ _ c.in_ok-segment.ensures).leads _ _
+    (before_write _ _ _ _))
 
 pub returns : goal.returns
 returns g c status revealed =
-    (with_segment _ c.args.parent.now.home.now status c.args.newborn.now _ _ c.in_ok-body.body c.in_ok-body.ensures _ c.in_ok-segment.segment
-    c.in_ok-segment.ensures).leads _ _
-    (written_so _ _ _ c.args.parent.now.home.now _ _ (c.in_ok-grown.ensures status revealed) _ c.write_segment.ensures)
+    (with_segment _ _ status c.args.newborn.now _ _ _ c.in_ok-body.ensures _ _ c.in_ok-segment.ensures).leads _ _
+    (written_so _ _ _ _ _ _ (c.in_ok-grown.ensures status revealed) _ c.write_segment.ensures)

@@ -9,18 +9,16 @@ use Rattle.histar_process.proofs.birth.make_thread.Goals as goal
 pub returns-in_err-label : goal.returns-in_err-label
 returns-in_err-label g c =
     let owned : List ℕ = c.args.newborn.now.read ∷ c.args.newborn.now.write ∷ c.args.newborn.now.owned.now in
-    fails_so _ _ _ _ _ _ c.from_residual.ensures.1
-    (before_ask c.args.thread
+    fails_so _ _ _ _ _ _ c.from_residual.ensures.1 (before_ask c.args.thread
     (MakeThread c.args.internal (owner_label owned c.args.newborn.now.jobs.now) (cleared_at (owned ++ c.args.newborn.now.jobs.now)))
     c.args.kernel.now)
 
 pub returns-in_err-made : goal.returns-in_err-made
 returns-in_err-made g c =
     fails_so _ _ _ _ _ _ c.from_residual-in_err-made.ensures.1
-    (thread_so _ _ _ c.args.internal _ _ _ _ c.in_ok-label.ensures.label c.in_ok-label.ensures.clearance _
-    (refuses _ _ _ _ _ _ c.in_err-made.ensures))
+    (thread_so _ _ _ _ _ _ _ _ c.in_ok-label.ensures.label c.in_ok-label.ensures.clearance _ (refuses _ _ _ _ _ _ c.in_err-made.ensures))
 
 pub returns : goal.returns
 returns g c =
-    thread_so _ _ _ c.args.internal _ _ _ _ c.in_ok-label.ensures.label c.in_ok-label.ensures.clearance _
-    (grants _ _ _ _ c.in_ok-made.made c.in_ok-made.ensures.0 c.in_ok-made.ensures.1.0)
+    thread_so _ _ _ _ _ _ _ _ c.in_ok-label.ensures.label c.in_ok-label.ensures.clearance _
+    (grants _ _ _ _ _ c.in_ok-made.ensures.0 c.in_ok-made.ensures.1.0)

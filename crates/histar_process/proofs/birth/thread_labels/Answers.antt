@@ -10,4 +10,4 @@ pub returns-clause-clearance : goal.returns-clause-clearance
 returns-clause-clearance c =
     let child = c.args.newborn.now in
     let owned : List ℕ = child.read ∷ child.write ∷ child.owned.now in
-    c.in_ok-clearance.ensures ∙ ap (λ (es : List (ℕ × Level)). labelled es L2) (sym (each_at-append L3 owned child.jobs.now))
+    c.in_ok-clearance.ensures ∙ ap (λ (es : List (ℕ × Level)). labelled es L2) (sym (each_at-append L3 owned _))

@@ -20,29 +20,28 @@ written : (g : given.Over) (c : After-write_segment g) (status : ProcessStatus) 
     → RunsPart (write_status c.args.unix.now.caller.now.home (once_exited c.args.number status)) c.args.kernel.now c.write_segment.new.kernel
     c.args.unix.now.caller.now.thread result
 written g c status segment result writes =
-    written_so _ _ _ c.args.unix.now.caller.now.home _ _
+    written_so _ _ _ _ _ _
     (c.in_ok-bytes.ensures status (subst (λ (bytes : List ℕ). status_in bytes ≡ Some status) (sym c.as_slice.ensures) segment.status_is))
     result writes
 
 pub returns-in_err-bytes : goal.returns-in_err-bytes
 returns-in_err-bytes g c status segment =
-    not_written _ _ status c.args.number _ _ _ _ c.from_residual.ensures.1
-    (before_write c.args.unix.now.caller.now.thread c.args.unix.now.caller.now.home (once_exited c.args.number status) c.args.kernel.now)
+    not_written _ _ status _ _ _ _ _ c.from_residual.ensures.1
+    (before_write c.args.unix.now.caller.now.thread _ (once_exited c.args.number status) c.args.kernel.now)
 
 pub returns-in_err-write_segment : goal.returns-in_err-write_segment
 returns-in_err-write_segment g c status segment =
-    not_written _ _ status c.args.number _ _ _ _ c.from_residual-in_err-write_segment.ensures.1
+    not_written _ _ status _ _ _ _ _ c.from_residual-in_err-write_segment.ensures.1
     (written g (goal.at.returns-in_err-write_segment g c).After-write_segment status segment _ c.in_err-write_segment.ensures)
 
 pub returns-in_err-unlink : goal.returns-in_err-unlink
 returns-in_err-unlink g c status segment =
-    fails_so _ _ _ _ _ _ c.from_residual-in_err-unlink.ensures.1
-    (unlinked _ _ status c.args.number _ _ c.args.segment segment _
+    fails_so _ _ _ _ _ _ c.from_residual-in_err-unlink.ensures.1 (unlinked _ _ status _ _ _ _ segment _
     (written g (goal.at.returns-in_err-unlink g c).After-write_segment status segment (Ok tt) c.in_ok-write_segment.ensures) _
     (refuses _ _ _ _ _ _ c.in_err-unlink.ensures))
 
 pub returns : goal.returns
 returns g c status segment =
-    unlinked _ _ status c.args.number _ _ c.args.segment segment _
+    unlinked _ _ status _ _ _ _ segment _
     (written g (goal.at.returns g c).After-write_segment status segment (Ok tt) c.in_ok-write_segment.ensures) (Ok tt)
     (grants _ _ _ _ tt c.in_ok-unlink.ensures.0 tt)

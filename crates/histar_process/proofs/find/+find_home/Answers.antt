@@ -10,48 +10,32 @@ use Rattle.histar_process.proofs.find.+find_home.Goals as goal
 
 pub returns-in_default : goal.returns-in_default
 returns-in_default g t c =
-    finds_first c.args.thread c.args.first c.args.kernel.now c.args.kernel.now c.args.numbers.now
-    (no_numbers c.args.numbers.now (omega arith))
+    finds_first _ _ _ c.args.kernel.now _ (no_numbers _ (omega arith))
 
 pub returns-in_err-home : goal.returns-in_err-home
 returns-in_err-home g s c =
     let end = c.find_home.new.kernel in
-    fails_so c.args.thread (find_home c.args.first c.args.numbers.now) c.args.kernel.now end c.in_err-home.field-0.0 _ c.from_residual.ensures.1
-    (find_fails c.args.thread c.args.first c.args.kernel.now end c.args.numbers.now (get_or c.args.numbers.now 0 0)
-    (take (length c.args.numbers.now - 1) (drop 1 c.args.numbers.now))
-    (first_of_numbers c.args.numbers.now 0 (omega arith)) c.in_err-home.field-0.0 c.in_err-home.ensures)
+    fails_so _ _ _ end _ _ c.from_residual.ensures.1 (find_fails _ _ _ end _ (get_or c.args.numbers.now 0 0)
+    (take (length _ - 1) (drop 1 c.args.numbers.now)) (first_of_numbers _ 0 (omega arith)) _ c.in_err-home.ensures)
 
 pub returns-in_err-found : goal.returns-in_err-found
 returns-in_err-found g s c =
-    fails_so c.args.thread (find_home c.args.first c.args.numbers.now) c.args.kernel.now c.look_up.new.kernel c.in_err-found.field-0.0 _
-    c.from_residual-in_err-found.ensures.1
-    (finds_on c.args.thread c.args.first c.args.kernel.now c.look_up.new.kernel c.args.numbers.now (get_or c.args.numbers.now 0 0)
-    (take (length c.args.numbers.now - 1) (drop 1 c.args.numbers.now))
-    (first_of_numbers c.args.numbers.now 0 (omega arith)) c.find_home.new.kernel c.in_ok-home.home c.in_ok-home.ensures
-    (Err c.in_err-found.field-0.0)
-    (into_fails c.args.thread c.find_home.new.kernel c.look_up.new.kernel (get_or c.args.numbers.now 0 0) c.in_ok-home.home c.in_err-found.field-0.0
+    fails_so _ _ _ _ _ _ c.from_residual-in_err-found.ensures.1 (finds_on _ _ _ _ _ (get_or c.args.numbers.now 0 0)
+    (take (length _ - 1) (drop 1 c.args.numbers.now)) (first_of_numbers _ 0 (omega arith)) c.find_home.new.kernel _ c.in_ok-home.ensures (Err _)
+    (into_fails c.args.thread c.find_home.new.kernel c.look_up.new.kernel (get_or c.args.numbers.now 0 0) _ c.in_err-found.field-0.0
     c.in_err-found.ensures))
 
 pub returns-in_err-child : goal.returns-in_err-child
 returns-in_err-child g s c =
-    fails_so c.args.thread (find_home c.args.first c.args.numbers.now) c.args.kernel.now c.look_up.new.kernel (Refused c.in_err-child.field-0.0) _
-    c.from_residual-in_err-child.ensures.1
-    (finds_on c.args.thread c.args.first c.args.kernel.now c.look_up.new.kernel c.args.numbers.now (get_or c.args.numbers.now 0 0)
-    (take (length c.args.numbers.now - 1) (drop 1 c.args.numbers.now))
-    (first_of_numbers c.args.numbers.now 0 (omega arith)) c.find_home.new.kernel c.in_ok-home.home c.in_ok-home.ensures
-    (Err (Refused c.in_err-child.field-0.0))
-    (into_none c.args.thread c.find_home.new.kernel c.look_up.new.kernel (get_or c.args.numbers.now 0 0) c.in_ok-home.home c.in_ok-found.found
-    c.in_ok-found.ensures
-    c.in_err-child.field-0.0 c.in_err-child.ensures))
+    fails_so _ _ _ _ _ _ c.from_residual-in_err-child.ensures.1 (finds_on _ _ _ _ _ (get_or c.args.numbers.now 0 0)
+    (take (length _ - 1) (drop 1 c.args.numbers.now)) (first_of_numbers _ 0 (omega arith)) c.find_home.new.kernel _ c.in_ok-home.ensures (Err _)
+    (into_none c.args.thread c.find_home.new.kernel c.look_up.new.kernel (get_or c.args.numbers.now 0 0) _ _ c.in_ok-found.ensures
+    _ c.in_err-child.ensures))
 
 pub returns : goal.returns
 returns g s c =
-    finds_on c.args.thread c.args.first c.args.kernel.now c.look_up.new.kernel c.args.numbers.now (get_or c.args.numbers.now 0 0)
-    (take (length c.args.numbers.now - 1) (drop 1 c.args.numbers.now))
-    (first_of_numbers c.args.numbers.now 0 (omega arith)) c.find_home.new.kernel c.in_ok-home.home c.in_ok-home.ensures
-    (Ok c.home_of.result)
+    finds_on _ _ _ _ _ (get_or c.args.numbers.now 0 0) (take (length _ - 1) (drop 1 c.args.numbers.now))
+    (first_of_numbers _ 0 (omega arith)) c.find_home.new.kernel _ c.in_ok-home.ensures (Ok _)
     (subst (λ (h : Home). RunsPart (into (get_or c.args.numbers.now 0 0) c.in_ok-home.home) c.find_home.new.kernel c.look_up.new.kernel c.args.thread
-    (Ok h)) (sym c.home_of.ensures)
-    (into_child c.args.thread c.find_home.new.kernel c.look_up.new.kernel (get_or c.args.numbers.now 0 0) c.in_ok-home.home c.in_ok-found.found
-    c.in_ok-found.ensures
-    c.in_ok-child.child c.in_ok-child.ensures))
+    (Ok h)) (sym c.home_of.ensures) (into_child c.args.thread c.find_home.new.kernel c.look_up.new.kernel (get_or c.args.numbers.now 0 0) _ _
+    c.in_ok-found.ensures _ c.in_ok-child.ensures))

@@ -5,14 +5,12 @@ use Rattle.histar_process.proofs.find.read_head.Goals as goal
 
 pub returns-in_err-bytes : goal.returns-in_err-bytes
 returns-in_err-bytes g c =
-    fails_so _ _ _ _ _ _ c.from_residual.ensures.1
-    (head_fails _ _ _ c.args.home.now _ (not_lent _ _ _ c.args.home.now _ c.read.follows.holds-at-none _ c.in_err-bytes.was))
+    fails_so _ _ _ _ _ _ c.from_residual.ensures.1 (head_fails _ _ _ _ _ (not_lent _ _ _ _ _ c.read.follows.holds-at-none _ c.in_err-bytes.was))
 
 pub returns-in_default : goal.returns-in_default
 returns-in_default g c =
-    head_none _ _ _ c.args.home.now _ (bytes_lent _ _ _ c.args.home.now _ c.read.follows.holds-at-none _ c.in_ok-bytes.was) c.in_default.ensures
+    head_none _ _ _ _ _ (bytes_lent _ _ _ _ _ c.read.follows.holds-at-none _ c.in_ok-bytes.was) c.in_default.ensures
 
 pub returns : goal.returns
 returns g c =
-    head_read _ _ _ c.args.home.now _ (bytes_lent _ _ _ c.args.home.now _ c.read.follows.holds-at-none _ c.in_ok-bytes.was) c.in-Some.head
-    c.in-Some.ensures
+    head_read _ _ _ _ _ (bytes_lent _ _ _ _ _ c.read.follows.holds-at-none _ c.in_ok-bytes.was) _ c.in-Some.ensures

@@ -8,15 +8,10 @@ use Rattle.histar_process.proofs.kill.kill.Goals as goal
 
 pub returns-in_default : goal.returns-in_default
 returns-in_default g c =
-    runs_as c.args.unix.now.caller.now.thread (kill_program c.args.unix.now.roots.now c.args.name.now) (kill_program c.args.unix.now.roots.now [])
-    c.args.kernel.now
-    c.kill_first.new.kernel (settled c.kill_first.result)
-    (ap (kill_program c.args.unix.now.roots.now) (sym c.numbers.ensures.value ∙ no_numbers c.numbers.result.now (omega arith))) c.kill_first.ensures
+    runs_as _ _ _ _ _ _ (ap (kill_program c.args.unix.now.roots.now) (sym c.numbers.ensures.value ∙ no_numbers _ (omega arith))) c.kill_first.ensures
 
 pub returns : goal.returns
 returns g c =
     let numbers = c.numbers.result.now in
-    runs_as c.args.unix.now.caller.now.thread (kill_program c.args.unix.now.roots.now c.args.name.now)
-    (kill_program c.args.unix.now.roots.now (get_or numbers 0 0 ∷ take (length numbers - 1) (drop 1 numbers))) c.args.kernel.now
-    c.kill_child.new.kernel (settled c.kill_child.result)
+    runs_as _ _ (kill_program c.args.unix.now.roots.now (get_or numbers 0 0 ∷ take (length numbers - 1) (drop 1 numbers))) _ _ _
     (ap (kill_program c.args.unix.now.roots.now) (sym c.numbers.ensures.value ∙ first_of_numbers numbers 0 (omega arith))) c.kill_child.ensures

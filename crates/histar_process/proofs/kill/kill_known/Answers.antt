@@ -54,18 +54,17 @@ module _ (g : given.Over) where
   its_container c result unlinks = unlinked_so _ _ _ _ _ _ _ refl (ap (λ (h : Home). h.container) c.home_of-its.ensures) result unlinks
 
 pub returns-in_err-found : goal.returns-in_err-found
-returns-in_err-found g c status is = absurd (no_fault c.args.parent.now.bytes.now status c.args.number c.in_err-found.field-0.0 is
+returns-in_err-found g c status is = absurd (no_fault _ status _ _ is
     c.in_err-found.ensures)
 
 pub returns-in_err-child : goal.returns-in_err-child
 returns-in_err-child g c status is =
-    no_child c.args.parent.now.home.now status c.args.number c.args.thread _ _ _ c.from_residual-in_err-child.ensures.1
-    (c.in_err-child.ensures
-    ∙ ap must_be_there (found_is c.args.parent.now.bytes.now status c.args.number c.in_ok-found.found is c.in_ok-found.ensures))
+    no_child _ status _ _ _ _ _ c.from_residual-in_err-child.ensures.1 (c.in_err-child.ensures
+    ∙ ap must_be_there (found_is _ status _ _ is c.in_ok-found.ensures))
 
 pub returns-in_err-read_head : goal.returns-in_err-read_head
 returns-in_err-read_head g c status is =
-    not_read c.args.parent.now.home.now status c.args.number c.args.thread c.args.kernel.now c.in_ok-child.child
+    not_read _ status _ _ _ _
     (child_is g (goal.at.returns-in_err-read_head g c).After-read_head status is) _ _ _ c.from_residual-in_err-read_head.ensures.1
     (its_head g (goal.at.returns-in_err-read_head g c).After-read_head _ c.in_err-read_head.ensures)
 
@@ -79,17 +78,12 @@ returns-in_err-without g c status is =
 
 pub returns-in_err-unlink : goal.returns-in_err-unlink
 returns-in_err-unlink g c status is =
-    ends_in_so (ask (Unlink c.args.parent.now.home.now.container c.in_ok-child.child.container))
-    (after_unlink c.args.parent.now.home.now status c.args.number)
-    (left g (goal.at.returns-in_err-unlink g c).After-read_head status is _ c.in_ok-read_head.ensures)
-    _ _ _ c.from_residual-in_err-unlink.ensures.1
-    (its_container g (goal.at.returns-in_err-unlink g c).After-unlink _
+    ends_in_so _ (after_unlink _ status _) (left g (goal.at.returns-in_err-unlink g c).After-read_head status is _ c.in_ok-read_head.ensures)
+    _ _ _ c.from_residual-in_err-unlink.ensures.1 (its_container g (goal.at.returns-in_err-unlink g c).After-unlink _
     (refuses _ _ _ _ _ _ c.in_err-unlink.ensures))
 
 pub returns : goal.returns
 returns g c status is =
-    (further_in (ask (Unlink c.args.parent.now.home.now.container c.in_ok-child.child.container))
-    (after_unlink c.args.parent.now.home.now status c.args.number)
-    (left g (goal.at.returns g c).After-read_head status is _ c.in_ok-read_head.ensures)
+    (further_in _ (after_unlink _ status _) (left g (goal.at.returns g c).After-read_head status is _ c.in_ok-read_head.ensures)
     _ tt (its_container g (goal.at.returns g c).After-unlink (Ok tt) (grants _ _ _ _ tt c.in_ok-unlink.ensures.0 tt))).leads _ _
-    (written_so _ _ _ c.args.parent.now.home.now _ _ (c.in_ok-without.ensures status is) _ c.write_segment.ensures)
+    (written_so _ _ _ _ _ _ (c.in_ok-without.ensures status is) _ c.write_segment.ensures)

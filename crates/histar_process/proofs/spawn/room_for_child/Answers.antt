@@ -14,20 +14,20 @@ is_deep g c = c.in_ok-must_have_room.ensures ∙ ap (λ (ns : List ℕ). must_ha
 
 pub returns-in_err-must_have_room-clause-runs : goal.returns-in_err-must_have_room-clause-runs
 returns-in_err-must_have_room-clause-runs g c =
-    depth_fails _ c.args.name.now c.args.home.now _ _ _ c.from_residual.ensures.1
+    depth_fails _ _ _ _ _ _ c.from_residual.ensures.1
     (c.in_err-must_have_room.ensures ∙ ap (λ (ns : List ℕ). must_have_room (nat_lt (length ns) most_numbers)) c.numbers.ensures.value)
 
 pub returns-in_err-segment-clause-runs : goal.returns-in_err-segment-clause-runs
 returns-in_err-segment-clause-runs g c =
-    reading_fails _ c.args.name.now c.args.home.now _ _ (is_deep g (goal.at.returns-in_err-segment-clause-runs g c).After-read_segment)
+    reading_fails _ _ _ _ _ (is_deep g (goal.at.returns-in_err-segment-clause-runs g c).After-read_segment)
     _ _ c.from_residual-in_err-segment.ensures.1 c.in_err-segment.ensures
 
 pub returns-in_err-must_have_room-2-clause-runs : goal.returns-in_err-must_have_room-2-clause-runs
 returns-in_err-must_have_room-2-clause-runs g c =
-    room_fails _ c.args.name.now c.args.home.now _ _ (is_deep g (goal.at.returns-in_err-must_have_room-2-clause-runs g c).After-read_segment)
-    c.in_ok-segment.segment c.in_ok-segment.ensures _ _ c.from_residual-in_err-must_have_room-2.ensures.1 c.in_err-must_have_room-2.ensures
+    room_fails _ _ _ _ _ (is_deep g (goal.at.returns-in_err-must_have_room-2-clause-runs g c).After-read_segment)
+    _ c.in_ok-segment.ensures _ _ c.from_residual-in_err-must_have_room-2.ensures.1 c.in_err-must_have_room-2.ensures
 
 pub returns-clause-runs : goal.returns-clause-runs
 returns-clause-runs g c =
-    room_is_there _ c.args.name.now c.args.home.now _ _ (is_deep g (goal.at.returns-clause-runs g c).After-read_segment)
-    c.in_ok-segment.segment c.in_ok-segment.ensures c.in_ok-must_have_room-2.ensures
+    room_is_there _ _ _ _ _ (is_deep g (goal.at.returns-clause-runs g c).After-read_segment)
+    _ c.in_ok-segment.ensures c.in_ok-must_have_room-2.ensures

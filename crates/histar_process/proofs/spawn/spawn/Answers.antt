@@ -4,15 +4,13 @@ use Rattle.histar_process.proofs.spawn.spawn.Goals as goal
 
 pub returns-in_err-head : goal.returns-in_err-head
 returns-in_err-head g c =
-    no_room c.args.unix.now.users.now c.args.unix.now.caller.now.home c.args.unix.now.process.now _ _ _ _ _ c.from_residual.ensures.1
-    c.in_err-head.ensures.runs
+    no_room _ _ _ _ _ _ _ _ c.from_residual.ensures.1 c.in_err-head.ensures.runs
 
 pub returns-in_err-make_child : goal.returns-in_err-make_child
 returns-in_err-make_child g c =
-    not_made c.args.unix.now.users.now c.args.unix.now.caller.now.home c.args.unix.now.process.now _ _ _ _ c.in_ok-head.ensures.runs
+    not_made _ _ _ _ _ _ _ c.in_ok-head.ensures.runs
     _ c.as_slice.ensures _ _ _ c.from_residual-in_err-make_child.ensures.1 c.in_err-make_child.ensures
 
 pub returns : goal.returns
 returns g c =
-    made c.args.unix.now.users.now c.args.unix.now.caller.now.home c.args.unix.now.process.now _ _ _ _ c.in_ok-head.ensures.runs
-    _ c.as_slice.ensures _ c.in_ok-make_child.ensures c.child.result c.child.ensures
+    made _ _ _ _ _ _ _ c.in_ok-head.ensures.runs _ c.as_slice.ensures _ c.in_ok-make_child.ensures _ c.child.ensures

@@ -21,16 +21,14 @@ use Rattle.histar_process.proofs.whoami.whoami.Goals as goal
 lent : (g : given.Over) (c : After-lend_own_label g) (result : Result (Bor Levels) Refusal) → c.lend_own_label.result ≡ result
     → OwnLent c.args.kernel.now c.args.unix.now.caller.now.thread result c.lend_own_label.follows.lender-at-none
 lent g c result is =
-    subst (λ (r : Result (Bor Levels) Refusal). OwnLent c.args.kernel.now c.args.unix.now.caller.now.thread r c.lend_own_label.follows.lender-at-none)
+    subst (λ (r : Result _ Refusal). OwnLent c.args.kernel.now c.args.unix.now.caller.now.thread r c.lend_own_label.follows.lender-at-none)
     is c.lend_own_label.follows.holds-at-none
 
 pub returns-in_err-own : goal.returns-in_err-own
 unfolding whoami_program
 returns-in_err-own g c =
-    call_fails_so c.args.unix.now.caller.now.thread (whoami_program c.args.unix.now.users.now) c.args.kernel.now
-    c.lend_own_label.follows.lender-at-none _ _ c.from_residual.ensures.1
-    (call_fails c.args.unix.now.caller.now.thread (ask OwnLabel) c.args.kernel.now c.lend_own_label.follows.lender-at-none _ _
-    (refuses c.args.unix.now.caller.now.thread OwnLabel c.args.kernel.now c.lend_own_label.follows.lender-at-none _ c.in_err-own.field-0.0
+    call_fails_so _ _ _ c.lend_own_label.follows.lender-at-none _ _ c.from_residual.ensures.1
+    (call_fails _ _ _ c.lend_own_label.follows.lender-at-none _ _ (refuses _ OwnLabel _ c.lend_own_label.follows.lender-at-none _ _
     (lent g (goal.at.returns-in_err-own g c).After-lend_own_label _ c.in_err-own.was)))
 
 pub returns : goal.returns
@@ -44,9 +42,6 @@ returns g c =
     let number = c.user_of-number.result in
     let number_is = sym (user_is own (length users) number c.user_of-number.ensures) in
     let name_is = c.user_name.ensures ∙ ap (user_name users) number_is in
-    then_call c.args.unix.now.caller.now.thread (ask OwnLabel) c.args.kernel.now c.lend_own_label.follows.lender-at-none _
-    c.lend_own_label.follows.lender-at-none labels (grants c.args.unix.now.caller.now.thread OwnLabel c.args.kernel.now
-    c.lend_own_label.follows.lender-at-none labels left.0 left.1.1) _
-    (replies_so c.args.unix.now.caller.now.thread c.lend_own_label.follows.lender-at-none
-    (User (user_name users (user_of own (length users))) (not (is_empty (jobs_in own))))
-    (User c.user_name.result c.is_in_job.result) (λ i. User (name_is i) (c.is_in_job.ensures i)))
+    then_call _ _ _ c.lend_own_label.follows.lender-at-none _ c.lend_own_label.follows.lender-at-none labels (grants _ OwnLabel _
+    c.lend_own_label.follows.lender-at-none labels left.0 left.1.1) _ (replies_so _ c.lend_own_label.follows.lender-at-none
+    (User (user_name users (user_of own (length users))) (not _)) _ (λ i. User (name_is i) (c.is_in_job.ensures i)))
