@@ -19,17 +19,16 @@ left : (g : given.Over) (c : After-set_label g)
     → LeavesPart (Unit {0}) c.args.wrapper.now.thread (hold_job (own_of c.args.wrapper.now) c.args.job) c.args.kernel.now
     (ask (SetClearance (with_level c.args.wrapper.now.clearance c.args.job L3))) c.set_label.new.self
 left g c runs =
-    with_label c.args.wrapper.now.thread (own_of c.args.wrapper.now) c.args.job c.args.kernel.now c.set_label.new.self
-    (label_so _ _ _ _ _ c.in_ok-label.ensures.value (Ok tt) runs)
+    with_label _ (own_of c.args.wrapper.now) _ _ _ (label_so _ _ _ _ _ c.in_ok-label.ensures.value (Ok tt) runs)
 
 pub returns-in_err-label : goal.returns-in_err-label
 returns-in_err-label g c =
-    without_label _ (own_of c.args.wrapper.now) c.args.job _ _ _ _ c.from_residual.ensures.1
+    without_label _ (own_of c.args.wrapper.now) _ _ _ _ _ c.from_residual.ensures.1
     (before_ask c.args.wrapper.now.thread (SetLabel (with_level c.args.wrapper.now.own c.args.job Star)) c.args.kernel.now)
 
 pub returns-in_err-set_label : goal.returns-in_err-set_label
 returns-in_err-set_label g c =
-    without_label _ (own_of c.args.wrapper.now) c.args.job _ _ _ _ c.from_residual-in_err-set_label.ensures.1
+    without_label _ (own_of c.args.wrapper.now) _ _ _ _ _ c.from_residual-in_err-set_label.ensures.1
     (label_so _ _ _ _ _ c.in_ok-label.ensures.value _ (refuses _ _ _ _ _ _ c.in_err-set_label.ensures))
 
 pub returns-in_err-clearance : goal.returns-in_err-clearance

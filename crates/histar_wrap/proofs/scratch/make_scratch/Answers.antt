@@ -35,30 +35,25 @@ module _ (g : given.Over) (c : After-make_segment g) where
 
 pub returns-in_err-same : goal.returns-in_err-same
 returns-in_err-same g c =
-    fails_so _ _ _ _ _ _ c.from_residual.ensures.1
-    (before_scratch c.args.wrapper.now.thread (own_of c.args.wrapper.now) c.args.label c.args.room c.args.kernel.now)
+    fails_so _ _ _ _ _ _ c.from_residual.ensures.1 (before_scratch _ (own_of c.args.wrapper.now) _ _ _)
 
 pub returns-in_err-container : goal.returns-in_err-container
 returns-in_err-container g c =
-    without_container _ (own_of c.args.wrapper.now) c.args.label c.args.room _ _ _ _ c.from_residual-in_err-container.ensures.1
-    c.in_err-container.ensures.runs
+    without_container _ (own_of c.args.wrapper.now) _ _ _ _ _ _ c.from_residual-in_err-container.ensures.1 c.in_err-container.ensures.runs
 
 pub returns-in_err-listing : goal.returns-in_err-listing
 returns-in_err-listing g c =
-    without_listing _ (own_of c.args.wrapper.now) c.args.label c.args.room _ _ c.in_ok-container.container c.in_ok-container.ensures.runs _ _ _
-    c.from_residual-in_err-listing.ensures.1
+    without_listing _ (own_of c.args.wrapper.now) _ _ _ _ _ c.in_ok-container.ensures.runs _ _ _ c.from_residual-in_err-listing.ensures.1
     (listed g (goal.at.returns-in_err-listing g c).After-make_segment _ (refuses _ _ _ _ _ _ c.in_err-listing.ensures))
 
 pub returns-in_err-insert : goal.returns-in_err-insert
 returns-in_err-insert g c =
     fails_so _ _ _ _ _ _ c.from_residual-in_err-insert.ensures.1
     ((left g (goal.at.returns-in_err-insert g c).After-make_segment c.in_ok-listing.listing
-    (grants _ _ _ _ c.in_ok-listing.listing c.in_ok-listing.ensures.0 c.in_ok-listing.ensures.1.0)).leads _ _
-    (before_entries c.args.wrapper.now.thread c.args.room.place
-    (grown c.args.room c.in_ok-container.container c.in_ok-listing.listing) c.make_segment.new.self))
+    (grants _ _ _ _ _ c.in_ok-listing.ensures.0 c.in_ok-listing.ensures.1.0)).leads _ _ (before_entries _ _ (grown c.args.room _ _) _))
 
 pub returns : goal.returns
 returns g c =
     (left g (goal.at.returns g c).After-make_segment c.in_ok-listing.listing
-    (grants _ _ _ _ c.in_ok-listing.listing c.in_ok-listing.ensures.0 c.in_ok-listing.ensures.1.0)).leads _ _
+    (grants _ _ _ _ _ c.in_ok-listing.ensures.0 c.in_ok-listing.ensures.1.0)).leads _ _
     (part_as _ _ _ _ _ (ap (write_entries c.args.room.place) (sym c.in_ok-insert.ensures.ok)) _ c.write_entries.ensures)

@@ -13,15 +13,15 @@ kin_is g c = λ i. record { owned = c.as_slice.ensures.value i; jobs = c.as_slic
 
 pub returns-in_err-make_scratch : goal.returns-in_err-make_scratch
 returns-in_err-make_scratch g c status is =
-    no_scratch _ c.args.parent.now.home.now status c.args.room (planned c.args.plan) _ _ _ _ c.from_residual.ensures.1 c.in_err-make_scratch.ensures
+    no_scratch _ _ status _ _ _ _ _ _ c.from_residual.ensures.1 c.in_err-make_scratch.ensures
 
 pub returns-in_err-give_birth : goal.returns-in_err-give_birth
 returns-in_err-give_birth g c status is =
-    no_birth _ c.args.parent.now.home.now status c.args.room (planned c.args.plan) _ _ c.in_ok-make_scratch.ensures _
+    no_birth _ _ status _ _ _ _ c.in_ok-make_scratch.ensures _
     (kin_is g (goal.at.returns-in_err-give_birth g c).After-give_birth) _ _ _ c.from_residual-in_err-give_birth.ensures.1
     (c.in_err-give_birth.ensures status is)
 
 pub returns : goal.returns
 returns g c status is =
-    held _ c.args.parent.now.home.now status c.args.room (planned c.args.plan) _ _ c.in_ok-make_scratch.ensures _
+    held _ _ status _ _ _ _ c.in_ok-make_scratch.ensures _
     (kin_is g (goal.at.returns g c).After-give_birth) _ _ (c.in_ok-give_birth.ensures status is) _ c.hold_job.ensures

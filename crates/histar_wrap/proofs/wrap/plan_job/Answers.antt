@@ -12,7 +12,7 @@ returns-clause-plan c =
     let user = c.user_of-user.result in
     let jobs = c.in_ok-jobs.jobs.items in
     let label_is =
-    directory_is accounts own job user jobs c.user_of-user.ensures c.in_ok-jobs.ensures c.in_ok-label.label
+    directory_is accounts own job user jobs c.user_of-user.ensures c.in_ok-jobs.ensures _
     (c.in_ok-label.ensures ∙ ap (scratch_label user) c.as_slice.ensures.value) in
-    let kin_so = kin_is accounts own job user jobs c.user_of-user.ensures c.in_ok-jobs.ensures c.in_ok-owned.owned.items c.in_ok-owned.ensures in
+    let kin_so = kin_is accounts own job user jobs c.user_of-user.ensures c.in_ok-jobs.ensures _ c.in_ok-owned.ensures in
     λ i. record { own = (own, c.args.wrapper.clearance); job = job; label = label_is i; kin = kin_so i }

@@ -7,26 +7,19 @@ use Rattle.histar_wrap.proofs.wrap.start_job.Goals as goal
 
 pub returns-in_err-own : goal.returns-in_err-own
 returns-in_err-own g c status is =
-    no_labels c.args.unix.now.users.now c.args.unix.now.caller.now.home status c.args.room _ _ _ _ _ c.from_residual.ensures.1
-    (refuses _ OwnLabel _ _ _ _ c.in_err-own.ensures)
+    no_labels c.args.unix.now.users.now _ status _ _ _ _ _ _ c.from_residual.ensures.1 (refuses _ OwnLabel _ _ _ _ c.in_err-own.ensures)
 
 pub returns-in_err-job : goal.returns-in_err-job
 returns-in_err-job g c status is =
-    no_category c.args.unix.now.users.now c.args.unix.now.caller.now.home status c.args.room _ _ (c.in_ok-own.own, c.in_ok-own.clearance) _
+    no_category c.args.unix.now.users.now _ status _ _ _ _ _
     c.in_ok-own.ensures _ _ _ c.from_residual-in_err-job.ensures.1 (refuses _ MakeCategory _ _ _ _ c.in_err-job.ensures)
 
 pub returns-in_err-plan : goal.returns-in_err-plan
 returns-in_err-plan g c status is =
-    fails_so _ _ _ _ _ _ c.from_residual-in_err-plan.ensures.1
-    ((with_category c.args.unix.now.users.now c.args.unix.now.caller.now.home status c.args.room _ _ (c.in_ok-own.own, c.in_ok-own.clearance) _
-    c.in_ok-own.ensures c.in_ok-job.job _ c.in_ok-job.ensures).leads _ _
-    (before_filling c.args.unix.now.caller.now.thread c.args.unix.now.caller.now.home status c.args.room
-    (plan_for c.args.unix.now.users.now (c.in_ok-own.own, c.in_ok-own.clearance) c.in_ok-job.job) c.make_category.new.self))
+    fails_so _ _ _ _ _ _ c.from_residual-in_err-plan.ensures.1 ((with_category c.args.unix.now.users.now _ status _ _ _ _ _
+    c.in_ok-own.ensures _ _ c.in_ok-job.ensures).leads _ _ (before_filling _ _ status _ _ _))
 
 pub returns : goal.returns
 returns g c status is =
-    (with_category c.args.unix.now.users.now c.args.unix.now.caller.now.home status c.args.room _ _ (c.in_ok-own.own, c.in_ok-own.clearance) _
-    c.in_ok-own.ensures c.in_ok-job.job _ c.in_ok-job.ensures).leads _ _
-    (filled_so c.args.unix.now.caller.now.home status c.args.room _ _ _
-    (plan_for c.args.unix.now.users.now (c.in_ok-own.own, c.in_ok-own.clearance) c.in_ok-job.job) c.in_ok-plan.ensures.plan _ _
-    c.in_ok-plan.ensures.thread _ (c.fill_job.ensures status is))
+    (with_category c.args.unix.now.users.now _ status _ _ _ _ _ c.in_ok-own.ensures _ _ c.in_ok-job.ensures).leads _ _ (filled_so _ status _ _ _ _
+    _ c.in_ok-plan.ensures.plan _ _ c.in_ok-plan.ensures.thread _ (c.fill_job.ensures status is))
