@@ -31,14 +31,14 @@ pub returns-in_err-written : goal.returns-in_err-written
 returns-in_err-written g c =
     ends_so (ask (write_of most_bytes c.args.bytes c.in_ok-file.file)) (λ (done : Unit {0}). Answers Done)
     (writing g (goal.at.returns-in_err-written g c).In_ok-file) c.write.new.self _ _ c.from_residual-in_err-written.ensures.1
-    (asks c.args.unix.now.caller.now.thread (write_of most_bytes c.args.bytes c.in_ok-file.file) c.find_file.new.kernel c.write.new.self c.write.result
-    c.write.ensures _ c.in_err-written.ensures)
+    (asks c.args.unix.now.caller.now.thread (write_of most_bytes c.args.bytes c.in_ok-file.file) c.find_file.new.kernel c.write.new.self
+    c.write.result c.write.ensures _ c.in_err-written.ensures)
 
 pub returns : goal.returns
 returns g c =
     let end = c.write.new.self in
     let written = further (ask (write_of most_bytes c.args.bytes c.in_ok-file.file)) (λ (done : Unit {0}). Answers Done)
     (writing g (goal.at.returns g c).In_ok-file) end tt
-    (asks c.args.unix.now.caller.now.thread (write_of most_bytes c.args.bytes c.in_ok-file.file) c.find_file.new.kernel end c.write.result c.write.ensures _
-    c.in_ok-written.ensures) in
+    (asks c.args.unix.now.caller.now.thread (write_of most_bytes c.args.bytes c.in_ok-file.file) c.find_file.new.kernel end
+    c.write.result c.write.ensures (Ok tt) c.in_ok-written.ensures) in
     written.leads end (Ok Done) (says c.args.unix.now.caller.now.thread end Done)

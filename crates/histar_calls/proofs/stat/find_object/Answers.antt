@@ -1,5 +1,5 @@
 -- Proves the goals of `find_object` of src/stat.rt that the search leaves open.
-use Rattle.std.proofs.Common.{◌≡◌, ℕ, ◌-◌, [], ◌∷◌, Option, length, take, drop, true, refl, sym, ap, subst, arith, Ok, Err}
+use Rattle.std.proofs.Common.{◌≡◌, ℕ, ◌-◌, [], ◌∷◌, Option, length, take, drop, true, sym, ap, subst, arith, Ok, Err}
 use Rattle.histar_flat.specs.Words.{Name, Path}
 use Rattle.histar_rules.specs.Sound.{root_number}
 use Rattle.histar_syscall.specs.KernelModel.{KernelModel}
@@ -41,7 +41,7 @@ begun : (t : ℕ) (roots : Roots) (path : Path) (old : KernelModel) (name : Name
     → LeavesPart FoundObject t (find_object roots path) old (λ rest. find_place roots (parent_of path) (λ place. in_place name place rest)) old
 unfolding find_object
 begun t roots path old name split = record {
-  leads = λ new result on. subst (λ (names : Path). RunsPart (find_object roots names) old new t result) (sym split) on
+  leads = λ new result on. subst (λ (names : Path). RunsPart (find_object roots names) old new t result) (sym split) on;
 }
 
 pub returns-in_default : goal.returns-in_default
