@@ -48,7 +48,8 @@ returns-in-None c =
     let here = (goal.at.returns-in-None c).In-Some in
     let end : (split_at_first slash c.loop.rest.now).1 ≡ None = sym c.split_at_first.ensures.after ∙ ap option_copied c.in-None.is in
     ap Some (c.along.ensures ∙ turned c.loop.names.items c.push.new.self.items c.in-Some.name c.in_ok-push.ensures.items)
-    ∙ sym (last_name (8 - c.loop.counter) (reverse c.loop.names.items) c.loop.rest.now c.in-Some.name (one_left here) (word_is here) end) ∙ c.loop.invariant.0
+    ∙ sym (last_name (8 - c.loop.counter) (reverse c.loop.names.items) c.loop.rest.now c.in-Some.name (one_left here) (word_is here) end)
+    ∙ c.loop.invariant.0
 
 pub loop-preserved : goal.loop-preserved
 loop-preserved c =
