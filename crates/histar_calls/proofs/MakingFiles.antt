@@ -1,5 +1,5 @@
 -- How the code of `create` runs its program, from one part to the next.
-use Rattle.std.proofs.Common.{◌≡◌, ℕ, [], Result, Ok, Err, subst}
+use Rattle.std.proofs.Common.{◌≡◌, ℕ, [], Result, Err, subst}
 use Rattle.std.specs.FinMap as map
 use Rattle.histar_flat.specs.Words.{Path}
 use Rattle.histar_flat.specs.declared.calls.Mode.{Mode}

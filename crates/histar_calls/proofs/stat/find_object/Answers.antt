@@ -1,5 +1,5 @@
 -- Proves the goals of `find_object` of src/stat.rt that the search leaves open.
-use Rattle.std.proofs.Common.{◌≡◌, ℕ, ◌-◌, [], ◌∷◌, Option, length, take, drop, true, refl, sym, ap, subst, arith, Ok, Err}
+use Rattle.std.proofs.Common.{◌≡◌, ℕ, ◌-◌, [], ◌∷◌, Option, length, take, drop, true, sym, ap, subst, arith, Ok, Err}
 use Rattle.histar_flat.specs.Words.{Name, Path}
 use Rattle.histar_rules.specs.Sound.{root_number}
 use Rattle.histar_syscall.specs.KernelModel.{KernelModel}

@@ -10,6 +10,7 @@ use Rattle.std.proofs.lemmas.Option.{cond_some}
 use Rattle.histar_flat.specs.Words.{Name, Path, is_name, is_path, slash, split_at_first, name_of, path_from}
 use Rattle.histar_flat.proofs.PathLemmas.{no_name, last_name, next_name}
 use Rattle.histar_flat.proofs.owned_paths.read_owned_names.Goals as goal
+use Rattle.histar_flat.proofs.owned_paths.read_owned_names.Goals.{In-Some}
 
 -- a path of fewer than eight names leads on to an entry
 leads_on : (name : Name) (path : Path) → length path < 8 → is_name name ≡ true → IsTrue (is_path path) → IsTrue (is_path (name ∷ path))
@@ -34,33 +35,37 @@ returns-in_default c =
     ap name_of (sym c.split_at_first.ensures.before) ∙ sym c.read_name.ensures ∙ c.in_default.is in
     sym (no_name (8 - c.loop.counter) (reverse c.loop.names.items) c.loop.rest.now none) ∙ c.loop.invariant.0
 
+-- the word before the slash is the name
+word_is : (c : In-Some) → name_of (split_at_first slash c.loop.rest.now).0 ≡ Some c.in-Some.name
+word_is c = ap name_of (sym c.split_at_first.ensures.before) ∙ sym c.read_name.ensures ∙ c.in-Some.is
+
+-- one more name may come
+one_left : (c : In-Some) → 0 < 8 - c.loop.counter
+one_left c = omega (arith, c.loop-test.true)
+
 pub returns-in-None : goal.returns-in-None
 returns-in-None c =
-    let path = reverse c.loop.names.items in
-    let is : name_of (split_at_first slash c.loop.rest.now).0 ≡ Some c.in-Some.name =
-    ap name_of (sym c.split_at_first.ensures.before) ∙ sym c.read_name.ensures ∙ c.in-Some.is in
+    let here = (goal.at.returns-in-None c).In-Some in
     let end : (split_at_first slash c.loop.rest.now).1 ≡ None = sym c.split_at_first.ensures.after ∙ ap option_copied c.in-None.is in
-    let left : 0 < 8 - c.loop.counter = omega (arith, c.loop-test.true) in
     ap Some (c.along.ensures ∙ turned c.loop.names.items c.push.new.self.items c.in-Some.name c.in_ok-push.ensures.items)
-    ∙ sym (last_name (8 - c.loop.counter) path c.loop.rest.now c.in-Some.name left is end) ∙ c.loop.invariant.0
+    ∙ sym (last_name (8 - c.loop.counter) (reverse c.loop.names.items) c.loop.rest.now c.in-Some.name (one_left here) (word_is here) end)
+    ∙ c.loop.invariant.0
 
 pub loop-preserved : goal.loop-preserved
 loop-preserved c =
     let path = reverse c.loop.names.items in
     let others = c.in-Some-after.others.now in
-    let is : name_of (split_at_first slash c.loop.rest.now).0 ≡ Some c.in-Some.name =
-    ap name_of (sym c.split_at_first.ensures.before) ∙ sym c.read_name.ensures ∙ c.in-Some.is in
     let on : (split_at_first slash c.loop.rest.now).1 ≡ Some others =
     sym c.split_at_first.ensures.after ∙ ap option_copied c.in-Some-after.is in
-    let left : 0 < 8 - c.loop.counter = omega (arith, c.loop-test.true) in
     let less : 8 - (c.loop.counter + 1) ≡ 8 - c.loop.counter - 1 = omega arith in
     let longer = turned c.loop.names.items c.push.new.self.items c.in-Some.name c.in_ok-push.ensures.items in (
-      (λ i. path_from (less i) (longer i) others) ∙ sym (next_name (8 - c.loop.counter) path c.loop.rest.now others c.in-Some.name left is on)
+      (λ i. path_from (less i) (longer i) others) ∙ sym (next_name (8 - c.loop.counter) path c.loop.rest.now others c.in-Some.name
+          (one_left (goal.at.loop-preserved c).In-Some) (word_is (goal.at.loop-preserved c).In-Some) on)
           ∙ c.loop.invariant.0,
       ap length longer ∙ omega (arith, c.loop.invariant.1),
       subst (λ (p : Path). IsTrue (is_path p)) (sym longer)
           (leads_on c.in-Some.name path (omega (arith, c.loop.invariant.1, c.loop-test.true))
-          (spelled (split_at_first slash c.loop.rest.now).0 c.in-Some.name is) c.loop.invariant.2),
+          (spelled (split_at_first slash c.loop.rest.now).0 c.in-Some.name (word_is (goal.at.loop-preserved c).In-Some)) c.loop.invariant.2),
     )
 
 pub returns : goal.returns

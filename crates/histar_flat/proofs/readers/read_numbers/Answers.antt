@@ -12,25 +12,24 @@ returns-in_default c =
 
 pub returns-in_err-read_child_number : goal.returns-in_err-read_child_number
 returns-in_err-read_child_number c =
-    let some : option_copied c.loop.rest ≡ Some c.in-Some.text.now = ap option_copied c.in-Some.is in
     let none : number_of is_child_number (split_at_first dot c.in-Some.text.now).0 ≡ None =
     ap (number_of is_child_number) (sym c.split_at_dot.ensures.before) ∙ sym c.read_child_number.ensures
     ∙ c.in_err-read_child_number.was in
     c.from_residual.ensures
-    ∙ sym (ap (process_from (7 - c.loop.counter) c.loop.process) some ∙ no_number (7 - c.loop.counter) c.loop.process c.in-Some.text.now none)
+    ∙ sym (ap (process_from (7 - c.loop.counter) c.loop.process) (ap option_copied c.in-Some.is)
+    ∙ no_number (7 - c.loop.counter) c.loop.process c.in-Some.text.now none)
     ∙ c.loop.invariant.0
 
 pub loop-preserved : goal.loop-preserved
 loop-preserved c =
     let number = c.in_ok-read_child_number.field-0 in
-    let some : option_copied c.loop.rest ≡ Some c.in-Some.text.now = ap option_copied c.in-Some.is in
     let is : number_of is_child_number (split_at_first dot c.in-Some.text.now).0 ≡ Some number =
     ap (number_of is_child_number) (sym c.split_at_dot.ensures.before) ∙ sym c.read_child_number.ensures
     ∙ c.in_ok-read_child_number.was in
     let left : 0 < 7 - c.loop.counter = omega (arith, c.loop-test.true) in
     let less : 7 - (c.loop.counter + 1) ≡ 7 - c.loop.counter - 1 = omega arith in
     rw (c.child-process.ensures, less, c.split_at_dot.ensures.after) (
-      sym (ap (process_from (7 - c.loop.counter) c.loop.process) some
+      sym (ap (process_from (7 - c.loop.counter) c.loop.process) (ap option_copied c.in-Some.is)
           ∙ next_number (7 - c.loop.counter) c.loop.process c.in-Some.text.now number left is) ∙ c.loop.invariant.0,
       omega (arith, c.loop.invariant.1),
     )

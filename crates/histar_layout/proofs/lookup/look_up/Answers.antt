@@ -1,20 +1,36 @@
 -- Proves the goals of `look_up` of src/lookup.rt that the search leaves open.
-use Rattle.std.proofs.Common.{◌≡◌, ℕ, ◌+◌, ◌-◌, ◌<◌, List, Bool, length, get_or, sym, ap, ◌∙◌, arith}
-use Rattle.std.specs.Prelude.{slice_range}
+use Rattle.std.proofs.Common.{◌≡◌, ℕ, ◌+◌, ◌-◌, ◌<◌, List, Bool, Some, length, get_or, sym, ap, ◌∙◌, arith}
+use Rattle.std.specs.Prelude.{slice_get, slice_range}
 use Rattle.std.proofs.lemmas.Option.{slice_get-get_or}
 use Rattle.histar_flat.specs.PathOrder.{same}
 use Rattle.histar_layout.proofs.LookingUp.{all_left, found_there, left_over}
 use Rattle.histar_layout.proofs.LookingUp.{stepped_over, out_of_reach, found_in_directory, has_bytes}
 use Rattle.histar_layout.proofs.lookup.look_up.Goals as goal
+use Rattle.histar_layout.proofs.lookup.look_up.Goals.{After-is_before, In-entries}
 
 -- comparing with the bytes of a name compares with the name
-compared : (bytes wanted name : List ℕ) (start len : ℕ) (result test : Bool) → wanted ≡ name → len ≡ length wanted
-    → result ≡ same wanted (slice_range bytes (start + len + 18 - 17 - length wanted) (start + len + 18 - 17)) → result ≡ test
-    → same name (slice_range bytes (start + 1) (start + 1 + len)) ≡ test
-compared bytes wanted name start len result test is long value was =
+compared : (bytes wanted name : List ℕ) (start len : ℕ) (result : Bool) → wanted ≡ name → len ≡ length wanted
+    → result ≡ same wanted (slice_range bytes (start + len + 18 - 17 - length wanted) (start + len + 18 - 17))
+    → same name (slice_range bytes (start + 1) (start + 1 + len)) ≡ result
+compared bytes wanted name start len result is long value =
     let from : start + 1 ≡ start + len + 18 - 17 - length wanted = omega (arith, long) in
     let to : start + 1 + len ≡ start + len + 18 - 17 = omega arith in
-    (λ i. same (sym is i) (slice_range bytes (from i) (to i))) ∙ sym value ∙ was
+    (λ i. same (sym is i) (slice_range bytes (from i) (to i))) ∙ sym value
+
+-- the bytes go on where an entry begins
+there : (c : In-entries) → c.entries.start < length c.args.bytes.now
+there c = omega (arith, c.if-bytes-size.false, c.entries-test.true)
+
+-- the first byte of an entry is read
+read_there : (c : In-entries) → slice_get c.args.bytes.now c.entries.start ≡ Some (get_or c.args.bytes.now c.entries.start 0)
+read_there c = slice_get-get_or c.args.bytes.now c.entries.start 0 (there c)
+
+-- the test is whether the entry has the name
+test_is : (c : After-is_before) → same c.args.name.now (slice_range c.args.bytes.now (c.entries.start + 1)
+    (c.entries.start + 1 + get_or c.args.bytes.now c.entries.start 0)) ≡ c.is_before.result
+test_is c =
+    compared c.args.bytes.now c.as_bytes-wanted.result.now c.args.name.now c.entries.start (get_or c.args.bytes.now c.entries.start 0)
+    c.is_before.result c.as_bytes-wanted.ensures.value c.if-len-wanted.true c.is_before.ensures
 
 pub overflow_sub-last : goal.overflow_sub-last
 overflow_sub-last c = omega (arith, has_bytes c.args.name.now c.as_bytes-wanted.ensures.right, ap length c.as_bytes-wanted.ensures.value)
@@ -31,20 +47,16 @@ entries-init c = all_left c.args.bytes.now c.args.name.now
 
 pub entries-preserved : goal.entries-preserved
 entries-preserved c =
-    let there : c.entries.start < length c.args.bytes.now = omega (arith, c.if-bytes-size.false, c.entries-test.true) in
-    let read = slice_get-get_or c.args.bytes.now c.entries.start 0 there in
-    stepped_over c.args.bytes.now c.args.name.now c.entries.start (get_or c.args.bytes.now c.entries.start 0) read c.entries.invariant
+    stepped_over c.args.bytes.now c.args.name.now c.entries.start (get_or c.args.bytes.now c.entries.start 0)
+    (read_there (goal.at.entries-preserved c).In-entries) c.entries.invariant
     (λ e. c.if-len-wanted.false (sym e ∙ ap length (sym c.as_bytes-wanted.ensures.value)))
 
 pub entries-preserved-else-is_before : goal.entries-preserved-else-is_before
 entries-preserved-else-is_before c =
-    let there : c.entries.start < length c.args.bytes.now = omega (arith, c.if-bytes-size.false, c.entries-test.true) in
-    let read = slice_get-get_or c.args.bytes.now c.entries.start 0 there in
-    left_over c.args.bytes.now c.args.name.now c.entries.start (get_or c.args.bytes.now c.entries.start 0) read c.entries.invariant
+    left_over c.args.bytes.now c.args.name.now c.entries.start (get_or c.args.bytes.now c.entries.start 0)
+    (read_there (goal.at.entries-preserved-else-is_before c).In-entries) c.entries.invariant
     (omega (arith, c.if-bytes-size.false, c.entries-test.true, c.if-len-wanted.true))
-    (compared c.args.bytes.now c.as_bytes-wanted.result.now c.args.name.now c.entries.start (get_or c.args.bytes.now c.entries.start 0)
-    c.is_before.result _
-    c.as_bytes-wanted.ensures.value c.if-len-wanted.true c.is_before.ensures c.if-is_before.false)
+    (test_is (goal.at.entries-preserved-else-is_before c).After-is_before ∙ c.if-is_before.false)
 
 pub returns-then-bytes-size-clause-found : goal.returns-then-bytes-size-clause-found
 returns-then-bytes-size-clause-found c =
@@ -58,14 +70,11 @@ returns-then-bytes-size-clause-entry c dir is =
 
 pub returns-then-is_before-clause-found : goal.returns-then-is_before-clause-found
 returns-then-is_before-clause-found c =
-    let there : c.entries.start < length c.args.bytes.now = omega (arith, c.if-bytes-size.false, c.entries-test.true) in
-    let read = slice_get-get_or c.args.bytes.now c.entries.start 0 there in
     c.target_from.ensures
-    ∙ sym (found_there c.args.bytes.now c.args.name.now c.entries.start (get_or c.args.bytes.now c.entries.start 0) read c.entries.invariant
+    ∙ sym (found_there c.args.bytes.now c.args.name.now c.entries.start (get_or c.args.bytes.now c.entries.start 0)
+    (read_there (goal.at.returns-then-is_before-clause-found c).In-entries) c.entries.invariant
     (omega (arith, c.if-bytes-size.false, c.entries-test.true, c.if-len-wanted.true))
-    (compared c.args.bytes.now c.as_bytes-wanted.result.now c.args.name.now c.entries.start (get_or c.args.bytes.now c.entries.start 0)
-    c.is_before.result _
-    c.as_bytes-wanted.ensures.value c.if-len-wanted.true c.is_before.ensures c.if-is_before.true))
+    (test_is (goal.at.returns-then-is_before-clause-found c).After-is_before ∙ c.if-is_before.true))
 
 pub returns-then-is_before-clause-entry : goal.returns-then-is_before-clause-entry
 returns-then-is_before-clause-entry c dir is =
