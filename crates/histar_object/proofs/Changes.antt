@@ -3,7 +3,7 @@ use Rattle.std.proofs.Common.{◌≡◌, ◌≢◌, ℕ, ◌==◌, None, Some, i
 use Rattle.std.specs.Prelude.{option_map}
 use Rattle.std.proofs.lemmas.Bool.Decides.{eqb_tells}
 use Rattle.histar_object.specs.declared.objects.Object.{Object}
-use Rattle.histar_object.specs.Objects.{Objects, put, without, changed_at}
+use Rattle.histar_object.specs.Objects.{Objects, put, changed_at}
 
 module _ {L : Type 0} (objects : Objects L) (n : ℕ) where
   -- at the number itself by the first fact, and elsewhere by the second

@@ -1,8 +1,8 @@
 -- Looking up slots in a list by places and in a map after it, where no number is there twice.
 use Prim.Native.Nat as Nat
-use Rattle.std.proofs.Common.{◌≡◌, ◌≢◌, ℕ, suc, ◌+◌, ◌<◌, ◌≤◌, Bool, true, false, cond, List, [], ◌∷◌, ◌++◌, length, Option, None, Some, inl, inr}
+use Rattle.std.proofs.Common.{◌≡◌, ℕ, suc, ◌+◌, ◌<◌, Bool, true, false, cond, List, [], ◌∷◌, ◌++◌, length, Option, None, Some, inl, inr}
 use Rattle.std.proofs.Common.{refl, sym, ap, subst, ◌∙◌, arith}
-use Rattle.std.specs.Prelude.{nat_eq, slice_get, slice_set, IsSome}
+use Rattle.std.specs.Prelude.{nat_eq, slice_set}
 use Rattle.std.specs.Cmp.{nat_eq_equiv}
 use Rattle.std.specs.List.{IsDistinct, AllByRecursion}
 use Rattle.std.specs.Map.{keys_of, lookup}
@@ -11,7 +11,7 @@ use Rattle.std.proofs.Math.Dec.{eqb-suc-suc, eqb-suc-zero, eqb-zero-suc}
 use Rattle.std.proofs.lemmas.Bool.{ne_eqb}
 use Rattle.std.proofs.lemmas.Bool.Decides.{eqb_tells}
 use Rattle.std.proofs.lemmas.Option.{slice_get_cases}
-use Rattle.histar_object.specs.Slots.{place, numbered, flat, in_place, AreApart}
+use Rattle.histar_object.specs.Slots.{numbered, flat, in_place, AreApart}
 
 -- the slot that a number has
 abbrev slot_at : List (ℕ × ℕ) → ℕ → Option ℕ

@@ -3,7 +3,7 @@ use Rattle.std.proofs.Common.{Ok}
 use Rattle.histar_flat.specs.FlatCalls.{most_bytes}
 use Rattle.histar_flat.specs.declared.replies.Reply.TheVariants.{Done}
 use Rattle.histar_programs.specs.Programs.Program.{Answers}
-use Rattle.histar_programs.specs.Parts.{ask, find_file}
+use Rattle.histar_programs.specs.Parts.{ask}
 use Rattle.histar_programs.proofs.Exits.{Leaves, ends_so, further}
 use Rattle.histar_programs.proofs.Running.{asks, says}
 use Rattle.histar_calls.specs.Append.{append_program}
@@ -34,6 +34,6 @@ returns g c =
     let end = c.write.new.self in
     let written = further (ask (write_of most_bytes c.args.bytes c.in_ok-file.file)) (λ (done : Unit {0}). Answers Done)
     (writing g (goal.at.returns g c).In_ok-file) end tt
-    (asks c.args.unix.now.caller.now.thread (write_of most_bytes c.args.bytes c.in_ok-file.file) c.find_file.new.kernel end c.write.result c.write.ensures _
+    (asks _ (write_of most_bytes c.args.bytes c.in_ok-file.file) _ end _ c.write.ensures _
     c.in_ok-written.ensures) in
     written.leads end (Ok Done) (says c.args.unix.now.caller.now.thread end Done)

@@ -1,9 +1,9 @@
 -- Proves the goals of `add_file` of src/create.rt that the search leaves open.
-use Rattle.std.proofs.Common.{[], Err, sym, ap, refl}
-use Rattle.histar_rules.specs.declared.raw.RawCall.TheVariants.{MakeSegment, Write}
+use Rattle.std.proofs.Common.{Err, sym, ap, refl}
+use Rattle.histar_rules.specs.declared.raw.RawCall.TheVariants.{Write}
 use Rattle.histar_layout.specs.Directory.{spelling}
 use Rattle.histar_programs.specs.declared.call_error.CallError.TheVariants.{Stopped}
-use Rattle.histar_programs.specs.Parts.{ask, write_entries}
+use Rattle.histar_programs.specs.Parts.{write_entries}
 use Rattle.histar_calls.specs.Create.{add_file}
 use Rattle.histar_programs.proofs.Exits.{LeavesPart, ends_in_so, further_in, whole_part}
 use Rattle.histar_programs.proofs.Making.{makes}

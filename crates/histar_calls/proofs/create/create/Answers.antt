@@ -2,8 +2,7 @@
 use Rattle.std.proofs.Common.{Ok}
 use Rattle.histar_flat.specs.declared.replies.Reply.TheVariants.{Done}
 use Rattle.histar_programs.specs.Programs.Program.{Answers}
-use Rattle.histar_programs.specs.Parts.{find_room}
-use Rattle.histar_calls.specs.Create.{make_file, create_program}
+use Rattle.histar_calls.specs.Create.{create_program}
 use Rattle.histar_programs.proofs.Exits.{Leaves, ends_so, further}
 use Rattle.histar_calls.proofs.MakingFiles.{after_room, begun}
 use Rattle.histar_programs.proofs.Running.{says}

@@ -4,7 +4,6 @@ use Rattle.histar_rules.specs.declared.raw.RawCall.TheVariants.{OwnLabel}
 use Rattle.histar_syscall.specs.KernelModel.{OwnLent}
 use Rattle.histar_layout.specs.Categories.{label_made}
 use Rattle.histar_programs.specs.declared.call_error.CallError.TheVariants.{Stopped}
-use Rattle.histar_programs.specs.Parts.{ask}
 use Rattle.histar_calls.specs.Create.{add_file, make_file}
 use Rattle.histar_programs.proofs.Exits.{LeavesPart, ends_in_so, further_in, whole_part}
 use Rattle.histar_calls.proofs.MakingFiles.{adds_so, after_own, before_adding}

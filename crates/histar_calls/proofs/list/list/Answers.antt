@@ -3,7 +3,6 @@ use Rattle.std.proofs.Common.{ap, ◌∙◌, ◌++◌}
 use Rattle.histar_flat.specs.declared.replies.Reply.TheVariants.{Entries}
 use Rattle.histar_layout.specs.Listing.{names_in}
 use Rattle.histar_programs.specs.declared.call_error.CallError.TheVariants.{Stopped}
-use Rattle.histar_programs.specs.Parts.{walk_to}
 use Rattle.histar_calls.specs.ListCall.{list_program}
 use Rattle.histar_programs.proofs.Directories.{before_walk}
 use Rattle.histar_programs.proofs.Running.{then_call, call_fails, call_fails_so, replies_so}

@@ -2,7 +2,7 @@
 use Rattle.std.proofs.Common.{Ok}
 use Rattle.histar_flat.specs.declared.replies.Reply.TheVariants.{Data}
 use Rattle.histar_programs.specs.Programs.Program.{Answers}
-use Rattle.histar_programs.specs.Parts.{ask, find_file}
+use Rattle.histar_programs.specs.Parts.{ask}
 use Rattle.histar_programs.proofs.Exits.{Leaves, ends_so, further}
 use Rattle.histar_programs.proofs.Running.{grants, refuses, says}
 use Rattle.histar_calls.specs.Read.{read_program}

@@ -8,7 +8,6 @@ use Rattle.histar_layout.specs.declared.entry.Target.{Target}
 use Rattle.histar_programs.specs.declared.roots.Place.{Place}
 use Rattle.histar_programs.specs.declared.roots.Roots.{Roots}
 use Rattle.histar_calls.specs.declared.stat.FoundObject.{FoundObject}
-use Rattle.histar_programs.specs.declared.call_error.CallError.TheVariants.{Refused}
 use Rattle.histar_programs.specs.Programs.{Part, RunsPart}
 use Rattle.histar_programs.specs.Parts.{entry_at, find_place, given as passed, look_in}
 use Rattle.histar_calls.specs.StatCall.{find_object}

@@ -3,7 +3,7 @@ use Rattle.std.proofs.Common.{length, ◌∙◌, arith}
 use Rattle.histar_container.proofs.Keeping.{on_err}
 use Rattle.histar_flat.proofs.WordLemmas.{short_password}
 use Rattle.histar_syscall.proofs.Runs.{same_kernel}
-use Rattle.histar_layout.specs.Categories.{owners_among, owners_of}
+use Rattle.histar_layout.specs.Categories.{owners_among}
 use Rattle.histar_login.specs.Booting.{BeginsUser}
 use Rattle.histar_login.proofs.Stages.{password_allowed, login_allowed, user_begun_none, user_begun_one, user_boots, password_made, gate_made}
 use Rattle.histar_login.proofs.Stages.{gate_allowed_for}

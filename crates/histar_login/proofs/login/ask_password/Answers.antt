@@ -3,7 +3,6 @@ use Rattle.std.proofs.Common.{Result, subst}
 use Rattle.histar_rules.specs.declared.raw.RawCall.TheVariants.{Read}
 use Rattle.histar_syscall.specs.KernelModel.{ReadsLent}
 use Rattle.histar_programs.proofs.Running.{fails_so, grants, refuses}
-use Rattle.histar_login.specs.Login.{ask_password}
 use Rattle.histar_login.proofs.LoginRuns.{asks_none, asks_password, reads}
 use Rattle.histar_login.proofs.login.ask_password.Goals as goal
 

@@ -1,20 +1,16 @@
 -- Proves the goals of `login` of src/login.rt that the search leaves open.
 use Rattle.std.proofs.Common.{◌≡◌, Result, Ok, sym, ap, ◌∙◌}
 use Rattle.std.specs.Result.{IsErrAnd}
-use Rattle.histar_flat.specs.declared.replies.Errno.TheVariants.{ENOENT}
 use Rattle.histar_flat.specs.declared.replies.Reply.{Reply}
-use Rattle.histar_flat.specs.declared.replies.Reply.TheVariants.{Refused}
 use Rattle.histar_rules.specs.declared.raw.RawCall.TheVariants.{OwnLabel}
 use Rattle.histar_layout.specs.Categories.{owners_of}
 use Rattle.histar_programs.specs.declared.call_error.CallError.{CallError}
 use Rattle.histar_programs.specs.declared.call_error.CallError.TheVariants.{Stopped}
 use Rattle.histar_programs.specs.Refusals.{settled}
 use Rattle.histar_programs.specs.Programs.{Runs}
-use Rattle.histar_programs.specs.Programs.Program.{Answers}
-use Rattle.histar_programs.specs.Parts.{ask}
 use Rattle.histar_programs.proofs.Exits.{ends_so}
 use Rattle.histar_programs.proofs.Running.{says, runs_as, before_ask}
-use Rattle.histar_login.specs.Login.{login_as_program, login_program}
+use Rattle.histar_login.specs.Login.{login_program}
 use Rattle.histar_login.proofs.LoginRuns.{after_own, begun}
 use Rattle.histar_login.proofs.Numbers.{login_of, login_numbered}
 use Rattle.histar_login.proofs.login.login.Given as given

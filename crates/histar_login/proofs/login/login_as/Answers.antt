@@ -1,10 +1,9 @@
 -- Proves the goals of `login_as` of src/login.rt that the search leaves open.
 use Rattle.std.proofs.Common.{Ok}
 use Rattle.histar_rules.specs.declared.raw.RawCall.TheVariants.{OwnLabel}
-use Rattle.histar_programs.specs.Parts.{ask}
 use Rattle.histar_programs.proofs.Exits.{Leaves, ends_so, further}
 use Rattle.histar_programs.proofs.Running.{grants, refuses, replies_so}
-use Rattle.histar_login.specs.Login.{ask_password, entering, login_as_program, reply_if, take_due}
+use Rattle.histar_login.specs.Login.{login_as_program}
 use Rattle.histar_login.proofs.LoginRuns.{after_due, after_gate, after_own, after_password, begun}
 use Rattle.histar_login.proofs.login.login_as.Given as given
 use Rattle.histar_login.proofs.login.login_as.Goals as goal

@@ -1,9 +1,9 @@
 -- Proves the goals of `take_due` of src/login.rt that the search leaves open.
 use Rattle.std.proofs.Common.{Err}
-use Rattle.histar_rules.specs.declared.raw.RawCall.TheVariants.{SetLabel, SetClearance}
+use Rattle.histar_rules.specs.declared.raw.RawCall.TheVariants.{SetLabel}
 use Rattle.histar_programs.specs.declared.call_error.CallError.TheVariants.{Stopped}
 use Rattle.histar_programs.proofs.Running.{before_ask, fails_so, grants, refuses}
-use Rattle.histar_login.specs.Login.{label_if, take_due}
+use Rattle.histar_login.specs.Login.{label_if}
 use Rattle.histar_login.proofs.LoginRuns.{takes_clearance, takes_due, takes_label, takes_none}
 use Rattle.histar_login.proofs.login.take_due.Goals as goal
 

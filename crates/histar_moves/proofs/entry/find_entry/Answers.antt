@@ -1,8 +1,6 @@
 -- Proves the goals of `find_entry` of src/entry.rt that the search leaves open.
-use Rattle.std.proofs.Common.{◌-◌, [], length, take, drop, refl, ap, arith, Err}
+use Rattle.std.proofs.Common.{◌-◌, length, take, drop, refl, ap, arith, Err}
 use Rattle.histar_flat.specs.declared.replies.Errno.TheVariants.{EBUSY}
-use Rattle.histar_programs.specs.declared.call_error.CallError.TheVariants.{Refused}
-use Rattle.histar_programs.specs.Parts.{entry_at, target_named}
 use Rattle.histar_programs.proofs.Directories.{no_names, first_of_names}
 use Rattle.histar_programs.proofs.Finding.{walk_failed, walked, decides, decides_not}
 use Rattle.histar_programs.proofs.Running.{fails_so, part_as, refuses_at_once}

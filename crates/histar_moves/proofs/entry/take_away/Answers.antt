@@ -1,8 +1,6 @@
 -- Proves the goals of `take_away` of src/entry.rt that the search leaves open.
-use Rattle.std.specs.FinMap as map
 use Rattle.histar_rules.specs.declared.raw.RawCall.TheVariants.{Unlink}
 use Rattle.histar_programs.proofs.Running.{grants, refuses, fails_so}
-use Rattle.histar_moves.specs.Parts.{take_away}
 use Rattle.histar_moves.proofs.TakingAway.{writes_due, unlinks, unlink_fails, takes_away}
 use Rattle.histar_moves.proofs.entry.take_away.Goals as goal
 

@@ -2,13 +2,11 @@
 use Rattle.std.proofs.Common.{Ok, Err}
 use Rattle.std.specs.FinMap as map
 use Rattle.histar_flat.specs.declared.replies.Reply.TheVariants.{Done}
-use Rattle.histar_rules.specs.declared.raw.RawCall.TheVariants.{Write}
-use Rattle.histar_layout.specs.Directory.{spelling}
-use Rattle.histar_programs.specs.declared.call_error.CallError.TheVariants.{Refused, Stopped}
+use Rattle.histar_programs.specs.declared.call_error.CallError.TheVariants.{Stopped}
 use Rattle.histar_programs.specs.Parts.{write_entries}
 use Rattle.histar_programs.specs.Programs.Program.{Answers}
 use Rattle.histar_programs.proofs.Running.{before_ask, then_call, call_fails, call_fails_so, says}
-use Rattle.histar_moves.specs.Parts.{find_entry, must_be_free}
+use Rattle.histar_moves.specs.Parts.{must_be_free}
 use Rattle.histar_moves.specs.Rename.{rename_program}
 use Rattle.histar_moves.proofs.Deciding.{goes_on, is_refused}
 use Rattle.histar_moves.proofs.TakingAway.{writes_due}

@@ -2,7 +2,6 @@
 use Rattle.histar_flat.specs.declared.replies.Reply.TheVariants.{Done}
 use Rattle.histar_programs.specs.Programs.Program.{Answers}
 use Rattle.histar_programs.proofs.Running.{then_call, call_fails, call_fails_so, says}
-use Rattle.histar_moves.specs.Parts.{find_entry, take_away}
 use Rattle.histar_moves.specs.Rmtree.{rmtree_program}
 use Rattle.histar_moves.proofs.rmtree.rmtree.Goals as goal
 

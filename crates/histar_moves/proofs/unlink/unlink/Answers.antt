@@ -1,9 +1,8 @@
 -- Proves the goals of `unlink` of src/unlink.rt that the search leaves open.
 use Rattle.histar_flat.specs.declared.replies.Reply.TheVariants.{Done}
-use Rattle.histar_programs.specs.declared.call_error.CallError.TheVariants.{Refused}
 use Rattle.histar_programs.specs.Programs.Program.{Answers}
 use Rattle.histar_programs.proofs.Running.{then_call, call_fails, call_fails_so, says}
-use Rattle.histar_moves.specs.Parts.{find_entry, must_be_file, take_away}
+use Rattle.histar_moves.specs.Parts.{take_away}
 use Rattle.histar_moves.specs.Unlink.{unlink_program}
 use Rattle.histar_moves.proofs.Deciding.{goes_on, is_refused}
 use Rattle.histar_moves.proofs.unlink.unlink.Goals as goal

@@ -1,5 +1,4 @@
 -- Proves the goals of `slots_are_apart` of src/table.rt that the search leaves open.
-use Rattle.slab.specs.Slab.{get}
 use Rattle.histar_object.proofs.Placing.{slot_none}
 use Rattle.histar_object.proofs.table.slots_are_apart.Goals as goal
 

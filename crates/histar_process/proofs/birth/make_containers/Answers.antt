@@ -1,6 +1,5 @@
 -- Proves the goals of `make_containers` of src/birth.rt that the search leaves open.
 use Rattle.histar_programs.proofs.Running.{fails_so}
-use Rattle.histar_process.specs.Births.{make_containers}
 use Rattle.histar_process.proofs.Births.{no_container, no_internal, containers}
 use Rattle.histar_process.proofs.birth.make_containers.Goals as goal
 

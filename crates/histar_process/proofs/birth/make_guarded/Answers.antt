@@ -2,7 +2,6 @@
 use Rattle.std.proofs.Common.{[], ◌∷◌, ◌++◌}
 use Rattle.histar_rules.specs.declared.raw.RawCall.TheVariants.{MakeContainer}
 use Rattle.histar_layout.specs.Labelling.{guarded_by}
-use Rattle.histar_programs.specs.Parts.{ask}
 use Rattle.histar_programs.specs.declared.call_error.CallError.TheVariants.{Stopped}
 use Rattle.histar_programs.proofs.Running.{grants, refuses, before_ask, fails_so}
 use Rattle.histar_process.proofs.Births.{container_so}

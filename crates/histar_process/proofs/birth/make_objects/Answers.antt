@@ -1,5 +1,4 @@
 -- Proves the goals of `make_objects` of src/birth.rt that the search leaves open.
-use Rattle.histar_layout.specs.Status.{with_child_listed}
 use Rattle.histar_programs.proofs.Running.{fails_so}
 use Rattle.histar_process.proofs.Births.{before_write, with_segment, without_body, without_segment, written_so}
 use Rattle.histar_process.proofs.birth.make_objects.Goals as goal

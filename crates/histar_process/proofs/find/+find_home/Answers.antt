@@ -1,10 +1,8 @@
 -- Proves the goals of `+find_home` of src/find.rt that the search leaves open.
 use Rattle.std.proofs.Common.{◌-◌, length, get_or, take, drop, Ok, Err, sym, subst, arith}
-use Rattle.histar_programs.specs.declared.call_error.CallError.TheVariants.{Refused}
 use Rattle.histar_programs.proofs.Running.{fails_so}
 use Rattle.histar_programs.specs.declared.roots.Home.{Home}
 use Rattle.histar_programs.specs.Programs.{RunsPart}
-use Rattle.histar_process.specs.Parts.{find_home}
 use Rattle.histar_process.proofs.Segments.{no_numbers, first_of_numbers, into_fails, into_child, into_none, finds_first, find_fails, finds_on, into}
 use Rattle.histar_process.proofs.find.+find_home.Goals as goal
 

@@ -1,7 +1,6 @@
 -- Proves the goals of `read_segment` of src/find.rt that the search leaves open.
 use Rattle.std.proofs.Common.{ℕ, List, None, Some, ◌≡◌, subst}
 use Rattle.std.specs.Prelude.{option_map}
-use Rattle.histar_rules.specs.declared.raw.RawCall.TheVariants.{Read}
 use Rattle.histar_layout.specs.Status.{head_of, status_in}
 use Rattle.histar_programs.proofs.Running.{grants, refuses}
 use Rattle.histar_process.proofs.Segments.{read_fails, reading_fails, segment_none, segment_read}

@@ -1,6 +1,5 @@
 -- Proves the goals of `kill` of src/kill.rt that the search leaves open.
-use Rattle.std.proofs.Common.{◌∷◌, ◌-◌, [], length, get_or, take, drop, ap, sym, ◌∙◌, arith}
-use Rattle.histar_programs.specs.Refusals.{settled}
+use Rattle.std.proofs.Common.{◌∷◌, ◌-◌, length, get_or, take, drop, ap, sym, ◌∙◌, arith}
 use Rattle.histar_programs.proofs.Running.{runs_as}
 use Rattle.histar_process.specs.KillCall.{kill_program}
 use Rattle.histar_process.proofs.Segments.{no_numbers, first_of_numbers}

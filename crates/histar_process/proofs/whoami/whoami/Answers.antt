@@ -7,11 +7,9 @@ use Rattle.histar_rules.specs.declared.raw.RawCall.TheVariants.{OwnLabel}
 use Rattle.histar_rules.specs.declared.raw.Refusal.{Refusal}
 use Rattle.histar_syscall.specs.KernelModel.{OwnLent}
 use Rattle.histar_layout.specs.Categories.{user_of}
-use Rattle.histar_programs.specs.Parts.{ask}
 use Rattle.histar_programs.proofs.Running.{grants, refuses, then_call, call_fails, call_fails_so, replies_so}
 use Rattle.histar_layout.proofs.UserOf.{user_is}
 use Rattle.histar_programs.specs.Kin.{user_name}
-use Rattle.histar_layout.specs.Jobs.{is_empty, jobs_in}
 use Rattle.histar_process.specs.Whoami.{whoami_program}
 use Rattle.histar_process.proofs.whoami.whoami.Given as given
 use Rattle.histar_process.proofs.whoami.whoami.Goals.{After-lend_own_label}

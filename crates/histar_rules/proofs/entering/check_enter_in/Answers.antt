@@ -1,9 +1,9 @@
 -- Proves the goals of `check_enter_in` of src/entering.rt that the search leaves open.
 use Rattle.std.proofs.Common.{Option, IsSome, sym, ap, ◌∙◌, subst}
 use Rattle.histar_label.specs.Levels.{Levels}
-use Rattle.histar_object.specs.Objects.{thread_of, is_thread, entry_there}
+use Rattle.histar_object.specs.Objects.{is_thread, entry_there}
 use Rattle.histar_rules.specs.declared.entering.Opening.{Opening}
-use Rattle.histar_rules.specs.Finds.{gate_of, no_opening}
+use Rattle.histar_rules.specs.Finds.{no_opening}
 use Rattle.histar_rules.proofs.EnteringGates.{enter_checked}
 use Rattle.histar_rules.proofs.Observed.{fails_at_denial, object_shown, label_stands, clearance_stands, limit_stands}
 use Rattle.histar_rules.proofs.LinkedObjects.{gate_missing}

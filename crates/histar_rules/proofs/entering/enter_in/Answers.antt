@@ -20,7 +20,8 @@ pub returns-in_err-label-clause-stand : goal.returns-in_err-label-clause-stand
 returns-in_err-label-clause-stand g c = all_on _ _ (trans _ _ _ c.put_copy.ensures.keeps c.put_copy-2.ensures.keeps) _ c.requires
 
 pub returns-in_err-label-clause-err : goal.returns-in_err-label-clause-err
-returns-in_err-label-clause-err g c = on_err _ _ (shown_on _ _ (trans _ _ _ c.put_copy.ensures.keeps c.put_copy-2.ensures.keeps) c.args.table.now c.requires)
+returns-in_err-label-clause-err g c =
+    on_err _ _ (shown_on _ _ (trans _ _ _ c.put_copy.ensures.keeps c.put_copy-2.ensures.keeps) c.args.table.now c.requires)
 
 pub check_enter_in-requires-clause-stand : goal.check_enter_in-requires-clause-stand
 check_enter_in-requires-clause-stand g c = all_on _ _ (trans _ _ _ c.put_copy.ensures.keeps c.put_copy-2.ensures.keeps) _ c.requires
@@ -50,7 +51,8 @@ returns-in_err-entry-clause-err g c =
     c.args.table.now c.requires)
 
 -- the labels that were put keep their Ids through the checks
-kept : (g : given.Over) (c : goal.After-give_own g) → Keeps (g.S.LabelStore.labels c.args.store.now) (g.S.LabelStore.labels c.check_enter_in.new.store)
+kept : (g : given.Over) (c : goal.After-give_own g)
+    → Keeps (g.S.LabelStore.labels c.args.store.now) (g.S.LabelStore.labels c.check_enter_in.new.store)
 kept g c = keeps_same _ _ (trans _ _ _ c.put_copy.ensures.keeps c.put_copy-2.ensures.keeps) _ c.check_enter_in.ensures.unchanged
 
 pub returns-clause-stand : goal.returns-clause-stand

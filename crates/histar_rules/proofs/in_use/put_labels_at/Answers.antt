@@ -1,6 +1,5 @@
 -- Proves the goals of `put_labels_at` of src/in_use.rt that the search leaves open.
 use Rattle.std.proofs.Common.{sym}
-use Rattle.histar_object.specs.Objects.{objects_of}
 use Rattle.histar_rules.proofs.Moving.{labels_put}
 use Rattle.histar_rules.proofs.in_use.put_labels_at.Goals as goal
 

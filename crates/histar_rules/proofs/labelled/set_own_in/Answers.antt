@@ -1,6 +1,6 @@
 -- Proves the goals of `set_own_in` of src/labelled.rt that the search leaves open.
 use Rattle.std.proofs.Common.{sym, ap, ◌∙◌}
-use Rattle.histar_object.specs.Objects.{objects_of, is_thread}
+use Rattle.histar_object.specs.Objects.{is_thread}
 use Rattle.histar_container.proofs.Keeping.{trans, all_on, shown_on, on_err}
 use Rattle.histar_container.proofs.Shows.{shows}
 use Rattle.histar_rules.proofs.EnteringGates.{own_stand, own_shown}

@@ -3,7 +3,6 @@ use Rattle.std.proofs.Common.{rules, ℕ, List, ap, ◌++◌, ◌∙◌}
 use Rattle.std.specs.Prelude.{take}
 use Rattle.histar_object.specs.declared.objects.Kind.TheVariants.{Segment}
 use Rattle.histar_object.specs.declared.objects.Object.{Object}
-use Rattle.histar_object.specs.Objects.{objects_of}
 use Rattle.histar_container.proofs.Links.{on_some}
 use Rattle.histar_container.proofs.Keeping.{on_err, held_not, spliced_there, left_alone}
 use Rattle.histar_rules.proofs.labelled.splice_in.Goals as goal

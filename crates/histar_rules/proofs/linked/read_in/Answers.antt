@@ -3,9 +3,7 @@ use Rattle.std.proofs.Common.{Option, IsSome, sym, ap, ◌∙◌, subst}
 use Rattle.histar_base.specs.Refusals.{unless}
 use Rattle.histar_label.specs.Levels.{Levels, is_below_raised}
 use Rattle.histar_label.specs.Store.{label_at}
-use Rattle.histar_object.specs.Objects.{thread_of}
 use Rattle.histar_rules.specs.declared.raw.Denied.TheVariants.{Observe}
-use Rattle.histar_rules.specs.Finds.{segment_of}
 use Rattle.histar_rules.proofs.Observed.{fails_at_denial, label_stands}
 use Rattle.histar_rules.proofs.LinkedObjects.{segment_missing, read_found}
 use Rattle.histar_rules.proofs.linked.read_in.Goals as goal

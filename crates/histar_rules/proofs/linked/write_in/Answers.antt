@@ -2,9 +2,7 @@
 use Rattle.std.proofs.Common.{Option, IsSome, sym, ap, ◌∙◌, ◌&&◌, subst}
 use Rattle.histar_label.specs.Levels.{Levels, is_below, is_below_raised}
 use Rattle.histar_label.specs.Store.{label_at}
-use Rattle.histar_object.specs.Objects.{thread_of}
 use Rattle.histar_rules.specs.declared.raw.Denied.{Denied}
-use Rattle.histar_rules.specs.Finds.{segment_of}
 use Rattle.histar_rules.specs.Rules.{FailsAt}
 use Rattle.histar_rules.proofs.Observed.{fails_at_denial, label_stands}
 use Rattle.histar_rules.proofs.LinkedObjects.{segment_missing, write_found}

@@ -3,9 +3,7 @@ use Rattle.std.proofs.Common.{Option, IsSome, sym, ap, ◌∙◌, subst}
 use Rattle.histar_base.specs.Refusals.{unless}
 use Rattle.histar_label.specs.Levels.{Levels, is_below}
 use Rattle.histar_label.specs.Store.{label_at}
-use Rattle.histar_object.specs.Objects.{thread_of}
 use Rattle.histar_rules.specs.declared.raw.Denied.TheVariants.{Modify}
-use Rattle.histar_rules.specs.Finds.{container_of}
 use Rattle.histar_rules.proofs.Observed.{behind_refusal, making_found, label_stands}
 use Rattle.histar_rules.proofs.lookup.modified_in.Goals as goal
 

@@ -3,7 +3,6 @@ use Rattle.std.proofs.Common.{ap, ◌∙◌}
 use Rattle.histar_object.specs.Objects.{thread_of}
 use Rattle.histar_rules.specs.declared.raw.Denied.TheVariants.{Observe}
 use Rattle.histar_base.specs.Refusals.{unless}
-use Rattle.histar_rules.specs.Finds.{container_of}
 use Rattle.histar_rules.proofs.Observed.{fails_at_denial, thread_missing, container_missing, container_found, label_stands}
 use Rattle.histar_rules.proofs.lookup.observed_in.Goals as goal
 

@@ -1,7 +1,6 @@
 -- Proves the goals of `check_clearance_in` of src/own.rt that the search leaves open.
 use Rattle.std.proofs.Common.{Option, sym, subst}
 use Rattle.histar_label.specs.Store.{label_at}
-use Rattle.histar_object.specs.Objects.{thread_of}
 use Rattle.histar_rules.specs.declared.raw.Denied.{Denied}
 use Rattle.histar_rules.specs.Rules.{FailsAt}
 use Rattle.histar_rules.proofs.Observed.{label_stands, clearance_stands}

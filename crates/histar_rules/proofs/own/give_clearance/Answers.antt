@@ -4,7 +4,6 @@ use Rattle.histar_object.specs.declared.objects.Object.{Object}
 use Rattle.histar_object.specs.Objects.{objects_of, put}
 use Rattle.histar_object.proofs.Changes.{put_changed}
 use Rattle.histar_container.proofs.Links.{on_some}
-use Rattle.histar_rules.specs.Rights.{with_clearance}
 use Rattle.histar_rules.proofs.Relabelled.{changed_none}
 use Rattle.histar_rules.proofs.own.give_clearance.Goals as goal
 

@@ -1,5 +1,4 @@
 -- Proves the goals of `empty_objects` of src/empty_objects.rt that the search leaves open.
-use Rattle.histar_container.specs.ObjectsModel.{state_of}
 use Rattle.histar_syscall.proofs.Beginnings.{empty_made}
 use Rattle.histar_syscall.proofs.empty_objects.empty_objects.Goals as goal
 

@@ -1,6 +1,5 @@
 -- Proves the goals of `make_or_give_back` of src/scratch.rt that the search leaves open.
 use Rattle.std.proofs.Common.{sym}
-use Rattle.histar_rules.specs.declared.raw.RawCall.TheVariants.{MakeContainer}
 use Rattle.histar_wrap.proofs.GivingBack.{given_back, given_back_not, goes_on, stops_there}
 use Rattle.histar_wrap.proofs.Scratching.{own_of}
 use Rattle.histar_wrap.proofs.scratch.make_or_give_back.Goals as goal

@@ -1,7 +1,6 @@
 -- Proves the goals of `start_job` of src/wrap.rt that the search leaves open.
 use Rattle.histar_rules.specs.declared.raw.RawCall.TheVariants.{MakeCategory, OwnLabel}
 use Rattle.histar_programs.proofs.Running.{fails_so, refuses}
-use Rattle.histar_wrap.specs.Filling.{plan_for}
 use Rattle.histar_wrap.proofs.Wrapping.{before_filling, filled_so, no_category, no_labels, with_category}
 use Rattle.histar_wrap.proofs.wrap.start_job.Goals as goal
 

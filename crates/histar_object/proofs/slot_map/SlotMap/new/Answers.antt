@@ -1,6 +1,5 @@
 -- Proves the goals of `SlotMap::new` of src/slot_map.rt that the search leaves open.
-use Rattle.std.proofs.Common.{◌++◌, ap}
-use Rattle.std.specs.List.{IsDistinct}
+use Rattle.std.proofs.Common.{◌++◌}
 use Rattle.histar_object.specs.Slots.{numbered}
 use Rattle.histar_object.proofs.Numbering.{distinct_in_both}
 use Rattle.histar_object.proofs.slot_map.SlotMap.new.Goals as goal

@@ -1,7 +1,6 @@
 -- Proves the goals of `Table::get` of src/table.rt that the search leaves open.
 use Rattle.std.proofs.Common.{◌≡◌, None, Some, sym, ap, ◌∙◌}
 use Rattle.std.specs.Option.{option_copied}
-use Rattle.slab.specs.Slab.{get}
 use Rattle.histar_object.proofs.Placing.{slot_at, found_at, none_at}
 use Rattle.histar_object.proofs.table.Table.get.Goals as goal
 

@@ -1,7 +1,6 @@
 -- Proves the goals of `Table::get_mut` of src/table.rt that the search leaves open.
 use Rattle.std.proofs.Common.{◌≡◌, None, Some, refl, sym, ap, ◌∙◌}
 use Rattle.std.specs.Prelude.{Option, OnSome, ◌-◌, min}
-use Rattle.std.specs.Option.{option_copied}
 use Rattle.slab.specs.Slab.{get, with_value}
 use Rattle.slab.proofs.SlabLemmas.{Updates-with_value}
 use Rattle.histar_object.proofs.Placing.{slot_at, found_at, none_at, written, slab_len-with_value, IsPlaced-changed, objects-changed}

@@ -2,7 +2,7 @@
 use Rattle.std.proofs.Common.{◌≡◌, Option, IsSome, sym, ap, ◌∙◌, subst}
 use Rattle.histar_label.specs.Levels.{Levels}
 use Rattle.histar_label.specs.Store.{label_at}
-use Rattle.histar_object.specs.Objects.{objects_of, thread_of}
+use Rattle.histar_object.specs.Objects.{objects_of}
 use Rattle.histar_object.specs.State.{State}
 use Rattle.histar_container.specs.ObjectsModel.{state_of}
 use Rattle.histar_rules.specs.declared.raw.Denied.{Denied}

@@ -6,7 +6,6 @@ use Rattle.histar_rules.specs.declared.raw.RawCall.TheVariants.{SetLabel}
 use Rattle.histar_rules.specs.Finds.{state_with}
 use Rattle.histar_rules.specs.Rules.{check, FailsAtUnlessExhausted}
 use Rattle.histar_object.specs.Objects.{objects_of}
-use Rattle.histar_container.specs.Shown.{shown}
 use Rattle.histar_container.proofs.Keeping.{kept_changed}
 use Rattle.histar_rules.proofs.labelled.LabelledObjects.set_label.Goals as goal
 

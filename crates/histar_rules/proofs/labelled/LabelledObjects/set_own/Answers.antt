@@ -1,9 +1,8 @@
 -- Proves the goals of `LabelledObjects::set_own` of src/labelled.rt that the search leaves open.
 use Rattle.std.proofs.Common.{ap, ◌∙◌}
-use Rattle.histar_object.specs.Objects.{objects_of, is_thread, thread_of}
+use Rattle.histar_object.specs.Objects.{objects_of, is_thread}
 use Rattle.histar_object.specs.State.{State}
 use Rattle.histar_container.specs.ObjectsModel.{ObjectsModel}
-use Rattle.histar_container.specs.Shown.{shown}
 use Rattle.histar_container.proofs.Keeping.{kept_own}
 use Rattle.histar_rules.proofs.labelled.LabelledObjects.set_own.Goals as goal
 

@@ -1,6 +1,4 @@
 -- Proves the goals of `Kernel::make_call` of src/kernel.rt that the search finds slowly.
-use Rattle.std.proofs.Common.{subst}
-use Rattle.histar_rules.specs.Sound.{IsSound}
 use Rattle.histar_rules.proofs.Sound.{sound_decided}
 use Rattle.histar_syscall.specs.Answers.{IsAnswerValue}
 use Rattle.histar_syscall.specs.KernelModel.{KernelModel, state}
