@@ -11,9 +11,8 @@ use Rattle.histar_flat.specs.Classes.{Class, Process}
 use Rattle.histar_flat.specs.FlatState.{Content, Flat, Node, is_dir, is_some_and}
 use Rattle.histar_flat.specs.FlatState.Content.{Dir, File}
 use Rattle.histar_flat.specs.FlatCalls.{running}
-use Rattle.histar_object.specs.Objects.{bytes_in}
+use Rattle.histar_syscall.specs.KernelModel.{lent_bytes, KernelModel, state}
 use Rattle.histar_object.specs.State.{State}
-use Rattle.histar_syscall.specs.KernelModel.{KernelModel, state}
 use Rattle.histar_layout.specs.Directory.{Entries}
 use Rattle.histar_layout.specs.Listing.{object_of}
 use Rattle.histar_layout.specs.declared.entry.Target.{Target}
@@ -32,7 +31,8 @@ use Rattle.histar_refinement.specs.Accounts.{AreAccounts}
 use Rattle.histar_refinement.proofs.CallerFound.{callers_are_found, callers_are_there}
 use Rattle.histar_refinement.proofs.ClassLaws.{modifies_path, observes_path}
 use Rattle.histar_refinement.proofs.DirectoryLaws.{get_directory}
-use Rattle.histar_refinement.proofs.LinesMatched.{directory_back, holds_directory}
+use Rattle.histar_refinement.proofs.LinesMatched.{directory_back}
+use Rattle.histar_refinement.proofs.Lent.{shows_directory, held}
 use Rattle.histar_refinement.proofs.SameLines.{container_in, listing_in}
 use Rattle.histar_refinement.proofs.Agreeing.{parent_is_dir}
 use Rattle.histar_rights.specs.declared.rights.Rights.{Rights}
@@ -59,28 +59,28 @@ module _ (accounts : Accounts) (s : State) where
   abbrev roots : Roots
   roots = roots_of (length accounts.users)
 
-  -- the spot of a directory is where the directory segments list it
-  directory_reached : (start : Cell) (q : Path) (spot : Spot) → Reaches s roots start q spot → (c g : ℕ) → spot.target ≡ targets.Directory c g
-      → IsDirectoryAt accounts s q c g
-  directory_reached start [] spot is c g at =
-      let slash = sym at ∙ ap (λ (x : Spot). x.target) is in
-      (ap container_in slash, ap listing_in slash)
-  directory_reached start (n ∷ d) spot is c g at = by is.0.target refl is.3 (directory_reached start d is.0 is.2)
-    where
-      by : (above : Target) → is.0.target ≡ above → Lists s above n is.1
-          → ((container listing : ℕ) → is.0.target ≡ targets.Directory container listing → IsDirectoryAt accounts s d container listing)
-          → IsDirectoryAt accounts s (n ∷ d) c g
-      by (targets.File file) same lists there = absurd lists
-      by (targets.Directory container listing) same lists there = (
-        container,
-        listing,
-        lists.0,
-        there container listing same,
-        lists.1,
-        lists.2 ∙ ap (λ (t : Target). Some t) (sym (ap (λ (x : Spot). x.target) is.4) ∙ at),
-      )
-
   module _ (f : Flat) (l : ObjectsMatch accounts s f) where
+    -- the spot of a directory is where the directory segments list it
+    directory_reached : (start : Cell) (q : Path) (spot : Spot) → Reaches s roots start q spot → (c g : ℕ) → spot.target ≡ targets.Directory c g
+        → IsDirectoryAt accounts s q c g
+    directory_reached start [] spot is c g at =
+        let slash = sym at ∙ ap (λ (x : Spot). x.target) is in
+        (ap container_in slash, ap listing_in slash)
+    directory_reached start (n ∷ d) spot is c g at = by is.0.target refl is.3 (directory_reached start d is.0 is.2)
+      where
+        by : (above : Target) → is.0.target ≡ above → Lists s above n is.1
+            → ((container listing : ℕ) → is.0.target ≡ targets.Directory container listing → IsDirectoryAt accounts s d container listing)
+            → IsDirectoryAt accounts s (n ∷ d) c g
+        by (targets.File file) same lists there = absurd lists
+        by (targets.Directory container listing) same lists there = (
+          container,
+          listing,
+          lists.0,
+          there container listing same,
+          held accounts s f l d container listing lists.0 (there container listing same) lists.1,
+          lists.2 ∙ ap (λ (t : Target). Some t) (sym (ap (λ (x : Spot). x.target) is.4) ∙ at),
+        )
+
     -- an object that is reached at a path has the number of the path's node
     number_led : (q : Path) (class : Class) (content : Content) (target : Target)
         → target_for l.naming.number (q, record { class = class; content = content }) ≡ Some target
@@ -103,8 +103,8 @@ module _ (accounts : Accounts) (s : State) where
         by (targets.File file) same lists = absurd lists
         by (targets.Directory container listing) same lists =
             let back = directory_back accounts s f l d container listing (directory_reached start d is.0 is.2 container listing same) in
-            let dirs = same_directory (bytes_in (s.objects listing)) (directory_of f.files l.naming.number d) lists.0
-            (holds_directory accounts s f l d listing back.0 back.2) lists.1 in
+            let dirs = same_directory (lent_bytes s listing) (directory_of f.files l.naming.number d) lists.0
+            (shows_directory accounts s f l d listing back.0 back.2) lists.1 in
             let leads : target_for l.naming.number (n ∷ d, node) ≡ Some is.1 =
             sym (ap (option_and_then (λ (there : Node). target_for l.naming.number (n ∷ d, there))) at)
             ∙ sym (get_directory f.files l.naming.number d n) ∙ ap (λ (dir : Entries). map.get dir n) dirs ∙ lists.2 in

@@ -5,7 +5,7 @@ use Rattle.std.proofs.lemmas.List.{take_all}
 use Rattle.std.proofs.lemmas.Option.{none-some}
 use Rattle.std.specs.FinMap as map
 use Rattle.histar_flat.specs.Words.{Name, Path}
-use Rattle.histar_object.specs.Objects.{bytes_in}
+use Rattle.histar_syscall.specs.KernelModel.{lent_bytes}
 use Rattle.histar_object.specs.State.{State}
 use Rattle.histar_layout.specs.Checked.{IsLookedUp}
 use Rattle.histar_layout.specs.Directory.{Entries, IsDirectory}
@@ -27,7 +27,7 @@ pub none_in_file : (s : State) (above : Target) (name : Name) (file : ℕ) → a
 none_in_file s above name file is target lists = subst (λ (t : Target). Lists s t name target) is lists
 
 module _ (s : State) (above : Target) (name : Name) (container listing : ℕ) (is : above ≡ Directory container listing) (bytes : List ℕ)
-    (read : bytes ≡ bytes_in (s.objects listing)) where
+    (read : bytes ≡ lent_bytes s listing) where
   abbrev Listed : Type 0
   Listed = (dir : Entries) × IsDirectory bytes dir
 

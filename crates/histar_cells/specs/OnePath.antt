@@ -4,7 +4,7 @@ use Rattle.std.specs.FinMap as map
 use Rattle.histar_flat.specs.Words.{Name, Path, ProcName}
 use Rattle.histar_flat.specs.Accounts.{Accounts}
 use Rattle.histar_flat.specs.FlatState.{Flat}
-use Rattle.histar_object.specs.Objects.{bytes_in}
+use Rattle.histar_syscall.specs.KernelModel.{lent_bytes}
 use Rattle.histar_object.specs.State.{State}
 use Rattle.histar_layout.specs.Directory.{Entries, IsDirectory}
 use Rattle.histar_layout.specs.Listing.{object_of}
@@ -23,7 +23,7 @@ use Rattle.histar_cells.specs.Cells.{cell_below}
 -- the directory at the one target lists this name, and its entry leads to the other target
 abbrev pub Lists : State → Target → Name → Target → Type 0
 Lists s (File file) name target = ⊥
-Lists s (Directory container listing) name target = (dir : Entries) × IsDirectory (bytes_in (s.objects listing)) dir × (map.get dir name ≡ Some target)
+Lists s (Directory container listing) name target = (dir : Entries) × IsDirectory (lent_bytes s listing) dir × (map.get dir name ≡ Some target)
 
 -- the target that was found is where the entry of the name leads, and nothing was found exactly if there is no entry
 abbrev pub FindsEntry : State → Target → Name → Option Target → Type 0

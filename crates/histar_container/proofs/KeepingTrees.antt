@@ -12,6 +12,7 @@ use Rattle.histar_object.specs.Objects.{TableModel, Objects, objects_of, changed
 use Rattle.histar_container.specs.Shown.{kind_by, object_by, shown, KindStands, Stands, AllStand, IsUnusedFrom, IsKept}
 use Rattle.histar_container.specs.ObjectsModel.{ObjectsModel, state_of, CutsOff}
 use Rattle.histar_container.specs.Tree.{Address, Naming, wanted, objects_at, MatchesNaming, Reached, here, there, AreTree, IsCut}
+use Rattle.histar_container.proofs.Shows.{shows}
 use Rattle.histar_container.proofs.Keeping.{by_value, shows_all, stand_changed, unused_changed, map_none}
 use Rattle.histar_container.proofs.TableMoves.{changed_here, changed_other}
 use Rattle.histar_container.proofs.Trees.{reached_decided}
@@ -50,6 +51,11 @@ module _ {Id : Type 0} (labels : Id → Option Levels) where
   links_by : (o : Option (Object Id)) (c : ℕ) → set.contains (links_in (option_map (object_by (label_at labels)) o)) c ≡ set.contains (links_in o) c
   links_by None c = refl
   links_by (Some o) c = ap (λ l. set.contains l c) (kind_links_by o.kind)
+
+  -- a container of a table links the same numbers, with labels by value
+  pub links_shown : (t : TableModel Id) (d c : ℕ)
+      → set.contains (links_in (objects_of (shown labels t) d)) c ≡ set.contains (links_in (objects_of t d)) c
+  links_shown t d c = ap (λ o. set.contains (links_in o) c) (shows labels t d) ∙ links_by (objects_of t d) c
 
   pub there_by : (o : Option (Object Id)) → is_present (option_map (object_by (label_at labels)) o) ≡ is_present o
   there_by None = refl

@@ -97,7 +97,7 @@ fn bytes_after<S: LabelStore + Drop>(kernel: &Kernel<S>, call: &RawCall) -> (usi
     match call {
         RawCall::MakeSegment(_, _, bytes) => (0, bytes.len()),
         RawCall::Write(_, segment, keep, bytes) => (
-            (*keep as usize).min(kernel.bytes(*segment).len()),
+            (*keep as usize).min(kernel.size(*segment)),
             bytes.len(),
         ),
         _ => (0, 0),

@@ -12,7 +12,7 @@ use Rattle.histar_flat.specs.Files.{get}
 use Rattle.histar_flat.specs.Classes.{Class, Process}
 use Rattle.histar_flat.specs.FlatState.{Flat, Node, Content, is_dir, is_dir_at, is_some_and}
 use Rattle.histar_flat.specs.FlatState.Content.{Dir, File}
-use Rattle.histar_object.specs.Objects.{bytes_in}
+use Rattle.histar_syscall.specs.KernelModel.{lent_bytes}
 use Rattle.histar_object.specs.State.{State}
 use Rattle.histar_layout.specs.Found.{found_in}
 use Rattle.histar_layout.specs.UserTable.{without_password, without_passwords}
@@ -31,7 +31,7 @@ use Rattle.histar_refinement.specs.Laws.{StandsFor}
 use Rattle.histar_refinement.specs.Processes.{or_zero, status_by}
 use Rattle.histar_refinement.proofs.CallerFound.{is_or_zero, where_is, status_is, home_is}
 use Rattle.histar_refinement.proofs.DirectoryLaws.{get_directory}
-use Rattle.histar_refinement.proofs.LinesMatched.{holds_directory}
+use Rattle.histar_refinement.proofs.Lent.{shows_directory}
 use Rattle.histar_refinement.proofs.Agreeing.{root_is_dir}
 use Rattle.histar_refinement.proofs.StatusFound.{numbered_home, numbered_status, numbered_runner}
 use Rattle.histar_readout.proofs.TreeMatched.{led_to_directory, led_to_file}
@@ -125,29 +125,29 @@ module _ (accounts : Accounts) (s : State) (f : Flat) (l : ObjectsMatch accounts
   target_is (name ∷ d) target e = by (target_is d) above.0 above.1 later.0 later.1 later.2
     where
       above : (t : Target) × (target_at s roots d ≡ Some t)
-          × (option_and_then (λ (listing : ℕ). found_in (bytes_in (s.objects listing)) name) (listing_in t)
+          × (option_and_then (λ (listing : ℕ). found_in (lent_bytes s listing) name) (listing_in t)
           ≡ Some target)
       above =
           step_there (λ (t : Target).
-          option_and_then (λ (listing : ℕ). found_in (bytes_in (s.objects listing)) name) (listing_in t))
+          option_and_then (λ (listing : ℕ). found_in (lent_bytes s listing) name) (listing_in t))
           (target_at s roots d) target e
 
-      later : (g : ℕ) × (listing_in above.0 ≡ Some g) × (found_in (bytes_in (s.objects g)) name ≡ Some target)
-      later = step_there (λ (listing : ℕ). found_in (bytes_in (s.objects listing)) name) (listing_in above.0) target above.2
+      later : (g : ℕ) × (listing_in above.0 ≡ Some g) × (found_in (lent_bytes s g) name ≡ Some target)
+      later = step_there (λ (listing : ℕ). found_in (lent_bytes s listing) name) (listing_in above.0) target above.2
 
       found : (g : ℕ) → is_dir_at f d ≡ true → l.naming.number (Listing ∷ address_of d) ≡ Some g
-          → found_in (bytes_in (s.objects g)) name ≡ Some target → IsAt (name ∷ d) target
+          → found_in (lent_bytes s g) name ≡ Some target → IsAt (name ∷ d) target
       found g dir at looked =
           let listed =
-          sym (found_in_directory (bytes_in (s.objects g)) (directory_of f.files l.naming.number d) name
-          (holds_directory accounts s f l d g dir at)) ∙ looked in
+          sym (found_in_directory (lent_bytes s g) (directory_of f.files l.naming.number d) name
+          (shows_directory accounts s f l d g dir at)) ∙ looked in
           let entry =
           step_there (λ (there : Node). target_for l.naming.number (name ∷ d, there)) (get f.files (name ∷ d))
           target (sym (get_directory f.files l.naming.number d name) ∙ listed) in
           entry_is (name ∷ d) entry.0.class entry.0.content target entry.1 entry.2
 
       by : ((t : Target) → target_at s roots d ≡ Some t → IsAt d t) → (t : Target) → target_at s roots d ≡ Some t
-          → (g : ℕ) → listing_in t ≡ Some g → found_in (bytes_in (s.objects g)) name ≡ Some target
+          → (g : ℕ) → listing_in t ≡ Some g → found_in (lent_bytes s g) name ≡ Some target
           → IsAt (name ∷ d) target
       by led (targets.File o) at g lists looked = absurd (none-some g lists)
       by led (targets.Directory c h) at g lists looked =

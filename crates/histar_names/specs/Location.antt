@@ -4,7 +4,7 @@ use Rattle.std.specs.Prelude.{Option, None, Some, is_some, codes, if◌then◌el
 use Rattle.histar_flat.specs.Words.{Path, ProcName}
 use Rattle.histar_flat.specs.Texts.{path_text, process_text}
 use Rattle.histar_flat.specs.Accounts.{Accounts}
-use Rattle.histar_object.specs.Objects.{bytes_in}
+use Rattle.histar_syscall.specs.KernelModel.{lent_bytes}
 use Rattle.histar_object.specs.State.{State}
 use Rattle.histar_layout.specs.Found.{found_in}
 use Rattle.histar_layout.specs.Reading.{◌>>=◌}
@@ -43,7 +43,7 @@ target_at s roots [] = Some (Directory roots.slash.container roots.slash.listing
 target_at s roots (name ∷ d) = do
   above ← target_at s roots d
   listing ← listing_in above
-  found_in (bytes_in (s.objects listing)) name
+  found_in (lent_bytes s listing) name
 
 -- a file's segment, or one of the two objects of a directory
 abbrev pub is_of_target : ℕ → Target → Bool

@@ -1,30 +1,14 @@
 -- Objects by number, their parts, and their changes. L is the type of labels, or of Ids that stand for them.
 use Rattle.std.specs.Prelude.{◌≡◌, ℕ, ◌<◌, Bool, true, false, ◌==◌, nat_eq, List, [], ◌++◌, Option, None, Some, option_map, if◌then◌else◌}
 use Rattle.std.specs.Ordering.{nat_cmp}
-use Rattle.std.specs.List.{IsDistinct}
-use Rattle.std.specs.Set.{is_member}
 use Rattle.std.specs.FinSet as set
 use Rattle.std.specs.Map.{lookup}
 use Rattle.std.specs.BTreeMap.{is_at}
+pub use Rattle.histar_object.specs.Links.{Numbers, IsListOf, AppendsAll}
 use Rattle.histar_object.specs.declared.objects.Entry.{Entry}
 use Rattle.histar_object.specs.declared.objects.Kind.{Kind}
 use Rattle.histar_object.specs.declared.objects.Kind.TheVariants.{Segment, Container, Thread, Gate}
 use Rattle.histar_object.specs.declared.objects.Object.{Object}
-
--- the numbers that a container links
-abbrev pub Numbers : Type 0
-Numbers = set.FinSet nat_cmp
-
--- a list has each number of a set once, and no other
-pub record IsListOf (numbers : List ℕ) (links : Numbers) : Type 0 where
-  pub members : (q : ℕ) → is_member nat_eq numbers q ≡ set.contains links q
-  pub once : IsDistinct nat_eq numbers
-
--- the new list is the old one followed by the numbers of a set
-pub record AppendsAll (links : Numbers) (old new : List ℕ) : Type 0 where
-  pub added : List ℕ
-  pub is : new ≡ old ++ added
-  pub listed : IsListOf added links
 
 -- a table: its objects by number, the slot of each number, and the number of objects for which there is room
 pub record TableModel (L : Type 0) : Type 0 where

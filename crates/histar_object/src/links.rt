@@ -2,7 +2,7 @@
 ghost use Rattle.std.specs.Prelude.{◌≡◌, OnOk, OnErr};
 ghost use Rattle.std.specs.Ordering.{nat_cmp};
 ghost use Rattle.std.specs.FinSet as set;
-ghost use Rattle.histar_object.specs.Objects.{AppendsAll};
+ghost use Rattle.histar_object.specs.Links.{AppendsAll};
 
 use crate::ids::ObjId;
 use std::alloc::{AllocError, Global};
@@ -13,18 +13,23 @@ use std::marker::Model;
 #[derive(Drop)]
 pub struct Links {
     numbers: BTreeSet<u64>,
+    // No number that is linked is above this one.
+    newest: u64,
 }
 
 impl Model for Links {
     ghost use Rattle.std.specs.Ordering.{nat_cmp};
     ghost use Rattle.std.specs.FinSet as set;
     ghost use Rattle.std.specs.Coded.{coded_ℕ};
+    ghost use Rattle.histar_object.specs.Links.{AreUpTo};
 
     ghost Value = { set.FinSet nat_cmp };
 
     ghost coded = { set.code coded_ℕ };
 
     ghost view = { λ l. set.from_list l.numbers.keys };
+
+    ghost invariant = { λ l. AreUpTo l.newest (set.from_list l.numbers.keys) };
 }
 
 impl Links {
@@ -34,6 +39,7 @@ impl Links {
     {
         Links {
             numbers: BTreeSet::new(alloc),
+            newest: 0,
         }
     }
 
@@ -44,12 +50,21 @@ impl Links {
         self.numbers.contains(&object.number())
     }
 
+    /// Checks whether the object is linked, as `contains` does, in constant time where its number is above those
+    /// of all that was ever linked.
+    pub fn contains_older(&self, object: ObjId) -> bool
+        ensures { result ≡ set.contains self.now object }
+    {
+        object.number() <= self.newest && self.contains(object)
+    }
+
     /// Links one more object.
     pub fn insert(&mut self, object: ObjId) -> Result<(), AllocError>
         ensures ok { OnOk result (self.new ≡ set.insert self.old object) }
         ensures err { OnErr result (self.new ≡ self.old) }
     {
         self.numbers.insert(object.number())?;
+        self.newest = self.newest.max(object.number());
         Ok(())
     }
 

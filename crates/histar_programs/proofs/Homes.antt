@@ -2,7 +2,7 @@
 use Rattle.std.proofs.Common.{◌≡◌, ◌≤◌, ◌-◌, ℕ, zero, suc, List, [], ◌∷◌, Option, Some, None, Result, get_or, length, take, refl, sym, ap, ◌∙◌, arith}
 use Rattle.std.specs.Result.{result_ok}
 use Rattle.histar_flat.specs.Words.{ProcName}
-use Rattle.histar_object.specs.Objects.{bytes_in}
+use Rattle.histar_syscall.specs.KernelModel.{lent_bytes}
 use Rattle.histar_object.specs.State.{State}
 use Rattle.histar_layout.specs.Reading.{◌>>=◌}
 use Rattle.histar_layout.specs.declared.status.Child.{Child}
@@ -68,7 +68,7 @@ module _ (s : State) where
 
   -- a child that was looked up in a process's segment has the home that its status gives
   pub looked_up : (home : Home) (n : ℕ) {bytes : List ℕ} {answer : Result (Option Child) NotAStatus} {found : Option (Option Child)}
-      → bytes ≡ bytes_in (s.objects home.segment) → answer ≡ look_for (status_in bytes) n → found ≡ result_ok answer
+      → bytes ≡ lent_bytes s home.segment → answer ≡ look_for (status_in bytes) n → found ≡ result_ok answer
       → child_home (status_at s home.segment) n ≡ home_of found
   looked_up home n {bytes} {answer} {found} bytes_are looks is =
       child_home_is (status_at s home.segment) n

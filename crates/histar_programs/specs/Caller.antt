@@ -5,8 +5,9 @@ use Rattle.histar_flat.specs.Words.{ProcName}
 use Rattle.histar_label.specs.declared.levels.Level.{Level}
 use Rattle.histar_label.specs.declared.levels.Level.TheVariants.{L0}
 use Rattle.histar_label.specs.Levels.{Levels, level_of, exceptions_of}
-use Rattle.histar_object.specs.Objects.{bytes_in, label_there}
+use Rattle.histar_object.specs.Objects.{label_there}
 use Rattle.histar_object.specs.State.{State}
+use Rattle.histar_syscall.specs.KernelModel.{lent_bytes}
 use Rattle.histar_layout.specs.Reading.{◌>>=◌}
 use Rattle.histar_layout.specs.Status.{ProcessStatus, child_at, status_in}
 use Rattle.histar_layout.specs.Jobs.{is_three}
@@ -29,7 +30,7 @@ read_category_in outer inner = option_map (λ e. e.0) (find (λ e. is_three e.1 
 
 -- the status that a process segment holds
 abbrev pub status_at : State → ℕ → Option ProcessStatus
-status_at s segment = status_in (bytes_in (s.objects segment))
+status_at s segment = status_in (lent_bytes s segment)
 
 -- Where a process is found: process 0 where boot left it, and a child where the process segment above it lists it.
 abbrev pub home_at : State → Home → ProcName → Option Home

@@ -1,13 +1,12 @@
 -- Adding the trees of a directory, entry by entry.
-use Rattle.std.proofs.Common.{◌≡◌, ℕ, ◌-◌, ◌≤◌, ◌≢◌, List, [], ◌∷◌, ◌++◌, length, Option, Some, None, Result, Ok, Err, refl, sym, ap, subst, ◌∙◌}
+use Rattle.std.proofs.Common.{◌≡◌, ℕ, ◌-◌, ◌≤◌, ◌≢◌, List, [], ◌∷◌, ◌++◌, length, Option, Some, Result, Ok, Err, refl, sym, ap, subst, ◌∙◌}
 use Rattle.std.proofs.Common.{arith, append-nil, append_assoc}
-use Rattle.std.specs.Prelude.{MatchOption}
 use Rattle.std.specs.Result.{IsErrAnd}
 use Rattle.std.proofs.lemmas.Result.{err_from_is_err_and}
 use Rattle.std.specs.FinMap as map
 use Rattle.histar_flat.specs.Words.{Name, Path, most_names}
 use Rattle.histar_flat.specs.Accounts.{Accounts}
-use Rattle.histar_object.specs.Objects.{bytes_in}
+use Rattle.histar_syscall.specs.KernelModel.{lent_bytes}
 use Rattle.histar_object.specs.State.{State}
 use Rattle.histar_layout.specs.Directory.{Entries, IsDirectory, ReadsDirectory}
 use Rattle.histar_layout.specs.declared.entry.Target.{Target}
@@ -121,19 +120,19 @@ module _ (accounts : Accounts) (s : State) where
       subst (λ (levels : ℕ). IsTreeAt levels accounts s (n ∷ d) target tree) no_level is
 
   -- where the entries of a directory have no trees, nothing can be added below it
-  pub not_below : (d : Path) (listing : ℕ) (dir : Entries) → IsDirectory (bytes_in (s.objects listing)) dir
+  pub not_below : (d : Path) (listing : ℕ) (dir : Entries) → IsDirectory (lent_bytes s listing) dir
       → ((trees : List TreeNode) → AreListed (below_at d) d (map.entries dir) trees → ⊥)
       → (trees : List TreeNode)
-      → (other : Entries) × IsDirectory (bytes_in (s.objects listing)) other
+      → (other : Entries) × IsDirectory (lent_bytes s listing) other
       × AreListed (below_at d) d (map.entries other) trees → ⊥
   not_below d listing dir is none trees some =
       none trees (subst (λ (x : Entries). AreListed (below_at d) d (map.entries x) trees)
-      (same_directory (bytes_in (s.objects listing)) some.0 dir some.1 is) some.2)
+      (same_directory (lent_bytes s listing) some.0 dir some.1 is) some.2)
 
   -- some entries of the directory in a segment are left, and the trees of those before them were added
   abbrev pub AddsEntries : Path → ℕ → List (Name × Target) → List TreeNode → List TreeNode → Type 0
   AddsEntries d listing left old new =
-      (dir : Entries) × IsDirectory (bytes_in (s.objects listing)) dir
+      (dir : Entries) × IsDirectory (lent_bytes s listing) dir
       × AddsFirst (below_at d) d (map.entries dir) left old new
 
   -- where the next entry has no tree, nothing can be added

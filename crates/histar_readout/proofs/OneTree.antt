@@ -1,11 +1,11 @@
 -- A state has one tree at most.
 use Rattle.std.specs.Prelude.{◌≡◌, ℕ, zero, suc, List, [], ◌∷◌, ◌++◌}
-use Rattle.std.proofs.Common.{Some, sym, ◌∙◌, subst}
+use Rattle.std.proofs.Common.{sym, ◌∙◌, subst}
 use Rattle.std.proofs.lemmas.Option.{same_Some}
 use Rattle.std.specs.FinMap as map
 use Rattle.histar_flat.specs.Words.{Name, Path}
 use Rattle.histar_flat.specs.Accounts.{Accounts}
-use Rattle.histar_object.specs.Objects.{bytes_in}
+use Rattle.histar_syscall.specs.KernelModel.{lent_bytes}
 use Rattle.histar_object.specs.State.{State}
 use Rattle.histar_layout.specs.Directory.{Entries}
 use Rattle.histar_layout.specs.declared.entry.Target.{Target}
@@ -35,7 +35,7 @@ one_below : (is_tree : Listed) → IsOne is_tree → (s : State) (q : Path) (tar
     → IsBelow is_tree s q target a → IsBelow is_tree s q target b → a ≡ b
 one_below is_tree one s q (File file) a b g h = g ∙ sym h
 one_below is_tree one s q (Directory container listing) a b g h =
-    let same = same_directory (bytes_in (s.objects listing)) h.0 g.0 h.1 g.1 in
+    let same = same_directory (lent_bytes s listing) h.0 g.0 h.1 g.1 in
     one_list is_tree one q (map.entries g.0) a b g.2 (subst (λ (dir : Entries). AreListed is_tree q (map.entries dir) b) same h.2)
 
 -- nodes with the same path, class and target are equal

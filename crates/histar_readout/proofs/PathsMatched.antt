@@ -9,7 +9,7 @@ use Rattle.histar_flat.specs.Files.{get}
 use Rattle.histar_flat.specs.Classes.{Class}
 use Rattle.histar_flat.specs.FlatState.{Flat, Node, Content, is_dir, bytes_of}
 use Rattle.histar_flat.specs.FlatState.Content.{Dir, File}
-use Rattle.histar_object.specs.Objects.{bytes_in}
+use Rattle.histar_syscall.specs.KernelModel.{lent_bytes}
 use Rattle.histar_object.specs.State.{State}
 use Rattle.histar_layout.specs.Directory.{Entries}
 use Rattle.histar_layout.specs.Listing.{is_directory}
@@ -24,7 +24,8 @@ use Rattle.histar_refinement.specs.Directories.{target_for, directory_of}
 use Rattle.histar_refinement.specs.Represents.{ObjectsMatch}
 use Rattle.histar_refinement.specs.Lines.{IsDirectoryAt}
 use Rattle.histar_refinement.proofs.DirectoryLaws.{get_directory}
-use Rattle.histar_refinement.proofs.LinesMatched.{leads_to, node_there, holds_directory, directory_found, directory_back}
+use Rattle.histar_refinement.proofs.LinesMatched.{leads_to, node_there, directory_found, directory_back}
+use Rattle.histar_refinement.proofs.Lent.{shows_directory, seen, held}
 use Rattle.histar_refinement.proofs.Making.{entry_leads}
 use Rattle.histar_refinement.proofs.SameLines.{container_in, listing_in}
 use Rattle.histar_refinement.proofs.Agreeing.{some_unless_none, root_is_dir, parent_is_dir}
@@ -38,17 +39,20 @@ module _ (accounts : Accounts) (s : State) where
   abbrev roots : Roots
   roots = roots_of (length accounts.users)
 
-  -- a path leads to the container and the directory segment of a directory
-  directory_led : (d : Path) (c g : ℕ) → IsDirectoryAt accounts s d c g → LeadsTo s roots d (targets.Directory c g)
-  directory_led [] c g at = λ i. targets.Directory (at.0 i) (at.1 i)
-  directory_led (n ∷ d) c g at = (at.0, at.1, at.2, directory_led d at.0 at.1 at.3, at.4, at.5)
-
-  -- a path that leads to a directory is that directory's
-  led_directory : (d : Path) (c g : ℕ) → LeadsTo s roots d (targets.Directory c g) → IsDirectoryAt accounts s d c g
-  led_directory [] c g led = (ap container_in led, ap listing_in led)
-  led_directory (n ∷ d) c g led = (led.0, led.1, led.2, led_directory d led.0 led.1 led.3, led.4, led.5)
-
   module _ (f : Flat) (l : ObjectsMatch accounts s f) where
+    -- a path leads to the container and the directory segment of a directory
+    directory_led : (d : Path) (c g : ℕ) → IsDirectoryAt accounts s d c g → LeadsTo s roots d (targets.Directory c g)
+    directory_led [] c g at = λ i. targets.Directory (at.0 i) (at.1 i)
+    directory_led (n ∷ d) c g at =
+        (at.0, at.1, at.2, directory_led d at.0 at.1 at.3, seen accounts s f l d at.0 at.1 at.2 at.3 at.4, at.5)
+
+    -- a path that leads to a directory is that directory's
+    led_directory : (d : Path) (c g : ℕ) → LeadsTo s roots d (targets.Directory c g) → IsDirectoryAt accounts s d c g
+    led_directory [] c g led = (ap container_in led, ap listing_in led)
+    led_directory (n ∷ d) c g led =
+        let above = led_directory d led.0 led.1 led.3 in
+        (led.0, led.1, led.2, above, held accounts s f l d led.0 led.1 led.2 above led.4, led.5)
+
     -- the target of a node of the flat state, if it is there
     abbrev target_at : Path → Option Node → Option Target
     target_at q o = option_and_then (λ (there : Node). target_for l.naming.number (q, there)) o
@@ -59,8 +63,8 @@ module _ (accounts : Accounts) (s : State) where
     nothing_led (n ∷ d) at target led =
         let above = directory_back accounts s f l d led.0 led.1 (led_directory d led.0 led.1 led.3) in
         let same =
-        same_directory (bytes_in (s.objects led.1)) (directory_of f.files l.naming.number d) led.2
-        (holds_directory accounts s f l d led.1 above.0 above.2) led.4 in
+        same_directory (lent_bytes s led.1) (directory_of f.files l.naming.number d) led.2
+        (shows_directory accounts s f l d led.1 above.0 above.2) led.4 in
         none-some target (sym (ap (target_at (n ∷ d)) at) ∙ sym (get_directory f.files l.naming.number d n)
         ∙ ap (λ (dir : Entries). map.get dir n) same ∙ led.5)
 
@@ -81,7 +85,7 @@ module _ (accounts : Accounts) (s : State) where
           numbers.1,
           directory_of f.files l.naming.number d,
           directory_led d numbers.0 numbers.1 (directory_found accounts s f l d numbers.0 numbers.1 dir numbers.3 numbers.4),
-          holds_directory accounts s f l d numbers.1 dir numbers.4,
+          shows_directory accounts s f l d numbers.1 dir numbers.4,
           get_directory f.files l.naming.number d n ∙ ap (target_at (n ∷ d)) at ∙ leads,
         )
 

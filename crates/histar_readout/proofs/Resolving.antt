@@ -5,7 +5,7 @@ use Rattle.std.proofs.lemmas.List.{take_all}
 use Rattle.std.proofs.lemmas.Option.{none-some}
 use Rattle.std.specs.FinMap as map
 use Rattle.histar_flat.specs.Words.{Name, Path}
-use Rattle.histar_object.specs.Objects.{bytes_in}
+use Rattle.histar_syscall.specs.KernelModel.{lent_bytes}
 use Rattle.histar_object.specs.State.{State}
 use Rattle.histar_layout.specs.Directory.{Entries, IsDirectory}
 use Rattle.histar_layout.specs.Checked.{IsLookedUp}
@@ -39,20 +39,20 @@ module _ (s : State) (roots : Roots) where
   module _ (name : Name) (d : Path) (container listing : ℕ) (above : LeadsTo s roots d (Directory container listing)) where
     -- a target of a directory's entry is listed in the directory's own segment
     listed_there : (target : Target) → LeadsTo s roots (name ∷ d) target
-        → (dir : Entries) × IsDirectory (bytes_in (s.objects listing)) dir × (map.get dir name ≡ Some target)
+        → (dir : Entries) × IsDirectory (lent_bytes s listing) dir × (map.get dir name ≡ Some target)
     listed_there target leads =
         let same = paths_lead_to_one_target s roots d (Directory leads.0 leads.1) (Directory container listing) leads.3 above in
-        (leads.2, subst (λ (g : ℕ). IsDirectory (bytes_in (s.objects g)) leads.2) (ap listing_in same) leads.4, leads.5)
+        (leads.2, subst (λ (g : ℕ). IsDirectory (lent_bytes s g) leads.2) (ap listing_in same) leads.4, leads.5)
 
     -- a path leads nowhere below a segment that holds no directory
-    none_unlisted : ((dir : Entries) → IsDirectory (bytes_in (s.objects listing)) dir → ⊥) → LeadsNowhere s roots (name ∷ d)
+    none_unlisted : ((dir : Entries) → IsDirectory (lent_bytes s listing) dir → ⊥) → LeadsNowhere s roots (name ∷ d)
     none_unlisted none target leads = let there = listed_there target leads in none there.0 there.1
 
     -- nor does a path lead anywhere whose last name the directory doesn't list
-    none_listed : (dir : Entries) → IsDirectory (bytes_in (s.objects listing)) dir → map.get dir name ≡ None → LeadsNowhere s roots (name ∷ d)
+    none_listed : (dir : Entries) → IsDirectory (lent_bytes s listing) dir → map.get dir name ≡ None → LeadsNowhere s roots (name ∷ d)
     none_listed dir is none target leads =
         let there = listed_there target leads in
-        let same = same_directory (bytes_in (s.objects listing)) dir there.0 is there.1 in
+        let same = same_directory (lent_bytes s listing) dir there.0 is there.1 in
         none-some target (sym none ∙ ap (λ (x : Entries). map.get x name) same ∙ there.2)
 
   module _ (q : Path) (name : Name) (some : 1 ≤ length q) (first : name ≡ get_or q 0 name) where
@@ -76,7 +76,7 @@ module _ (s : State) (roots : Roots) where
           let same = paths_lead_to_one_target s roots above target (Directory leads.0 leads.1) led leads.3 in cc)
 
       module _ (container listing : ℕ) (is : target ≡ Directory container listing) (bytes : List ℕ)
-          (read : bytes ≡ bytes_in (s.objects listing)) where
+          (read : bytes ≡ lent_bytes s listing) where
         led_here : LeadsTo s roots above (Directory container listing)
         unfolding Resolves
         led_here = subst (LeadsTo s roots above) is led
@@ -88,7 +88,7 @@ module _ (s : State) (roots : Roots) where
             whole None (none_unlisted name above container listing led_here
             (subst (λ (b : List ℕ). IsLookedUp b name (Err fault)) read none))
 
-        found_below : (found : Option Target) (dir : Entries) → IsDirectory (bytes_in (s.objects listing)) dir
+        found_below : (found : Option Target) (dir : Entries) → IsDirectory (lent_bytes s listing) dir
             → map.get dir name ≡ found → Resolves s roots (name ∷ above) found
         unfolding Resolves
         found_below None dir listed none = none_listed name above container listing led_here dir listed none

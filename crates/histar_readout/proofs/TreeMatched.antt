@@ -1,6 +1,6 @@
 -- A state that represents a flat state has its tree.
 use Rattle.std.specs.Prelude.{◌≡◌, ℕ, zero, suc, ◌+◌, ◌<◌, Bool, true, false, cond, T, List, [], ◌∷◌, ◌++◌, length, map, Option, Some, None}
-use Rattle.std.specs.Prelude.{option_map, option_and_then, refl}
+use Rattle.std.specs.Prelude.{option_map, refl}
 use Rattle.std.specs.List.{filter_map, cons_option, flat_map}
 use Rattle.std.proofs.Common.{arith, ap, inl, inr, sym, ◌∙◌, subst}
 use Rattle.std.proofs.lemmas.Bool.{true≢false}
@@ -13,13 +13,13 @@ use Rattle.histar_flat.specs.PathOrder.{path_cmp}
 use Rattle.histar_flat.specs.PathOrderLaws.{path_cmp_total, path_cmp_exact}
 use Rattle.histar_flat.specs.Accounts.{Accounts}
 use Rattle.histar_flat.specs.Files.{get}
-use Rattle.histar_flat.specs.Classes.{Class, class_owner, class_mode}
+use Rattle.histar_flat.specs.Classes.{Class}
 use Rattle.histar_flat.specs.FlatState.{Flat, Node, Content, IsTree, is_some_and, is_dir, bytes_of}
 use Rattle.histar_flat.specs.FlatState.Content.{Dir, File}
 use Rattle.histar_flat.proofs.FileLemmas.{same_path_found}
 use Rattle.histar_flat.proofs.Finding.{first, second, find_first, find_later}
-use Rattle.histar_label.specs.Levels.{Levels}
 use Rattle.histar_object.specs.Objects.{bytes_in}
+use Rattle.histar_syscall.specs.KernelModel.{lent_bytes}
 use Rattle.histar_object.specs.State.{State}
 use Rattle.histar_layout.specs.Listing.{object_of}
 use Rattle.histar_layout.specs.declared.entry.Target.{Target}
@@ -37,7 +37,7 @@ use Rattle.histar_refinement.specs.NumberedClasses.{numbered_class}
 use Rattle.histar_refinement.proofs.ClassFound.{label_of_class, same_owner, same_mode}
 use Rattle.histar_refinement.proofs.DirectoryLaws.{sorted_listed}
 use Rattle.histar_refinement.proofs.FileLabels.{label_at}
-use Rattle.histar_refinement.proofs.LinesMatched.{holds_directory}
+use Rattle.histar_refinement.proofs.Lent.{shows_directory, lent_entry}
 use Rattle.histar_refinement.proofs.Making.{entry_leads}
 use Rattle.histar_refinement.proofs.Agreeing.{some_unless_none, guard_at, file_found, root_is_dir, parent_is_dir}
 use Rattle.histar_readout.specs.declared.tree.TreeNode.{TreeNode}
@@ -78,10 +78,12 @@ module _ (accounts : Accounts) (s : State) (f : Flat) (l : ObjectsMatch accounts
   -- the segment of a file holds its bytes
   pub bytes_held : (q : Path) (class : Class) (bytes : List ℕ)
       → get f.files q ≡ Some (record { class = class; content = File bytes }) → (o : ℕ)
-      → l.naming.number (address_of q) ≡ Some o → bytes_in (s.objects o) ≡ bytes
-  bytes_held q class bytes at o numbered =
-      let g = guard_at accounts s f l q (record { class = class; content = File bytes }) at in
-      ap bytes_in (file_found accounts s f l q class bytes at g.0 g.1 o numbered)
+      → l.naming.number (address_of q) ≡ Some o → lent_bytes s o ≡ bytes
+  bytes_held [] class bytes at o numbered =
+      absurd (true≢false (ap (λ (o : Option Node). is_some_and o is_dir) (sym (root_is_dir accounts s f l).1 ∙ at)))
+  bytes_held (n ∷ d) class bytes at o numbered =
+      let g = guard_at accounts s f l (n ∷ d) (record { class = class; content = File bytes }) at in
+      lent_entry accounts s f l n d o numbered ∙ ap bytes_in (file_found accounts s f l (n ∷ d) class bytes at g.0 g.1 o numbered)
 
   -- a tree at a path, which is what the flat state has there and below it, down to this many levels
   record HasTreeAt (levels : ℕ) (q : Path) (node : Node) (target : Target) : Type 0 where
@@ -203,7 +205,7 @@ module _ (accounts : Accounts) (s : State) (f : Flat) (l : ObjectsMatch accounts
               agrees_at q (record { class = class; content = Dir }) at (targets.Directory c g) numbered,
               (
                 dir,
-                holds_directory accounts s f l q g (ap (λ (o : Option Node). is_some_and o is_dir) at) listing,
+                shows_directory accounts s f l q g (ap (λ (o : Option Node). is_some_and o is_dir) at) listing,
                 subst (λ (es : List (Name × Target)). AreListed (IsTreeAt levels accounts s) q es below.trees) (sym entries) below.are_listed,
               ),
               refl,

@@ -2,7 +2,7 @@
 use Rattle.std.specs.Prelude.{◌≡◌, ℕ, [], ◌∷◌, Option, Some, MatchOption}
 use Rattle.std.specs.FinMap as map
 use Rattle.histar_flat.specs.Words.{Path}
-use Rattle.histar_object.specs.Objects.{bytes_in}
+use Rattle.histar_syscall.specs.KernelModel.{lent_bytes}
 use Rattle.histar_object.specs.State.{State}
 use Rattle.histar_layout.specs.Directory.{Entries, IsDirectory}
 use Rattle.histar_layout.specs.declared.entry.Target.{Target}
@@ -15,7 +15,7 @@ abbrev pub LeadsTo : State → Roots → Path → Target → Type 0
 LeadsTo s roots [] target = target ≡ Directory roots.slash.container roots.slash.listing
 LeadsTo s roots (name ∷ d) target =
     (container : ℕ) × (listing : ℕ) × (dir : Entries)
-    × LeadsTo s roots d (Directory container listing) × IsDirectory (bytes_in (s.objects listing)) dir × (map.get dir name ≡ Some target)
+    × LeadsTo s roots d (Directory container listing) × IsDirectory (lent_bytes s listing) dir × (map.get dir name ≡ Some target)
 
 -- a path leads nowhere
 abbrev pub LeadsNowhere : State → Roots → Path → Type 0

@@ -4,7 +4,8 @@ use Rattle.std.specs.Global.{Vec}
 use Rattle.std.specs.FinMap as map
 use Rattle.histar_flat.specs.Words.{Name, Path, most_names}
 use Rattle.histar_flat.specs.Accounts.{Accounts}
-use Rattle.histar_object.specs.Objects.{bytes_in, label_there}
+use Rattle.histar_object.specs.Objects.{label_there}
+use Rattle.histar_syscall.specs.KernelModel.{lent_bytes}
 use Rattle.histar_object.specs.State.{State}
 use Rattle.histar_layout.specs.Directory.{Entries, IsDirectory}
 use Rattle.histar_layout.specs.Listing.{object_of}
@@ -38,7 +39,7 @@ AreListed is_tree d (e ∷ entries) trees =
 -- below a file is nothing, and below a directory are the trees that its directory segment lists
 abbrev pub IsBelow : Listed → State → Path → Target → List TreeNode → Type 0
 IsBelow is_tree s q (File file) trees = trees ≡ []
-IsBelow is_tree s q (Directory container listing) trees = (dir : Entries) × IsDirectory (bytes_in (s.objects listing)) dir × AreListed is_tree q (map.entries dir) trees
+IsBelow is_tree s q (Directory container listing) trees = (dir : Entries) × IsDirectory (lent_bytes s listing) dir × AreListed is_tree q (map.entries dir) trees
 
 -- The tree at a path, down to this many levels: the node at the path, and then those below it.
 abbrev pub IsTreeAt : ℕ → Accounts → State → Listed
@@ -81,4 +82,4 @@ AddsTree accounts s q target = Adds (IsTreeAt (levels_at q) accounts s q target)
 
 -- the trees below a directory were added
 abbrev pub AddsBelow : Accounts → State → Path → ℕ → List TreeNode → List TreeNode → Result (Unit {0}) TreeError → Type 0
-AddsBelow accounts s d listing = Adds (λ trees. (dir : Entries) × IsDirectory (bytes_in (s.objects listing)) dir × AreListed (IsTreeAt (most_names - length d) accounts s) d (map.entries dir) trees)
+AddsBelow accounts s d listing = Adds (λ trees. (dir : Entries) × IsDirectory (lent_bytes s listing) dir × AreListed (IsTreeAt (most_names - length d) accounts s) d (map.entries dir) trees)

@@ -2,7 +2,7 @@
 use Rattle.std.specs.Prelude.{ℕ, Bool, List, [], Some}
 use Rattle.histar_flat.specs.Words.{Path}
 use Rattle.histar_flat.specs.FlatState.{Node, is_dir, bytes_of}
-use Rattle.histar_object.specs.Objects.{bytes_in}
+use Rattle.histar_syscall.specs.KernelModel.{lent_bytes}
 use Rattle.histar_object.specs.State.{State}
 use Rattle.histar_layout.specs.Listing.{is_directory}
 use Rattle.histar_layout.specs.declared.class.Class.{Class}
@@ -21,7 +21,7 @@ pub record TreeEntry : Type 0 where
 
 -- the bytes of a target; a directory has none
 abbrev pub file_bytes_at : State → Target → List ℕ
-file_bytes_at s (File file) = bytes_in (s.objects file)
+file_bytes_at s (File file) = lent_bytes s file
 file_bytes_at s (Directory container listing) = []
 
 -- the bytes of a node of a tree

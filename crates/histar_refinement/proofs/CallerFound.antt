@@ -13,10 +13,10 @@ use Rattle.histar_flat.specs.Classes.{Process}
 use Rattle.histar_flat.specs.FlatState.{Flat}
 use Rattle.histar_flat.specs.FlatCalls.{if_running, running}
 use Rattle.histar_label.specs.Levels.{Levels}
-use Rattle.histar_object.specs.Objects.{label_there}
+use Rattle.histar_object.specs.Objects.{bytes_in, label_there}
 use Rattle.histar_object.specs.State.{State}
 use Rattle.histar_layout.specs.declared.status.Child.{Child as Listed}
-use Rattle.histar_layout.specs.Status.{ProcessStatus, child_at}
+use Rattle.histar_layout.specs.Status.{ProcessStatus, child_at, status_in}
 use Rattle.histar_layout.proofs.Statuses.{status_again}
 use Rattle.histar_programs.specs.declared.roots.Home.{Home as Where}
 use Rattle.histar_programs.specs.declared.caller.Caller.{Caller}
@@ -38,6 +38,7 @@ use Rattle.histar_refinement.proofs.Roots.{asked_home, asked_inside}
 use Rattle.histar_refinement.proofs.Agreeing.{some_of}
 use Rattle.histar_refinement.proofs.StatusFound.{child_range, listed_there, listed_back, numbered_home, numbered_status, numbered_runner}
 use Rattle.histar_refinement.proofs.StatusMatched.{holds_status}
+use Rattle.histar_refinement.proofs.Lent.{lent_status}
 use Rattle.histar_refinement.proofs.Steps.{step_tests_equality}
 use Rattle.histar_refinement.proofs.Agreement.{agreement}
 
@@ -55,10 +56,10 @@ module _ (accounts : Accounts) (s : State) (f : Flat) (l : ObjectsMatch accounts
   where_is me = record { container = or_zero (l.naming.number (home_address me)); segment = or_zero (l.naming.number (Status ∷ home_address me)) }
 
   -- the process segment of a process spells its status
-  pub status_is : (me : ProcName) (p : Process) → f.processes me ≡ Some p
-      → status_at s (or_zero (l.naming.number (Status ∷ home_address me)))
+  pub status_held : (me : ProcName) (p : Process) → f.processes me ≡ Some p
+      → status_in (bytes_in (s.objects (or_zero (l.naming.number (Status ∷ home_address me)))))
       ≡ Some (status_by f.processes l.naming.number me p)
-  status_is me p here =
+  status_held me p here =
       status_again _ (status_by f.processes l.naming.number me p)
       (holds_status accounts s f l me p (or_zero (l.naming.number (Status ∷ home_address me))) here
       (is_or_zero _ (numbered_status accounts s f l me ∙ ap is_some here)))
@@ -72,6 +73,13 @@ module _ (accounts : Accounts) (s : State) (f : Flat) (l : ObjectsMatch accounts
           let ranged = length-range_with_len 1 p.born in
           let most = (l.processes me p here).few in
           omega (arith, mapped, filtered, counted, ranged, most)
+
+  -- so it is found there with no raw call
+  pub status_is : (me : ProcName) (p : Process) → f.processes me ≡ Some p
+      → status_at s (or_zero (l.naming.number (Status ∷ home_address me)))
+      ≡ Some (status_by f.processes l.naming.number me p)
+  status_is me p here =
+      ap status_in (lent_status accounts s f l me _ (is_or_zero _ (numbered_status accounts s f l me ∙ ap is_some here))) ∙ status_held me p here
 
   -- a child is listed where it is there
   pub child_is : (n : ℕ) (me : ProcName) (p : Process) → f.processes me ≡ Some p

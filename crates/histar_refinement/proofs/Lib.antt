@@ -45,6 +45,7 @@ pub mod SameLines
 pub mod LinesMatched
 pub mod StatusMatched
 pub mod StatusFound
+pub mod Lent
 pub mod OneFlatState
 pub mod RawChecks
 pub mod FileChecks

@@ -1,6 +1,6 @@
 -- What follows when a state represents a flat state: who observes and modifies what, what is reached and found, that there is at most
--- one such flat state, and the start.
-use Rattle.std.specs.Prelude.{◌≡◌, ℕ, ◌<◌, ◌≤◌, ◌⊎◌, ◌↔◌, true, ◌∷◌, length, Option, None, Some, is_some}
+-- one such flat state, what is lent with no raw call, and the start.
+use Rattle.std.specs.Prelude.{◌≡◌, ℕ, ◌<◌, ◌≤◌, ◌⊎◌, ◌↔◌, true, [], ◌∷◌, length, Option, None, Some, is_some}
 use Rattle.histar_flat.specs.Words.{Path, ProcName}
 use Rattle.histar_flat.specs.Accounts.{Accounts}
 use Rattle.histar_flat.specs.Files.{get}
@@ -13,13 +13,14 @@ use Rattle.histar_object.specs.State.{State, observes, modifies}
 use Rattle.histar_container.specs.Tree.{Reached}
 use Rattle.histar_rules.specs.Rules.{greatest}
 use Rattle.histar_rules.specs.Sound.{root_number}
+use Rattle.histar_syscall.specs.KernelModel.{lent_bytes}
 use Rattle.histar_programs.specs.declared.caller.Caller.{Caller}
 use Rattle.histar_programs.specs.Caller.{caller_at}
 use Rattle.histar_programs.specs.Start.{roots_of, start_state}
 use Rattle.histar_refinement.specs.Accounts.{AreAccounts}
 use Rattle.histar_refinement.specs.Categories.{CategoryName}
 use Rattle.histar_refinement.specs.Categories.CategoryName.{ReadsProcess, WritesProcess}
-use Rattle.histar_refinement.specs.Addresses.{address_of, home_address}
+use Rattle.histar_refinement.specs.Addresses.{address_of, home_address, first_left, table_number}
 use Rattle.histar_refinement.specs.Addresses.Step.{Listing, Status, Inside, Runner}
 use Rattle.histar_refinement.specs.Represents.{ObjectsMatch, Represents}
 use Rattle.histar_refinement.specs.Lines.{IsThreadOf, IsDirectoryAt}
@@ -96,3 +97,9 @@ DirectoriesAreFound = (accounts : Accounts) (s : State) (f : Flat) (l : ObjectsM
 abbrev pub StartIsRepresented : Type 0
 StartIsRepresented = (accounts : Accounts) → 0 < length accounts.users → AreAccounts accounts → (start_state accounts).next_object ≤ greatest
     → Represents accounts (start_state accounts) (boot accounts)
+
+-- Who holds the kernel of a state that represents a flat state is lent nothing of what boot left in the root container: no password, and not
+-- the user table.
+abbrev pub NoPasswordIsLent : Type 0
+NoPasswordIsLent = (accounts : Accounts) (s : State) (f : Flat) → Represents accounts s f
+    → (q : ℕ) → first_left ≤ q → q ≤ table_number (length accounts.users) → lent_bytes s q ≡ []

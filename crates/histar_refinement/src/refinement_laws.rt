@@ -1,7 +1,7 @@
 //! What follows when a state represents a flat state. Each law is the contract of a function that
 //! does nothing.
 ghost use Rattle.histar_refinement.specs.Laws.{CallersAreFound, CallersAreThere, DirectoriesAreFound, ObjectsAreReached};
-ghost use Rattle.histar_refinement.specs.Laws.{OneIsRepresented, StartIsRepresented, ThreadsAreFound, ThreadsModifyWhatIsWritten};
+ghost use Rattle.histar_refinement.specs.Laws.{NoPasswordIsLent, OneIsRepresented, StartIsRepresented, ThreadsAreFound, ThreadsModifyWhatIsWritten};
 ghost use Rattle.histar_refinement.specs.Laws.{ThreadsObserveWhatIsRead};
 
 /// States that a thread may observe what is of a class exactly where its process may read it.
@@ -45,6 +45,12 @@ pub fn callers_are_there()
 /// States that the directory segments lead from that of `/` to each directory, and to nothing else.
 pub fn directories_are_found()
     ensures { DirectoriesAreFound }
+{}
+
+/// States that nothing that boot left in the root container is lent with no raw call: no password, and not the
+/// user table.
+pub fn no_password_is_lent()
+    ensures { NoPasswordIsLent }
 {}
 
 /// States that the state in which a machine starts represents the flat state at the start.

@@ -14,6 +14,7 @@ ghost use Rattle.histar_container.specs.Tree.{AreTree};
 ghost use Rattle.histar_rules.specs.Finds.{LendsThread};
 ghost use Rattle.histar_rules.specs.Kinds.{kind_there};
 ghost use Rattle.histar_rules.specs.Rights.{with_changed, with_clearance, with_label};
+ghost use Rattle.histar_rules.specs.Sound.{root_number};
 ghost use Rattle.histar_rules.specs.Rules.{check, greatest, no_new, no_new_owner, FailsAt, FailsAtUnlessExhausted, Decides};
 ghost use Rattle.histar_rules.specs.Rules.{AreBytesOf, IsLabelOf, IsEntryOf};
 ghost use Rattle.histar_rules.specs.declared.raw.RawCall.TheVariants as calls;
@@ -23,7 +24,7 @@ use crate::entering::enter_in;
 use crate::handed::HandedLabels;
 use crate::in_use::{LEAST_WEIGHT, forget_unused_in};
 use crate::kinds::ObjectKind;
-use crate::limits::Next;
+use crate::limits::{Next, ROOT};
 use crate::linked::{label_in, read_in, unlink_in, write_in};
 use crate::lookup::{labels_in, modified_in, thread_in};
 use crate::own::{give_own, set_clearance_in, set_label_in};
@@ -132,6 +133,20 @@ impl<S: LabelStore + Drop> LabelledObjects<S> {
         ensures { option_copied result ≡ bytes_there (objects_of self.now.objects object) }
     {
         self.table.bytes(object)
+    }
+
+    /// Checks whether the root container links an object. It takes constant time for one that was made after all
+    /// that the root container links.
+    pub fn is_in_root(&self, object: ObjId) -> bool
+        ensures { result ≡ set.contains (links_in (objects_of self.now.objects root_number)) object }
+    {
+        match self.table.get(ObjId::new(ROOT)) {
+            Some(root) => match &root.kind {
+                Kind::Container(links) => links.contains_older(object),
+                _ => false,
+            },
+            None => false,
+        }
     }
 
     /// Returns the label of an object.

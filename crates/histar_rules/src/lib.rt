@@ -21,4 +21,5 @@ pub use checks::require;
 pub use handed::{HandedLabel, HandedLabels};
 pub use kinds::ObjectKind;
 pub use labelled::LabelledObjects;
+pub use limits::ROOT;
 pub use raw::{Denied, RawCall, Refusal};

@@ -2,6 +2,9 @@
 ghost use Rattle.std.specs.Prelude.{◌≡◌, ◌+◌};
 ghost use Rattle.histar_rules.specs.Rules.{fits_segment};
 
+/// The number of the root container, the first object of each kernel.
+pub const ROOT: u64 = 1;
+
 /// The greatest number of bytes that a segment holds.
 const MOST_BYTES: usize = 4096;
 

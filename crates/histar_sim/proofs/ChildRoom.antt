@@ -29,7 +29,7 @@ use Rattle.histar_programs.specs.declared.call_error.Stopped.{Stopped}
 use Rattle.histar_programs.specs.Programs.{Program, Runs}
 use Rattle.histar_programs.specs.Parts.{ask, given, if_there}
 use Rattle.histar_programs.specs.declared.caller.Caller.{Caller}
-use Rattle.histar_programs.specs.Caller.{status_at, caller_at}
+use Rattle.histar_programs.specs.Caller.{caller_at}
 use Rattle.histar_process.specs.Parts.{read_status}
 use Rattle.histar_process.specs.SpawnCall.{must_have_room, room_for_child}
 use Rattle.histar_programs.specs.Start.{roots_of}
@@ -40,7 +40,7 @@ use Rattle.histar_refinement.specs.Addresses.Step.{Status, Inside, Runner}
 use Rattle.histar_refinement.specs.Represents.{ObjectsMatch}
 use Rattle.histar_refinement.specs.Laws.{IsCallerOf}
 use Rattle.histar_refinement.specs.Processes.{or_zero, process_bytes, status_by}
-use Rattle.histar_refinement.proofs.CallerFound.{caller_found, status_is}
+use Rattle.histar_refinement.proofs.CallerFound.{caller_found, status_held}
 use Rattle.histar_refinement.proofs.ClassTests.{sees_process}
 use Rattle.histar_refinement.proofs.MakingRanges.{all_known}
 use Rattle.histar_refinement.proofs.RawChecks.{read_check}
@@ -113,7 +113,9 @@ module _ (accounts : Accounts) (me : ProcName) (caller : Caller) (old new : Kern
   seen = sees_process accounts me p l.category l.different me p ∙ all_known p
 
   status_revealed : status_in (bytes_in ((state old).objects caller.home.segment)) ≡ Some status_of
-  status_revealed = ap (λ (q : ℕ). status_at (state old) q) (sym (ap or_zero at_status)) ∙ status_is accounts (state old) f l me p ready.caller.agrees
+  status_revealed =
+      ap (λ (q : ℕ). status_in (bytes_in ((state old).objects q))) (sym (ap or_zero at_status))
+      ∙ status_held accounts (state old) f l me p ready.caller.agrees
 
   read_said : check (state old) t reads ≡ None
   read_said =

@@ -38,7 +38,7 @@ use Rattle.histar_refinement.specs.Accounts.{AreAccounts}
 use Rattle.histar_refinement.specs.Represents.{ObjectsMatch}
 use Rattle.histar_refinement.specs.Laws.{RunsAs}
 use Rattle.histar_refinement.specs.Processes.{status_by}
-use Rattle.histar_refinement.proofs.CallerFound.{where_is, status_is, child_is}
+use Rattle.histar_refinement.proofs.CallerFound.{where_is, status_held, child_is}
 use Rattle.histar_refinement.proofs.Agreeing.{some_of}
 use Rattle.histar_refinement.proofs.StatusFound.{thread_back}
 use Rattle.histar_sim.specs.Simulation.{IsReady}
@@ -138,7 +138,7 @@ module _ (accounts : Accounts) (s : State) (f : Flat) (me : ProcName) (t : ℕ) 
   -- the status that the bytes of a process segment spell
   pub revealed : (name : ProcName) (other : Process) → f.processes name ≡ Some other
       → status_in (bytes_in (s.objects (place_of name).segment)) ≡ Some (status_of name other)
-  revealed name other here = status_is accounts s f l name other here
+  revealed name other here = status_held accounts s f l name other here
 
   -- the child that these bytes list
   pub child_revealed : (n : ℕ) (name : ProcName) (other : Process) → f.processes name ≡ Some other

@@ -1,10 +1,12 @@
 -- The model of a kernel, which the contracts of the kernel cite.
-use Rattle.std.specs.Prelude.{◌≡◌, ℕ, List, [], ◌∷◌, ◌++◌, Option, None, Some, Result, Ok, Err, ⊤, refl}
+use Rattle.std.specs.Prelude.{◌≡◌, ℕ, List, [], ◌∷◌, ◌++◌, Option, None, Some, Result, Ok, Err, ⊤, refl, if◌then◌else◌}
+use Rattle.std.specs.FinSet as set
 use Rattle.std.specs.Borrow.{RattleType, Bor, MutBor, Fml, follows_so}
 use mathlib.Core.Option.{none}
 use Rattle.std.specs.Coded.{Coded, code_by, coded×, coded_ℕ, coded_list}
 use Rattle.histar_label.specs.Levels.{Levels}
 use Rattle.histar_container.specs.ObjectsModel.{ObjectsModel, coded_objects_model, state_of}
+use Rattle.histar_object.specs.Objects.{links_in, bytes_in}
 use Rattle.histar_object.specs.State.{State}
 use Rattle.histar_rules.specs.declared.raw.Denied.{Denied}
 use Rattle.histar_rules.specs.declared.raw.RawCall.{RawCall}
@@ -13,6 +15,7 @@ use Rattle.histar_rules.specs.declared.raw.Refusal.{Refusal}
 use Rattle.histar_rules.specs.declared.raw.Refusal.TheVariants as refusals
 use Rattle.histar_trace.specs.declared.entries.TraceEntry.{TraceEntry}
 use Rattle.histar_trace.specs.contracts.entries.TraceEntry as entry
+use Rattle.histar_rules.specs.Sound.{root_number}
 use Rattle.histar_rules.specs.Rules.{check, Leaves, AreBytesOf, AreLabelsOf}
 
 -- the content of a kernel: its objects, the line that was begun last, and the trace of its calls
@@ -28,6 +31,10 @@ coded_kernel_model = code_by (ObjectsModel × (ℕ × List TraceEntry)) (coded×
 -- the state of a kernel
 abbrev pub state : KernelModel → State
 state k = state_of k.kept
+
+-- the bytes of a segment that the owner of a kernel sees with no raw call: none of one that the root container links
+abbrev pub lent_bytes : State → ℕ → List ℕ
+lent_bytes s o = if set.contains (links_in (s.objects root_number)) o then [] else bytes_in (s.objects o)
 
 -- the kernel made this call and nothing else: its outcome, its state, and one more entry of the trace, on the line that was begun
 pub record Called (old new : KernelModel) (thread : ℕ) (call : RawCall) (denied : Option Denied) : Type 0 where

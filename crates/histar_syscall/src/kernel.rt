@@ -1,5 +1,5 @@
 //! The kernel and its raw calls.
-ghost use Rattle.std.specs.Prelude.{◌≡◌, [], Some, IfOk};
+ghost use Rattle.std.specs.Prelude.{◌≡◌, [], Some, IfOk, length};
 ghost use Rattle.histar_label.specs.Levels.{Levels};
 ghost use Rattle.std.specs.Option.{option_copied};
 ghost use Rattle.histar_object.specs.Objects.{objects_of, bytes_in, clearance_there, is_container, is_thread, label_there};
@@ -9,7 +9,7 @@ ghost use Rattle.histar_rules.specs.Rules.{IsNextNumber, AreBytesOf, AreLabelsOf
 ghost use Rattle.histar_rules.specs.Sound.{IsSound};
 ghost use Rattle.histar_rules.specs.declared.raw.RawCall.TheVariants as calls;
 ghost use Rattle.histar_syscall.specs.Answers.{IsAnswerValue};
-ghost use Rattle.histar_syscall.specs.KernelModel.{Answered, ReadsLent, OwnLent, EndsAs, state};
+ghost use Rattle.histar_syscall.specs.KernelModel.{Answered, ReadsLent, OwnLent, EndsAs, lent_bytes, state};
 
 use crate::answers::Answer;
 use crate::containers::{make_container, unlink};
@@ -293,7 +293,7 @@ impl<S: LabelStore + Drop> Kernel<S> {
             (ReadsLent self.old thread container segment result)) }
     {
         self.make_read(thread, container, segment)?;
-        Ok(self.bytes(segment))
+        Ok(self.bytes_of(segment))
     }
 
     // Makes a read without its bytes: they are lent once it is recorded.
@@ -307,15 +307,33 @@ impl<S: LabelStore + Drop> Kernel<S> {
         self.trace.record(self.line, thread, call, answer)
     }
 
-    /// Returns the bytes of a segment, and none for another object. This is no raw call, and leaves no entry:
-    /// with it the machine looks up in its own table which thread makes a call.
+    /// Returns the bytes of a segment, and none for another object or for one that the root container links:
+    /// there are the passwords and the user table. This is no raw call, and leaves no entry: with it the
+    /// machine looks up in its own table which thread makes a call.
     pub fn bytes(&self, segment: ObjId) -> &[u8]
+        ensures { result.now ≡ lent_bytes (state self.now) segment }
+    {
+        if self.objects.is_in_root(segment) {
+            return &[];
+        }
+        self.bytes_of(segment)
+    }
+
+    // Returns the bytes of any segment, and none for another object.
+    fn bytes_of(&self, segment: ObjId) -> &[u8]
         ensures { result.now ≡ bytes_in (objects_of self.now.kept.objects segment) }
     {
         match self.objects.bytes(segment) {
             Some(bytes) => bytes,
             None => &[],
         }
+    }
+
+    /// Returns the number of bytes of a segment, and 0 for another object. This is no raw call either.
+    pub fn size(&self, segment: ObjId) -> usize
+        ensures { result ≡ length (bytes_in (objects_of self.now.kept.objects segment)) }
+    {
+        self.bytes_of(segment).len()
     }
 
     /// Returns the label of an object, if there is one. This is no raw call either.

@@ -3,8 +3,7 @@ use Rattle.std.proofs.Common.{◌≡◌, ℕ, ◌<◌, ◌≤◌, ◌+◌, List,
 use Rattle.std.proofs.lemmas.List.{drop_more, length-drop, nil_from_length}
 use Rattle.std.specs.FinMap as map
 use Rattle.histar_flat.specs.Words.{Path}
-use Rattle.histar_object.specs.Objects.{bytes_in}
-use Rattle.histar_syscall.specs.KernelModel.{state}
+use Rattle.histar_syscall.specs.KernelModel.{lent_bytes, state}
 use Rattle.histar_readout.specs.Tree.{AddsTree}
 use Rattle.histar_readout.proofs.Adding.{below_at, adds_none, read_as, fails_below, no_entry_more, no_level_more, entry_more, entries_all, no_node}
 use Rattle.histar_readout.proofs.Adding.{adds_directory}
@@ -22,7 +21,7 @@ pub push_below-entries-init : goal.push_below-entries-init
 push_below-entries-init g t c =
     let s = state c.args.source.now.kernel.now in (
       c.in-Some.directory,
-      read_as (bytes_in (s.objects c.args.listing)) c.bytes.result.now c.in_ok-directory.field-0 c.in-Some.directory
+      read_as (lent_bytes s c.args.listing) c.bytes.result.now c.in_ok-directory.field-0 c.in-Some.directory
           c.bytes.ensures c.in-Some.is c.in_ok-directory.ensures,
       adds_none (below_at c.args.source.now.users.now s c.args.path.now) c.args.path.now (map.entries c.in-Some.directory) _
           c.args.tree.now.items (c.deref-entry-items.ensures.value ∙ c.in_ok-entries.ensures),

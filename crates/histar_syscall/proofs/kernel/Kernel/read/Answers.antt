@@ -7,4 +7,4 @@ use Rattle.histar_syscall.proofs.kernel.Kernel.read.Goals as goal
 pub returns : goal.returns
 returns g c =
     let called = c.in_ok-make_read.ensures.0 in
-    ((refl, (λ _. tt), (called, c.bytes.ensures ∙ ap (λ (s : State). bytes_in (s.objects c.args.segment)) called.state)), tt)
+    ((refl, (λ _. tt), (called, c.bytes_of.ensures ∙ ap (λ (s : State). bytes_in (s.objects c.args.segment)) called.state)), tt)
