@@ -8,10 +8,8 @@ use histar_label::LabelStore;
 use histar_layout::shown_class;
 use histar_object::ObjId;
 use histar_programs::{CallError, Roots, Unix, entry_at, find_place, look_in};
+use histar_rules::ROOT;
 use histar_syscall::Kernel;
-
-/// The root container, which the empty kernel has.
-const ROOT: u64 = 1;
 
 /// An object that was found at a path.
 #[derive(Clone, Copy)]

@@ -24,6 +24,7 @@ use histar_label::{Category, Label, LabelStore, Level};
 use histar_layout::{label_of, owners_among, read_category, write_category};
 use histar_object::{Entry, ObjId};
 use histar_programs::{Home, Place, Roots, Stopped};
+use histar_rules::ROOT;
 use histar_syscall::{Kernel, Refusal};
 use std::alloc::{AllocError, Global};
 
@@ -34,7 +35,7 @@ const BOOT: u64 = 1;
 fn root_container() -> ObjId
     ensures { result ≡ root_number }
 {
-    ObjId::new(1)
+    ObjId::new(ROOT)
 }
 
 /// Returns the boot thread, which the empty kernel has.

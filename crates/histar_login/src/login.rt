@@ -13,9 +13,10 @@ ghost use Rattle.histar_login.specs.Login.{entering, label_if, clearance_if, tak
 use crate::gates::{Given, given_by};
 use histar_flat::{Errno, Name, Password, Reply};
 use histar_label::{Label, LabelStore, Level};
-use histar_layout::{UserTable, owners_of};
+use histar_layout::owners_of;
 use histar_object::{Entry, ObjId};
-use histar_programs::{CallError, Caller};
+use histar_programs::{CallError, Caller, Unix};
+use histar_rules::ROOT;
 use histar_syscall::{HandedLabels, Kernel};
 use std::alloc::{AllocError, Global};
 
@@ -82,7 +83,7 @@ fn enter_gate<S: LabelStore + Drop>(
         clearance: &clearance,
         verify: &own.0,
     };
-    let entry = kernel.enter(thread, ObjId::new(1), gate, labels)?;
+    let entry = kernel.enter(thread, ObjId::new(ROOT), gate, labels)?;
     Ok(entry)
 }
 
@@ -95,7 +96,7 @@ fn ask_password<S: LabelStore + Drop>(
 ) -> Result<bool, CallError>
     ensures { RunsPart (ask_password number password) kernel.old kernel.new thread result }
 {
-    let kept = kernel.read(thread, ObjId::new(1), password_segment(number))?;
+    let kept = kernel.read(thread, ObjId::new(ROOT), password_segment(number))?;
     Ok(is_password(kept, password))
 }
 
@@ -157,20 +158,19 @@ fn is_password(kept: &[u8], password: Password) -> bool
 pub fn login<S: LabelStore + Drop>(
     alloc: Global,
     kernel: &mut Kernel<S>,
-    users: &UserTable,
-    caller: &Caller,
+    unix: &Unix,
     name: Name,
     password: Password,
 ) -> Result<Reply, CallError>
-    ensures { Runs (login_program users.now caller.now name password) kernel.old kernel.new
-        caller.now.thread (settled result) }
+    ensures { Runs (login_program unix.now.users.now unix.now.caller.now name password) kernel.old
+        kernel.new unix.now.caller.now.thread (settled result) }
 {
-    let Some(number) = users.number_of(name) else {
+    let Some(number) = unix.users.number_of(name) else {
         return Ok(Reply::Refused(Errno::ENOENT));
     };
-    let owners = owners_of(alloc, users, number, name)?;
+    let owners = owners_of(alloc, unix.users, number, name)?;
     let given = given_by(alloc, owners.as_slice())?;
-    login_as(kernel, caller, number, given, password)
+    login_as(kernel, unix.caller, number, given, password)
 }
 
 /// Logs in as the user of this number, whose gate gives this.

@@ -12,11 +12,9 @@ use histar_label::LabelStore;
 use histar_layout::{find_child, remove_child};
 use histar_object::ObjId;
 use histar_programs::{CallError, Unix};
+use histar_rules::ROOT;
 use histar_syscall::Kernel;
 use std::alloc::Global;
-
-/// The root container, which links the container of process 0.
-const ROOT: u64 = 1;
 
 /// Kills a process with all its children. EACCES where the kernel doesn't let the thread observe its
 /// segment or one above it, ESRCH where it was not born or was killed, EACCES where the kernel doesn't let

@@ -118,9 +118,7 @@ pub(crate) fn make_process_call<S: LabelStore + Drop>(
         UnixCall::Status(name) => status::status(kernel, unix, &name),
         UnixCall::Kill(name) => kill::kill(alloc, kernel, unix, &name),
         UnixCall::Whoami => whoami::whoami(kernel, unix),
-        UnixCall::Login(name, password) => {
-            login::login(alloc, kernel, unix.users, unix.caller, name, password)
-        }
+        UnixCall::Login(name, password) => login::login(alloc, kernel, unix, name, password),
         UnixCall::Wrap(path) => wrap::wrap(alloc, kernel, unix, path.names()),
         _ => unreachable!(),
     }

@@ -168,7 +168,7 @@ fn make_calls(
     };
     bear_child(alloc, kernel, &unix)?;
     let (name, password) = root()?;
-    login::login(alloc, kernel, users, &caller, name, password)?;
+    login::login(alloc, kernel, &unix, name, password)?;
     let scratch = [read_name(b"scratch").ok_or("a name")?];
     wrap::wrap(alloc, kernel, &unix, &scratch)?;
     Ok(())

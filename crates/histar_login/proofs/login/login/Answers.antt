@@ -19,18 +19,21 @@ use Rattle.histar_login.proofs.login.login.Goals.{In-Some}
 
 pub returns-in_default : goal.returns-in_default
 returns-in_default g c =
-    runs_as c.args.caller.now.thread _ _ c.args.kernel.now _ (Ok _) (login_numbered c.args.users.now c.args.caller.now c.args.name c.args.password
-    ∙ ap (login_of c.args.users.now c.args.caller.now c.args.name c.args.password) (sym c.number_of.ensures.number ∙ c.in_default.is)) (says _ _ _)
+    runs_as c.args.unix.now.caller.now.thread _ _ c.args.kernel.now _ (Ok _)
+    (login_numbered c.args.unix.now.users.now c.args.unix.now.caller.now c.args.name c.args.password
+    ∙ ap (login_of c.args.unix.now.users.now c.args.unix.now.caller.now c.args.name c.args.password)
+    (sym c.number_of.ensures.number ∙ c.in_default.is)) (says _ _ _)
 
 -- memory ran out before the first raw call of a login as the user of a number
 runs_out : (g : given.Over) (c : In-Some g) (result : Result Reply CallError) → IsErrAnd result (λ e. e ≡ Stopped)
-    → Runs (login_program c.args.users.now c.args.caller.now c.args.name c.args.password) c.args.kernel.now c.args.kernel.now
-    c.args.caller.now.thread (settled result)
+    → Runs (login_program c.args.unix.now.users.now c.args.unix.now.caller.now c.args.name c.args.password) c.args.kernel.now c.args.kernel.now
+    c.args.unix.now.caller.now.thread (settled result)
 runs_out g c result gave =
-    let owners = owners_of c.args.users.now c.in-Some.number c.args.name in
-    runs_as c.args.caller.now.thread _ _ c.args.kernel.now c.args.kernel.now (settled result)
-    (login_numbered c.args.users.now c.args.caller.now c.args.name c.args.password
-    ∙ ap (login_of c.args.users.now c.args.caller.now c.args.name c.args.password) (sym c.number_of.ensures.number ∙ c.in-Some.is))
+    let owners = owners_of c.args.unix.now.users.now c.in-Some.number c.args.name in
+    runs_as c.args.unix.now.caller.now.thread _ _ c.args.kernel.now c.args.kernel.now (settled result)
+    (login_numbered c.args.unix.now.users.now c.args.unix.now.caller.now c.args.name c.args.password
+    ∙ ap (login_of c.args.unix.now.users.now c.args.unix.now.caller.now c.args.name c.args.password)
+    (sym c.number_of.ensures.number ∙ c.in-Some.is))
     (ends_so _ (after_own _ _ owners c.args.password) (begun _ _ owners _ _ _) _ Stopped result gave (before_ask _ OwnLabel _))
 
 pub returns-in_err-owners : goal.returns-in_err-owners
