@@ -1,5 +1,5 @@
 //! Making gates, and entering them.
-ghost use Rattle.histar_rules.specs.Rules.{Decides, IsNextNumber, IsEntryOf};
+ghost use Rattle.histar_rules.specs.Rules.{Decides};
 ghost use Rattle.histar_rules.specs.declared.raw.RawCall.TheVariants as calls;
 
 use histar_label::{Label, LabelStore};
@@ -16,8 +16,7 @@ pub fn make_gate<S: LabelStore + Drop>(
     entry: Entry,
 ) -> Result<ObjId, Refusal>
     ensures { Decides objects.old objects.new maker.now.thread
-        (calls.MakeGate maker.now.container label clearance entry) result
-        (IsNextNumber objects.old) }
+        (calls.MakeGate maker.now.container label clearance entry) result }
 {
     objects.check_new_owner(maker, &label, &clearance)?;
     let number = objects.next_object();
@@ -35,8 +34,7 @@ pub fn enter<S: LabelStore + Drop>(
 ) -> Result<Entry, Refusal>
     ensures { Decides objects.old objects.new access.now.thread
         (calls.Enter access.now.container access.now.object
-        labels.entry.wanted.now labels.entry.clearance.now labels.entry.verify.now) result
-        (IsEntryOf objects.old access.now.object) }
+        labels.entry.wanted.now labels.entry.clearance.now labels.entry.verify.now) result }
 {
     objects.enter(access, labels)
 }

@@ -13,7 +13,8 @@ use Rattle.histar_rules.specs.declared.raw.RawCall.{RawCall}
 use Rattle.histar_rules.specs.declared.raw.RawCall.TheVariants.{MakeCategory}
 use Rattle.histar_rules.specs.declared.raw.Refusal.{Refusal}
 use Rattle.histar_rules.specs.declared.raw.Refusal.TheVariants as refusals
-use Rattle.histar_rules.specs.Rules.{check, greatest, IsNextNumber}
+use Rattle.histar_rules.specs.Rules.{check, greatest}
+use Rattle.histar_rules.specs.RawAnswers.{AnswerOf, IsAnswer}
 use Rattle.histar_syscall.specs.KernelModel.{KernelModel, state, Called, IsUnchanged}
 use Rattle.histar_syscall.specs.Runs.{Granted}
 use Rattle.histar_layout.specs.Labelling.{written_by}
@@ -112,18 +113,10 @@ abbrev pub Passes : {A E : Type 0} → Result A Refusal → Result A E → Type 
 Passes answer (Ok a) = answer ≡ Ok a
 Passes answer (Err stopped) = answer ≡ Err refusals.OutOfMemory
 
--- the boot thread made this raw call, which was granted and has a right answer, or memory ran out and nothing has changed
-abbrev pub Grants : {A E : Type 0} → KernelModel → KernelModel → RawCall → Result A E → (A → Type 0) → Type 0
-Grants old new call (Ok a) IsRight = Called old new boot_thread_number call None × IsRight a
-Grants old new call (Err stopped) IsRight = IsUnchanged old new
-
--- the boot thread made an object by this raw call and got its number, or memory ran out and nothing has changed
-abbrev pub MakesObject : {E : Type 0} → KernelModel → KernelModel → RawCall → Result ℕ E → Type 0
-MakesObject old new call result = Grants old new call result (IsNextNumber old.kept)
-
--- a category is the next one before the call
-abbrev pub IsNextCategory : KernelModel → ℕ → Type 0
-IsNextCategory old category = category ≡ old.kept.next_category
+-- the boot thread made this raw call, which was granted and has its answer, or memory ran out and nothing has changed
+abbrev pub Grants : {E : Type 0} → KernelModel → KernelModel → (call : RawCall) → Result (AnswerOf call) E → Type 0
+Grants old new call (Ok answer) = Called old new boot_thread_number call None × IsAnswer (state old) boot_thread_number call answer
+Grants old new call (Err stopped) = IsUnchanged old new
 
 -- the next object gets this number
 abbrev pub IsBefore : ℕ → Part → Type 0

@@ -12,7 +12,7 @@ ghost use Rattle.histar_login.specs.Boot.{listing_call, outer_call, password_cal
 ghost use Rattle.histar_login.specs.Boot.{thread_call};
 ghost use Rattle.histar_login.specs.Booting.{Allows, BeginsDirectory, BeginsOn, BeginsProcess, BeginsUser, BeginsUsers, BootsOn};
 ghost use Rattle.histar_login.specs.Booting.{Grants, HasRoom, IsAnywhere, IsBeforeDirectory, IsBeforeUser, IsFirstDirectory};
-ghost use Rattle.histar_login.specs.Booting.{IsFirstHome, IsNextCategory, IsUnderWay, IsUndenied, MakesDirectory, MakesObject};
+ghost use Rattle.histar_login.specs.Booting.{IsFirstHome, IsUnderWay, IsUndenied, MakesDirectory};
 ghost use Rattle.histar_login.specs.Booting.{MakesProcess, MakesUser, MakesUsers, Passes, categories_part, two_categories};
 ghost use Rattle.histar_programs.specs.Start.{first_process_bytes, start_state, roots_of};
 
@@ -60,7 +60,7 @@ fn granted<A: Drop>(answer: Result<A, Refusal>) -> Result<A, Stopped>
 /// Makes a category, which the boot thread then owns.
 fn make_category<S: LabelStore + Drop>(kernel: &mut Kernel<S>) -> Result<Category, Stopped>
     requires { Allows kernel.old calls.MakeCategory }
-    ensures { Grants kernel.old kernel.new calls.MakeCategory result (IsNextCategory kernel.old) }
+    ensures { Grants kernel.old kernel.new calls.MakeCategory result }
 {
     granted(kernel.make_category(boot_thread()))
 }
@@ -99,7 +99,7 @@ fn make_password<S: LabelStore + Drop>(
     password: &[u8],
 ) -> Result<ObjId, Stopped>
     requires { Allows kernel.old (password_call number password.now) }
-    ensures { MakesObject kernel.old kernel.new (password_call number password.now) result }
+    ensures { Grants kernel.old kernel.new (password_call number password.now) result }
 {
     let (read, write) = (read_category(number), write_category(number));
     let secret = label_of(alloc, Level::L1, &[(read, Level::L3), (write, Level::L0)])?;
@@ -115,7 +115,7 @@ fn make_login_gate<S: LabelStore + Drop>(
     owners: &[u8],
 ) -> Result<ObjId, Stopped>
     requires { Allows kernel.old (gate_call number owners.now) }
-    ensures { MakesObject kernel.old kernel.new (gate_call number owners.now) result }
+    ensures { Grants kernel.old kernel.new (gate_call number owners.now) result }
 {
     let (given, clearance) = gate_labels(alloc, owners)?;
     let entry = Entry::Login(number);
@@ -167,7 +167,7 @@ fn make_user_table<S: LabelStore + Drop>(
     accounts: &Accounts,
 ) -> Result<ObjId, Stopped>
     requires { IsUnderWay (IsBeforeDirectory accounts.now) kernel.old }
-    ensures { MakesObject kernel.old kernel.new (table_call accounts.now) result }
+    ensures { Grants kernel.old kernel.new (table_call accounts.now) result }
 {
     let guarded = label_of(alloc, Level::L1, &[(Category::new(BOOT), Level::L0)])?;
     let table = user_table(alloc, accounts)?;
@@ -184,7 +184,7 @@ fn first_users_label(alloc: Global) -> Result<Label, AllocError>
 /// Makes the container of `/`.
 fn make_slash<S: LabelStore + Drop>(alloc: Global, kernel: &mut Kernel<S>) -> Result<ObjId, Stopped>
     requires { Allows kernel.old slash_call }
-    ensures { MakesObject kernel.old kernel.new slash_call result }
+    ensures { Grants kernel.old kernel.new slash_call result }
 {
     let label = first_users_label(alloc)?;
     granted(kernel.make_container(alloc, boot_thread(), root_container(), label))
@@ -197,7 +197,7 @@ fn make_listing<S: LabelStore + Drop>(
     slash: ObjId,
 ) -> Result<ObjId, Stopped>
     requires { Allows kernel.old (listing_call slash) }
-    ensures { MakesObject kernel.old kernel.new (listing_call slash) result }
+    ensures { Grants kernel.old kernel.new (listing_call slash) result }
 {
     let label = first_users_label(alloc)?;
     let empty = Bytes::new(alloc);
@@ -239,7 +239,7 @@ fn make_outer<S: LabelStore + Drop>(
     write: Category,
 ) -> Result<ObjId, Stopped>
     requires { Allows kernel.old (outer_call write) }
-    ensures { MakesObject kernel.old kernel.new (outer_call write) result }
+    ensures { Grants kernel.old kernel.new (outer_call write) result }
 {
     let label = label_of(alloc, Level::L1, &[(write, Level::L0)])?;
     granted(kernel.make_container(alloc, boot_thread(), root_container(), label))
@@ -254,7 +254,7 @@ fn make_internal<S: LabelStore + Drop>(
     write: Category,
 ) -> Result<ObjId, Stopped>
     requires { Allows kernel.old (inner_call outer read write) }
-    ensures { MakesObject kernel.old kernel.new (inner_call outer read write) result }
+    ensures { Grants kernel.old kernel.new (inner_call outer read write) result }
 {
     let secret = label_of(alloc, Level::L1, &[(read, Level::L3), (write, Level::L0)])?;
     granted(kernel.make_container(alloc, boot_thread(), outer, secret))
@@ -269,7 +269,7 @@ fn make_first_thread<S: LabelStore + Drop>(
     write: Category,
 ) -> Result<ObjId, Stopped>
     requires { Allows kernel.old (thread_call internal read write) }
-    ensures { MakesObject kernel.old kernel.new (thread_call internal read write) result }
+    ensures { Grants kernel.old kernel.new (thread_call internal read write) result }
 {
     let own = label_of(
         alloc,
@@ -290,7 +290,7 @@ fn make_status<S: LabelStore + Drop>(
     thread: ObjId,
 ) -> Result<ObjId, Stopped>
     requires { Allows kernel.old (status_call outer write internal thread) }
-    ensures { MakesObject kernel.old kernel.new (status_call outer write internal thread) result }
+    ensures { Grants kernel.old kernel.new (status_call outer write internal thread) result }
 {
     let guarded = label_of(alloc, Level::L1, &[(write, Level::L0)])?;
     let bytes = process_bytes(alloc, internal, thread)?;
@@ -326,7 +326,7 @@ fn unlink_boot_thread<S: LabelStore + Drop>(
     kernel: &mut Kernel<S>,
 ) -> Result<(), Stopped>
     requires { Allows kernel.old last_call }
-    ensures { Grants kernel.old kernel.new last_call result (λ _. Unit {0}) }
+    ensures { Grants kernel.old kernel.new last_call result }
 {
     granted(kernel.unlink(alloc, boot_thread(), root_container(), boot_thread()))
 }

@@ -164,7 +164,7 @@ module _ (t : ℕ) (roots : Roots) (old new : KernelModel) (names : Path) where
 -- bytes that spell a directory's entries are written
 pub writes : (t : ℕ) (old new : KernelModel) (place : Place) (entries : Entries) (bytes : List ℕ)
     → IsDirectory bytes entries → (answer : Result (Unit {0}) Refusal)
-    → Answered old new t (Write place.container place.listing 0 bytes) answer (λ _. Unit {0})
+    → Answered old new t (Write place.container place.listing 0 bytes) answer
     → (result : Result (Unit {0}) CallError) → result ≡ or_call_error write_errno_of answer → RunsPart (write_entries place entries) old new t result
 writes t old new place entries bytes spells answer answered result is =
     part_as t (write_entries place entries) old new (ask (Write place.container place.listing 0 bytes))

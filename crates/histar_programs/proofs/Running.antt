@@ -8,7 +8,7 @@ use Rattle.histar_flat.specs.declared.replies.Reply.TheVariants as replies
 use Rattle.histar_rules.specs.declared.raw.RawCall.{RawCall}
 use Rattle.histar_rules.specs.declared.raw.Refusal.{Refusal}
 use Rattle.histar_rules.specs.declared.raw.Refusal.TheVariants as refusals
-use Rattle.histar_syscall.specs.KernelModel.{KernelModel, state, Called, Answered}
+use Rattle.histar_syscall.specs.KernelModel.{KernelModel, state, Called, Answered, AnsweredAs}
 use Rattle.histar_syscall.proofs.Runs.{same_kernel}
 use Rattle.histar_layout.specs.Directory.{Entries, IsDirectory}
 use Rattle.histar_programs.specs.declared.call_error.Stopped.{Stopped}
@@ -55,7 +55,7 @@ module _ (t : ℕ) where
 
   -- a raw call that was refused
   pub refuses : {A : Type 0} (call : RawCall) (old new : KernelModel) (P : A → Type 0) (refusal : Refusal)
-      → Answered {A = A} old new t call (Err refusal) P
+      → AnsweredAs {A = A} old new t call (Err refusal) P
       → RunsPart (ask call) old new t (Err (call_error_of (errno_for call) refusal))
   unfolding RunsPart
   refuses call old new P (refusals.Denied denied) called = by (errno_for call denied) refl
@@ -73,7 +73,7 @@ module _ (t : ℕ) where
 
   -- a raw call, by what the kernel answered
   pub asks : (call : RawCall) (old new : KernelModel) (answer : Result (AnswerOf call) Refusal)
-      → Answered old new t call answer (IsAnswer (state old) t call) → (result : Result (AnswerOf call) CallError)
+      → Answered old new t call answer → (result : Result (AnswerOf call) CallError)
       → result ≡ or_call_error (errno_for call) answer → RunsPart (ask call) old new t result
   asks call old new (Ok answer) answered result is = subst (RunsPart (ask call) old new t) (sym is) (grants call old new answer answered.0 answered.1)
   asks call old new (Err refusal) answered result is =

@@ -29,7 +29,7 @@ use Rattle.histar_rules.specs.declared.raw.Refusal.TheVariants as refusals
 use Rattle.histar_rules.specs.declared.raw.RawCall.{RawCall}
 use Rattle.histar_rules.specs.declared.raw.RawCall.TheVariants.{MakeCategory, OwnLabel, SetLabel, SetClearance, MakeSegment, MakeContainer}
 use Rattle.histar_rules.specs.declared.raw.RawCall.TheVariants.{MakeThread, MakeGate, Enter, Read, Write, Unlink, LabelOf}
-use Rattle.histar_rules.specs.Rules.{no_thread, no_container, no_link, no_gate, no_making, known, check, Changes, Decides}
+use Rattle.histar_rules.specs.Rules.{no_thread, no_container, no_link, no_gate, no_making, known, check, Changes, DecidesAs}
 use Rattle.histar_rules.specs.Sound.{root_number, IsWellLabelled, IsSound}
 use Rattle.histar_rules.proofs.Passing.{unless_none, first, rest, passes, caller_is, container_is}
 use Rattle.histar_rules.proofs.WellLabelled.{well_holding, well_plain, well_cleared, well_thread, well_relabelled, well_clearing, well_owning}
@@ -219,7 +219,7 @@ sound_changes s new t (LabelOf d o) sound e is = subst IsSound (sym is) sound
 
 -- so a call leaves a sound state sound, whatever its outcome
 pub sound_decided : {A : Type 0} (old new : ObjectsModel) (t : ℕ) (call : RawCall) (r : Result A Refusal)
-    (P : A → Type 0) → IsSound (state_of old) → Decides old new t call r P → IsSound (state_of new)
+    (P : A → Type 0) → IsSound (state_of old) → DecidesAs old new t call r P → IsSound (state_of new)
 sound_decided old new t call (Ok answer) P sound decides = sound_changes (state_of old) (state_of new) t call sound decides.0 decides.1
 sound_decided old new t call (Err (refusals.Denied denied)) P sound decides = subst IsSound (sym decides.1) sound
 sound_decided old new t call (Err refusals.OutOfMemory) P sound decides = subst IsSound (sym decides) sound

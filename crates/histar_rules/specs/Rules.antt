@@ -1,11 +1,9 @@
 -- The rules of the kernel: for each raw call the first failing check, and the state that it leaves where none fails.
-use Rattle.std.specs.Prelude.{◌≡◌, ℕ, ◌+◌, ◌<◌, Bool, not, List, ◌++◌, Option, None, Some, length, take, min, nat_lt, nat_le, Result, Ok, Err, ⊤}
+use Rattle.std.specs.Prelude.{◌≡◌, ℕ, ◌+◌, Bool, not, List, ◌++◌, Option, None, Some, length, take, min, nat_lt, nat_le, Result, Ok, Err, ⊤}
 use Rattle.std.specs.FinSet as set
 use Rattle.histar_base.specs.Refusals.{unless, ◌orelse◌}
 use Rattle.histar_label.specs.Levels.{Levels, is_made, has_star}
-use Rattle.histar_object.specs.Objects.{is_present, is_segment, is_container, is_thread, is_gate, thread_of, links_in, bytes_in, objects_of}
-use Rattle.histar_object.specs.Objects.{label_there, clearance_there, entry_there}
-use Rattle.histar_object.specs.declared.objects.Entry.{Entry}
+use Rattle.histar_object.specs.Objects.{is_present, is_segment, is_container, is_thread, is_gate, thread_of, links_in, bytes_in}
 use Rattle.histar_object.specs.declared.objects.Kind.TheVariants.{Segment, Container}
 use Rattle.histar_object.specs.declared.objects.Kind.TheVariants as gates
 use Rattle.histar_rules.specs.Rights.{in_span, may_clear, is_own_below, is_let_in, in_gate, with_label, with_clearance, with_changed, with_category}
@@ -18,6 +16,7 @@ use Rattle.histar_rules.specs.declared.raw.Refusal.TheVariants as refusals
 use Rattle.histar_rules.specs.declared.raw.RawCall.{RawCall}
 use Rattle.histar_rules.specs.declared.raw.RawCall.TheVariants.{MakeCategory, OwnLabel, SetLabel, SetClearance, MakeSegment, MakeContainer}
 use Rattle.histar_rules.specs.declared.raw.RawCall.TheVariants.{MakeThread, MakeGate, Enter, Read, Write, Unlink, LabelOf}
+use Rattle.histar_rules.specs.RawAnswers.{AnswerOf, IsAnswer}
 
 -- the greatest number of 64 bits: a counter with this value can't rise
 abbrev pub greatest : ℕ
@@ -158,29 +157,13 @@ abbrev pub Leaves : Option Denied → State → ℕ → RawCall → State → Ty
 Leaves None s t call new = Changes s t call new
 Leaves (Some denied) s t call new = new ≡ s
 
--- How a call on the state ends: its checks passed, it left the state that the rules give, and its answer is right; or it was denied by its
+-- How a call on the state ends: its checks passed, it left the state that the rules give, and what it returns is so; or it was denied by its
 -- first failing check and left the old state; or memory ran out, and it left the old state.
-abbrev pub Decides : {A : Type 0} → ObjectsModel → ObjectsModel → ℕ → RawCall → Result A Refusal → (A → Type 0) → Type 0
-Decides old new t call (Ok answer) IsRight = (check (state_of old) t call ≡ None) × Changes (state_of old) t call (state_of new) × IsRight answer
-Decides old new t call (Err (refusals.Denied denied)) IsRight = (check (state_of old) t call ≡ Some denied) × (state_of new ≡ state_of old)
-Decides old new t call (Err refusals.OutOfMemory) IsRight = state_of new ≡ state_of old
+abbrev pub DecidesAs : {A : Type 0} → ObjectsModel → ObjectsModel → ℕ → RawCall → Result A Refusal → (A → Type 0) → Type 0
+DecidesAs old new t call (Ok answer) IsRight = (check (state_of old) t call ≡ None) × Changes (state_of old) t call (state_of new) × IsRight answer
+DecidesAs old new t call (Err (refusals.Denied denied)) IsRight = (check (state_of old) t call ≡ Some denied) × (state_of new ≡ state_of old)
+DecidesAs old new t call (Err refusals.OutOfMemory) IsRight = state_of new ≡ state_of old
 
--- a new object gets the number that came next before the call, which is not 0
-abbrev pub IsNextNumber : ObjectsModel → ℕ → Type 0
-IsNextNumber old number = (number ≡ old.next_object) × (0 < number)
-
--- the bytes of a segment; an object of another kind has none
-abbrev pub AreBytesOf : ObjectsModel → ℕ → List ℕ → Type 0
-AreBytesOf old segment bytes = bytes ≡ bytes_in (objects_of old.objects segment)
-
--- the label of an object that is there
-abbrev pub IsLabelOf : ObjectsModel → ℕ → Levels → Type 0
-IsLabelOf old object label = Some label ≡ label_there (objects_of old.objects object)
-
--- the label and the clearance of a thread that is there
-abbrev pub AreLabelsOf : ObjectsModel → ℕ → Levels × Levels → Type 0
-AreLabelsOf old thread own = IsLabelOf old thread own.0 × (Some own.1 ≡ clearance_there (objects_of old.objects thread))
-
--- the entry of a gate that is there
-abbrev pub IsEntryOf : ObjectsModel → ℕ → Entry → Type 0
-IsEntryOf old gate entry = Some entry ≡ entry_there (objects_of old.objects gate)
+-- a call on the state ends so, and returns its answer
+abbrev pub Decides : ObjectsModel → ObjectsModel → ℕ → (call : RawCall) → Result (AnswerOf call) Refusal → Type 0
+Decides old new t call result = DecidesAs old new t call result (IsAnswer (state_of old) t call)

@@ -16,7 +16,7 @@ ghost use Rattle.histar_rules.specs.Kinds.{kind_there};
 ghost use Rattle.histar_rules.specs.Rights.{with_changed, with_clearance, with_label};
 ghost use Rattle.histar_rules.specs.Sound.{root_number};
 ghost use Rattle.histar_rules.specs.Rules.{check, greatest, no_new, no_new_owner, FailsAt, FailsAtUnlessExhausted, Decides};
-ghost use Rattle.histar_rules.specs.Rules.{AreBytesOf, IsLabelOf, IsEntryOf};
+ghost use Rattle.histar_rules.specs.RawAnswers.{IsAnswer};
 ghost use Rattle.histar_rules.specs.declared.raw.RawCall.TheVariants as calls;
 
 use crate::access::{Access, Maker};
@@ -271,7 +271,8 @@ impl<S: LabelStore + Drop> LabelledObjects<S> {
     pub fn read(&mut self, alloc: Global, access: &Access) -> Result<Bytes, Refusal>
         ensures answer { FailsAtUnlessExhausted (check (state_of self.old) access.now.thread
             (calls.Read access.now.container access.now.object)) result }
-        ensures bytes { IfOk result (AreBytesOf self.old access.now.object) }
+        ensures bytes { IfOk result (IsAnswer (state_of self.old) access.now.thread
+            (calls.Read access.now.container access.now.object)) }
         ensures unchanged { self.new ≡ self.old }
     {
         let bytes = read_in(&mut self.store, &self.table, access)?;
@@ -300,8 +301,7 @@ impl<S: LabelStore + Drop> LabelledObjects<S> {
     pub fn label_of(&mut self, access: &Access) -> Result<Label, Refusal>
         requires { AreTree (objects_of self.old.objects) }
         ensures { Decides self.old self.new access.now.thread
-            (calls.LabelOf access.now.container access.now.object) result
-            (IsLabelOf self.old access.now.object) }
+            (calls.LabelOf access.now.container access.now.object) result }
     {
         let Some(label) = label_in(&mut self.store, &self.table, access)? else {
             return Err(Refusal::Denied(Denied::NoEntry));
@@ -378,7 +378,9 @@ impl<S: LabelStore + Drop> LabelledObjects<S> {
         ensures answer { FailsAtUnlessExhausted (check (state_of self.old) access.now.thread
             (calls.Enter access.now.container access.now.object
             labels.entry.wanted.now labels.entry.clearance.now labels.entry.verify.now)) result }
-        ensures entry { IfOk result (IsEntryOf self.old access.now.object) }
+        ensures entry { IfOk result (IsAnswer (state_of self.old) access.now.thread
+            (calls.Enter access.now.container access.now.object
+            labels.entry.wanted.now labels.entry.clearance.now labels.entry.verify.now)) }
         ensures ok { OnOk result (state_of self.new ≡ with_own (state_of self.old) access.now.thread
             labels.entry.wanted.now labels.entry.clearance.now) }
         ensures err { OnErr result (state_of self.new ≡ state_of self.old) }

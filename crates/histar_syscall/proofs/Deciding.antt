@@ -4,7 +4,7 @@ use Rattle.histar_container.specs.ObjectsModel.{ObjectsModel, state_of}
 use Rattle.histar_rules.specs.declared.raw.RawCall.{RawCall}
 use Rattle.histar_rules.specs.declared.raw.Refusal.{Refusal}
 use Rattle.histar_rules.specs.declared.raw.Refusal.TheVariants as refusals
-use Rattle.histar_rules.specs.Rules.{Decides}
+use Rattle.histar_rules.specs.Rules.{DecidesAs}
 use Rattle.histar_syscall.specs.declared.answers.Answer.{Answer}
 use Rattle.histar_syscall.specs.Answers.{IsAnswerValue, IsValueOf}
 
@@ -21,7 +21,7 @@ turn old new thread call = record { old = old; new = new; thread = thread; call 
 
 -- the turn ends so, and what it answers is right
 abbrev pub Ends : {A : Type 0} → Turn → Result A Refusal → (A → Type 0) → Type 0
-Ends t result IsRight = Decides t.old t.new t.thread t.call result IsRight
+Ends t result IsRight = DecidesAs t.old t.new t.thread t.call result IsRight
 
 -- the answer is the value that the state before the turn determines
 abbrev pub IsValueIn : Turn → Answer → Type 0

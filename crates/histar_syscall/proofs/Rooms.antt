@@ -5,21 +5,22 @@ use Rattle.histar_container.specs.ObjectsModel.{ObjectsModel}
 use Rattle.histar_rules.specs.declared.raw.RawCall.{RawCall}
 use Rattle.histar_rules.specs.declared.raw.Refusal.{Refusal}
 use Rattle.histar_rules.specs.declared.raw.Refusal.TheVariants as refusals
-use Rattle.histar_rules.specs.Rules.{Decides}
+use Rattle.histar_rules.specs.Rules.{Decides, DecidesAs}
+use Rattle.histar_rules.specs.RawAnswers.{AnswerOf, IsAnswer}
 use Rattle.histar_trace.specs.declared.entries.TraceEntry.{TraceEntry}
 use Rattle.histar_trace.specs.Traces.{logged}
-use Rattle.histar_syscall.specs.KernelModel.{KernelModel, IsUnchanged, Answered}
+use Rattle.histar_syscall.specs.KernelModel.{KernelModel, state, IsUnchanged, Answered, AnsweredAs}
 
 -- where memory runs out nothing has changed
 pub exits : {A : Type 0} (old new : KernelModel) (t : ℕ) (call : RawCall) (r : Result A Refusal) (P : A → Type 0)
-    → IsErrAnd r (λ e. e ≡ refusals.OutOfMemory) → IsUnchanged old new → Answered old new t call r P
+    → IsErrAnd r (λ e. e ≡ refusals.OutOfMemory) → IsUnchanged old new → AnsweredAs old new t call r P
 exits old new t call (Ok a) P h u = absurd h
-exits {A} old new t call (Err e) P h u = subst (λ (x : Refusal). Answered {A = A} old new t call (Err x) P) (sym h) u
+exits {A} old new t call (Err e) P h u = subst (λ (x : Refusal). AnsweredAs {A = A} old new t call (Err x) P) (sym h) u
 
 -- a call is answered that was decided on the objects and recorded in the trace
 pub answered : {A : Type 0} (old : KernelModel) (kept : ObjectsModel) (trace : List TraceEntry) (t : ℕ) (call : RawCall)
-    (r : Result A Refusal) (P : A → Type 0) → Decides old.kept kept t call r P
-    → trace ≡ logged old.trace old.line t call r → Answered old (record { kept = kept; line = old.line; trace = trace }) t call r P
+    (r : Result A Refusal) (P : A → Type 0) → DecidesAs old.kept kept t call r P
+    → trace ≡ logged old.trace old.line t call r → AnsweredAs old (record { kept = kept; line = old.line; trace = trace }) t call r P
 answered old kept trace t call (Ok answer) P decided entry =
     (record { outcome = decided.0; state = decided.1; trace = entry; line = refl }, decided.2)
 answered old kept trace t call (Err (refusals.Denied denied)) P decided entry =
@@ -29,19 +30,27 @@ answered old kept trace t call (Err refusals.OutOfMemory) P decided entry = reco
 -- a call that was stored, decided on the objects and recorded is answered
 pub recorded : {A : Type 0} (old inside : KernelModel) (kept : ObjectsModel) (stored trace : List TraceEntry) (t : ℕ) (call : RawCall)
     (decided answer : Result A Refusal) (P : KernelModel → A → Type 0) → inside ≡ old → stored ≡ inside.trace
-    → Decides inside.kept kept t call decided (P inside) → answer ≡ decided → trace ≡ logged stored inside.line t call decided
-    → Answered old (record { kept = kept; line = inside.line; trace = trace }) t call answer (P old)
+    → DecidesAs inside.kept kept t call decided (P inside) → answer ≡ decided → trace ≡ logged stored inside.line t call decided
+    → AnsweredAs old (record { kept = kept; line = inside.line; trace = trace }) t call answer (P old)
 recorded {A} old inside kept stored trace t call decided answer P same entries is said entry =
     let after : KernelModel = record { kept = kept; line = inside.line; trace = trace } in
-    subst (λ (k : KernelModel). Answered k after t call answer (P k)) same
-    (subst (λ (r : Result A Refusal). Answered inside after t call r (P inside)) (sym said)
+    subst (λ (k : KernelModel). AnsweredAs k after t call answer (P k)) same
+    (subst (λ (r : Result A Refusal). AnsweredAs inside after t call r (P inside)) (sym said)
     (answered inside kept trace t call decided (P inside) is (entry ∙ ap (λ (es : List TraceEntry). logged es inside.line t call decided) entries)))
+
+-- a call that was stored, decided on the objects and recorded has its answer
+pub recorded_answer : (old inside : KernelModel) (kept : ObjectsModel) (stored trace : List TraceEntry) (t : ℕ) (call : RawCall)
+    (decided answer : Result (AnswerOf call) Refusal) → inside ≡ old → stored ≡ inside.trace
+    → Decides inside.kept kept t call decided → answer ≡ decided → trace ≡ logged stored inside.line t call decided
+    → Answered old (record { kept = kept; line = inside.line; trace = trace }) t call answer
+recorded_answer old inside kept stored trace t call decided answer same entries is said entry =
+    recorded old inside kept stored trace t call decided answer (λ k. IsAnswer (state k) t call) same entries is said entry
 
 -- a call that found no memory to be stored has changed nothing
 pub unstored : {A : Type 0} (old inside : KernelModel) (trace : List TraceEntry) (t : ℕ) (call : RawCall) (r : Result A Refusal) (P : A → Type 0)
     → inside ≡ old → trace ≡ inside.trace → IsErrAnd r (λ e. e ≡ refusals.OutOfMemory)
-    → Answered old (record { kept = inside.kept; line = inside.line; trace = trace }) t call r P
+    → AnsweredAs old (record { kept = inside.kept; line = inside.line; trace = trace }) t call r P
 unstored old inside trace t call r P same entries h =
-    subst (λ (k : KernelModel). Answered k (record { kept = inside.kept; line = inside.line; trace = trace }) t call r P) same
+    subst (λ (k : KernelModel). AnsweredAs k (record { kept = inside.kept; line = inside.line; trace = trace }) t call r P) same
     (exits inside (record { kept = inside.kept; line = inside.line; trace = trace }) t call r P h
     (record { state = refl; trace = entries; line = refl }))

@@ -16,7 +16,8 @@ use Rattle.histar_rules.specs.declared.raw.Refusal.TheVariants as refusals
 use Rattle.histar_trace.specs.declared.entries.TraceEntry.{TraceEntry}
 use Rattle.histar_trace.specs.contracts.entries.TraceEntry as entry
 use Rattle.histar_rules.specs.Sound.{root_number}
-use Rattle.histar_rules.specs.Rules.{check, Leaves, AreBytesOf, AreLabelsOf}
+use Rattle.histar_rules.specs.Rules.{check, Leaves}
+use Rattle.histar_rules.specs.RawAnswers.{AnswerOf, IsAnswer}
 
 -- the content of a kernel: its objects, the line that was begun last, and the trace of its calls
 pub record KernelModel : Type 0 where
@@ -49,19 +50,25 @@ pub record IsUnchanged (old new : KernelModel) : Type 0 where
   pub trace : new.trace ≡ old.trace
   pub line : new.line ≡ old.line
 
--- the call was granted and has this answer, or it was denied, or memory ran out and nothing has changed
-abbrev pub Answered : {A : Type 0} → KernelModel → KernelModel → ℕ → RawCall → Result A Refusal → (A → Type 0) → Type 0
-Answered old new t call (Ok answer) IsRight = Called old new t call None × IsRight answer
-Answered old new t call (Err (refusals.Denied denied)) IsRight = Called old new t call (Some denied)
-Answered old new t call (Err refusals.OutOfMemory) IsRight = IsUnchanged old new
+-- the call was granted and what it returns is so, or it was denied, or memory ran out and nothing has changed
+abbrev pub AnsweredAs : {A : Type 0} → KernelModel → KernelModel → ℕ → RawCall → Result A Refusal → (A → Type 0) → Type 0
+AnsweredAs old new t call (Ok answer) IsRight = Called old new t call None × IsRight answer
+AnsweredAs old new t call (Err (refusals.Denied denied)) IsRight = Called old new t call (Some denied)
+AnsweredAs old new t call (Err refusals.OutOfMemory) IsRight = IsUnchanged old new
+
+-- the call was granted and has its answer, or it was denied, or memory ran out and nothing has changed
+abbrev pub Answered : KernelModel → KernelModel → ℕ → (call : RawCall) → Result (AnswerOf call) Refusal → Type 0
+Answered old new t call result = AnsweredAs old new t call result (IsAnswer (state old) t call)
 
 -- a read was made, and it lends the bytes of the segment
 abbrev pub ReadsLent : KernelModel → ℕ → ℕ → ℕ → Result (Bor (List ℕ)) Refusal → KernelModel → Type 0
-ReadsLent old t container segment result new = Answered old new t (Read container segment) result (λ bytes. AreBytesOf old.kept segment bytes.now)
+ReadsLent old t container segment result new =
+    AnsweredAs old new t (Read container segment) result (λ bytes. IsAnswer (state old) t (Read container segment) bytes.now)
 
 -- a thread asked for its own label, which is lent to it
 abbrev pub OwnLent : KernelModel → ℕ → Result (Bor Levels) Refusal → KernelModel → Type 0
-OwnLent old t result new = Answered old new t OwnLabel result (λ own. (clearance : Levels) × AreLabelsOf old.kept t (own.now, clearance))
+OwnLent old t result new =
+    AnsweredAs old new t OwnLabel result (λ own. (clearance : Levels) × IsAnswer (state old) t OwnLabel (own.now, clearance))
 
 -- a kernel whose call lends something of it ends as the call left it
 abbrev pub EndsAs : (R : RattleType) → MutBor R.Denot → (R.Denot → Type 0) → Fml

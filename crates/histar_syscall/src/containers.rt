@@ -1,7 +1,7 @@
 //! The raw calls on containers.
 ghost use Rattle.histar_object.specs.Objects.{objects_of};
 ghost use Rattle.histar_container.specs.Tree.{AreTree};
-ghost use Rattle.histar_rules.specs.Rules.{Decides, IsNextNumber};
+ghost use Rattle.histar_rules.specs.Rules.{Decides};
 ghost use Rattle.histar_rules.specs.declared.raw.RawCall.TheVariants as calls;
 
 use histar_label::{Label, LabelStore};
@@ -17,7 +17,7 @@ pub fn make_container<S: LabelStore + Drop>(
     label: Label,
 ) -> Result<ObjId, Refusal>
     ensures { Decides objects.old objects.new maker.now.thread
-        (calls.MakeContainer maker.now.container label) result (IsNextNumber objects.old) }
+        (calls.MakeContainer maker.now.container label) result }
 {
     objects.check_new(maker, &label, 0)?;
     let number = objects.next_object();
@@ -33,7 +33,7 @@ pub fn unlink<S: LabelStore + Drop>(
 ) -> Result<(), Refusal>
     requires { AreTree (objects_of objects.old.objects) }
     ensures { Decides objects.old objects.new access.now.thread
-        (calls.Unlink access.now.container access.now.object) result (λ _. Unit {0}) }
+        (calls.Unlink access.now.container access.now.object) result }
 {
     objects.check_unlink(access)?;
     objects.remove(alloc, access.container, access.object)?;

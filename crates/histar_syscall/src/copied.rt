@@ -1,5 +1,5 @@
 //! The calls that make an object, with labels that are copied from a raw call as data.
-ghost use Rattle.histar_rules.specs.Rules.{Decides, IsNextNumber};
+ghost use Rattle.histar_rules.specs.Rules.{Decides};
 ghost use Rattle.histar_rules.specs.declared.raw.RawCall.TheVariants as calls;
 
 use crate::containers::make_container;
@@ -21,8 +21,7 @@ pub(crate) fn copied_segment<S: LabelStore + Drop>(
     bytes: &Bytes,
 ) -> Result<ObjId, Refusal>
     ensures { Decides objects.old objects.new maker.now.thread
-        (calls.MakeSegment maker.now.container label.now bytes.now) result
-        (IsNextNumber objects.old) }
+        (calls.MakeSegment maker.now.container label.now bytes.now) result }
 {
     let label = label.label().copy()?;
     make_segment(objects, alloc, maker, label, bytes)
@@ -36,7 +35,7 @@ pub(crate) fn copied_container<S: LabelStore + Drop>(
     label: &HandedLabel,
 ) -> Result<ObjId, Refusal>
     ensures { Decides objects.old objects.new maker.now.thread
-        (calls.MakeContainer maker.now.container label.now) result (IsNextNumber objects.old) }
+        (calls.MakeContainer maker.now.container label.now) result }
 {
     let label = label.label().copy()?;
     make_container(objects, alloc, maker, label)
@@ -50,8 +49,7 @@ pub(crate) fn copied_thread<S: LabelStore + Drop>(
     clearance: &HandedLabel,
 ) -> Result<ObjId, Refusal>
     ensures { Decides objects.old objects.new maker.now.thread
-        (calls.MakeThread maker.now.container label.now clearance.now) result
-        (IsNextNumber objects.old) }
+        (calls.MakeThread maker.now.container label.now clearance.now) result }
 {
     let label = label.label().copy()?;
     let clearance = clearance.label().copy()?;
@@ -67,8 +65,7 @@ pub(crate) fn copied_gate<S: LabelStore + Drop>(
     entry: Entry,
 ) -> Result<ObjId, Refusal>
     ensures { Decides objects.old objects.new maker.now.thread
-        (calls.MakeGate maker.now.container label.now clearance.now entry) result
-        (IsNextNumber objects.old) }
+        (calls.MakeGate maker.now.container label.now clearance.now entry) result }
 {
     let label = label.label().copy()?;
     let clearance = clearance.label().copy()?;

@@ -2,7 +2,7 @@
 ghost use Rattle.histar_object.specs.Objects.{objects_of};
 ghost use Rattle.histar_container.specs.ObjectsModel.{state_of};
 ghost use Rattle.histar_container.specs.Tree.{AreTree};
-ghost use Rattle.histar_rules.specs.Rules.{Decides};
+ghost use Rattle.histar_rules.specs.Rules.{DecidesAs};
 ghost use Rattle.histar_syscall.specs.Answers.{IsAnswerValue, IsValueOf};
 ghost use Rattle.histar_syscall.specs.declared.answers.Answer.TheVariants as answers;
 
@@ -26,7 +26,7 @@ pub(crate) fn decide<S: LabelStore + Drop>(
     call: &RawCall,
 ) -> Result<Answer, Refusal>
     requires { AreTree (objects_of objects.old.objects) }
-    ensures { Decides objects.old objects.new thread call.now result
+    ensures { DecidesAs objects.old objects.new thread call.now result
         (λ a. IsAnswerValue (state_of objects.old) thread call.now a) }
 {
     match call {

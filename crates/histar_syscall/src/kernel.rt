@@ -5,11 +5,11 @@ ghost use Rattle.std.specs.Option.{option_copied};
 ghost use Rattle.histar_object.specs.Objects.{objects_of, bytes_in, clearance_there, is_container, is_thread, label_there};
 ghost use Rattle.histar_object.specs.State.{empty_state};
 ghost use Rattle.histar_rules.specs.Kinds.{kind_there};
-ghost use Rattle.histar_rules.specs.Rules.{IsNextNumber, AreBytesOf, AreLabelsOf, IsLabelOf, IsEntryOf};
+ghost use Rattle.histar_rules.specs.RawAnswers.{IsAnswer};
 ghost use Rattle.histar_rules.specs.Sound.{IsSound};
 ghost use Rattle.histar_rules.specs.declared.raw.RawCall.TheVariants as calls;
 ghost use Rattle.histar_syscall.specs.Answers.{IsAnswerValue};
-ghost use Rattle.histar_syscall.specs.KernelModel.{Answered, ReadsLent, OwnLent, EndsAs, lent_bytes, state};
+ghost use Rattle.histar_syscall.specs.KernelModel.{Answered, AnsweredAs, ReadsLent, OwnLent, EndsAs, lent_bytes, state};
 
 use crate::answers::Answer;
 use crate::containers::{make_container, unlink};
@@ -101,7 +101,7 @@ impl<S: LabelStore + Drop> Kernel<S> {
 
     /// Makes one raw call of any kind.
     pub fn call(&mut self, alloc: Global, thread: ObjId, call: RawCall) -> Result<Answer, Refusal>
-        ensures answered { Answered self.old self.new thread call result
+        ensures answered { AnsweredAs self.old self.new thread call result
             (λ a. IsAnswerValue (state self.old) thread call a) }
 
         // The objects of every kernel are sound.
@@ -119,7 +119,7 @@ impl<S: LabelStore + Drop> Kernel<S> {
         thread: ObjId,
         call: &RawCall,
     ) -> Result<Answer, Refusal>
-        ensures answered { Answered self.old self.new thread call.now result
+        ensures answered { AnsweredAs self.old self.new thread call.now result
             (λ a. IsAnswerValue (state self.old) thread call.now a) }
         ensures sound { IsSound (state self.old) × IsSound (state self.new) }
     {
@@ -130,8 +130,7 @@ impl<S: LabelStore + Drop> Kernel<S> {
 
     /// Makes a category. The thread owns it from then on, and its clearance there is 3.
     pub fn make_category(&mut self, thread: ObjId) -> Result<Category, Refusal>
-        ensures { Answered self.old self.new thread calls.MakeCategory result
-            (λ category. category ≡ self.old.kept.next_category) }
+        ensures { Answered self.old self.new thread calls.MakeCategory result }
     {
         self.trace.make_room()?;
         let answer = make_category(&mut self.objects, thread);
@@ -141,7 +140,7 @@ impl<S: LabelStore + Drop> Kernel<S> {
 
     /// Returns the thread's own label and clearance.
     pub fn own_label(&mut self, thread: ObjId) -> Result<(Label, Label), Refusal>
-        ensures { Answered self.old self.new thread calls.OwnLabel result (AreLabelsOf self.old.kept thread) }
+        ensures { Answered self.old self.new thread calls.OwnLabel result }
     {
         self.trace.make_room()?;
         let answer = own_label(&self.objects, thread);
@@ -160,8 +159,8 @@ impl<S: LabelStore + Drop> Kernel<S> {
 
     // Makes the call by which a thread learns its own label, without the label: it is lent once it is recorded.
     fn ask_own_label(&mut self, thread: ObjId) -> Result<(), Refusal>
-        ensures { Answered self.old self.new thread calls.OwnLabel result
-            (λ _. (own : Levels × Levels) × AreLabelsOf self.old.kept thread own) }
+        ensures { AnsweredAs self.old self.new thread calls.OwnLabel result
+            (λ _. (own : Levels × Levels) × IsAnswer (state self.old) thread calls.OwnLabel own) }
     {
         self.trace.make_room()?;
         let answer = check_own_label(&self.objects, thread);
@@ -171,7 +170,7 @@ impl<S: LabelStore + Drop> Kernel<S> {
 
     /// Gives the thread another label, which lies between its own label and its clearance.
     pub fn set_label(&mut self, thread: ObjId, label: Label) -> Result<(), Refusal>
-        ensures { Answered self.old self.new thread (calls.SetLabel label) result (λ _. Unit {0}) }
+        ensures { Answered self.old self.new thread (calls.SetLabel label) result }
     {
         let call = self.trace.store_set_label(&label)?;
         let answer = set_label(&mut self.objects, thread, &label);
@@ -181,7 +180,7 @@ impl<S: LabelStore + Drop> Kernel<S> {
     /// Gives the thread another clearance, which is above its own label, and exceeds its old clearance only
     /// where the thread owns.
     pub fn set_clearance(&mut self, thread: ObjId, clearance: Label) -> Result<(), Refusal>
-        ensures { Answered self.old self.new thread (calls.SetClearance clearance) result (λ _. Unit {0}) }
+        ensures { Answered self.old self.new thread (calls.SetClearance clearance) result }
     {
         let call = self.trace.store_set_clearance(&clearance)?;
         let answer = set_clearance(&mut self.objects, thread, &clearance);
@@ -197,8 +196,7 @@ impl<S: LabelStore + Drop> Kernel<S> {
         label: Label,
         bytes: Bytes,
     ) -> Result<ObjId, Refusal>
-        ensures { Answered self.old self.new thread (calls.MakeSegment container label bytes) result
-            (IsNextNumber self.old.kept) }
+        ensures { Answered self.old self.new thread (calls.MakeSegment container label bytes) result }
     {
         let (call, bytes) = self.trace.store_make_segment(container, &label, bytes)?;
         let bytes = self.trace.bytes(bytes);
@@ -215,8 +213,7 @@ impl<S: LabelStore + Drop> Kernel<S> {
         container: ObjId,
         label: Label,
     ) -> Result<ObjId, Refusal>
-        ensures { Answered self.old self.new thread (calls.MakeContainer container label) result
-            (IsNextNumber self.old.kept) }
+        ensures { Answered self.old self.new thread (calls.MakeContainer container label) result }
     {
         let call = self.trace.store_make_container(container, &label)?;
         let maker = Maker::new(thread, container);
@@ -233,8 +230,7 @@ impl<S: LabelStore + Drop> Kernel<S> {
         label: Label,
         clearance: Label,
     ) -> Result<ObjId, Refusal>
-        ensures { Answered self.old self.new thread (calls.MakeThread container label clearance)
-            result (IsNextNumber self.old.kept) }
+        ensures { Answered self.old self.new thread (calls.MakeThread container label clearance) result }
     {
         let call = self.trace.store_make_thread(container, &label, &clearance)?;
         let maker = Maker::new(thread, container);
@@ -252,8 +248,7 @@ impl<S: LabelStore + Drop> Kernel<S> {
         clearance: Label,
         entry: Entry,
     ) -> Result<ObjId, Refusal>
-        ensures { Answered self.old self.new thread (calls.MakeGate container label clearance entry)
-            result (IsNextNumber self.old.kept) }
+        ensures { Answered self.old self.new thread (calls.MakeGate container label clearance entry) result }
     {
         let call = self
             .trace
@@ -273,7 +268,7 @@ impl<S: LabelStore + Drop> Kernel<S> {
         labels: HandedLabels,
     ) -> Result<Entry, Refusal>
         ensures { Answered self.old self.new thread (calls.Enter container gate labels.entry.wanted.now
-            labels.entry.clearance.now labels.entry.verify.now) result (IsEntryOf self.old.kept gate) }
+            labels.entry.clearance.now labels.entry.verify.now) result }
     {
         let call = self.trace.store_enter(container, gate, labels)?;
         let access = Access::new(thread, container, gate);
@@ -298,7 +293,7 @@ impl<S: LabelStore + Drop> Kernel<S> {
 
     // Makes a read without its bytes: they are lent once it is recorded.
     fn make_read(&mut self, thread: ObjId, container: ObjId, segment: ObjId) -> Result<(), Refusal>
-        ensures { Answered self.old self.new thread (calls.Read container segment) result (λ _. Unit {0}) }
+        ensures { AnsweredAs self.old self.new thread (calls.Read container segment) result (λ _. Unit {0}) }
     {
         self.trace.make_room()?;
         let access = Access::new(thread, container, segment);
@@ -387,8 +382,7 @@ impl<S: LabelStore + Drop> Kernel<S> {
         container: ObjId,
         segment: ObjId,
     ) -> Result<Bytes, Refusal>
-        ensures { Answered self.old self.new thread (calls.Read container segment) result
-            (AreBytesOf self.old.kept segment) }
+        ensures { Answered self.old self.new thread (calls.Read container segment) result }
     {
         self.trace.make_room()?;
         let access = Access::new(thread, container, segment);
@@ -407,8 +401,7 @@ impl<S: LabelStore + Drop> Kernel<S> {
         keep: u32,
         bytes: Bytes,
     ) -> Result<(), Refusal>
-        ensures { Answered self.old self.new thread (calls.Write container segment keep bytes)
-            result (λ _. Unit {0}) }
+        ensures { Answered self.old self.new thread (calls.Write container segment keep bytes) result }
     {
         let (call, bytes) = self.trace.store_write(container, segment, keep, bytes)?;
         let bytes = self.trace.bytes(bytes);
@@ -425,7 +418,7 @@ impl<S: LabelStore + Drop> Kernel<S> {
         container: ObjId,
         object: ObjId,
     ) -> Result<(), Refusal>
-        ensures { Answered self.old self.new thread (calls.Unlink container object) result (λ _. Unit {0}) }
+        ensures { Answered self.old self.new thread (calls.Unlink container object) result }
     {
         self.trace.make_room()?;
         let access = Access::new(thread, container, object);
@@ -441,8 +434,7 @@ impl<S: LabelStore + Drop> Kernel<S> {
         container: ObjId,
         object: ObjId,
     ) -> Result<Label, Refusal>
-        ensures { Answered self.old self.new thread (calls.LabelOf container object) result
-            (IsLabelOf self.old.kept object) }
+        ensures { Answered self.old self.new thread (calls.LabelOf container object) result }
     {
         self.trace.make_room()?;
         let access = Access::new(thread, container, object);

@@ -1,5 +1,5 @@
 //! The raw calls on segments.
-ghost use Rattle.histar_rules.specs.Rules.{Decides, AreBytesOf, IsNextNumber};
+ghost use Rattle.histar_rules.specs.Rules.{Decides, DecidesAs};
 ghost use Rattle.histar_rules.specs.declared.raw.RawCall.TheVariants as calls;
 
 use histar_base::Bytes;
@@ -17,7 +17,7 @@ pub fn make_segment<S: LabelStore + Drop>(
     bytes: &Bytes,
 ) -> Result<ObjId, Refusal>
     ensures { Decides objects.old objects.new maker.now.thread
-        (calls.MakeSegment maker.now.container label bytes.now) result (IsNextNumber objects.old) }
+        (calls.MakeSegment maker.now.container label bytes.now) result }
 {
     objects.check_new(maker, &label, bytes.len())?;
     let number = objects.next_object();
@@ -31,7 +31,7 @@ pub fn check_read<S: LabelStore + Drop>(
     objects: &mut LabelledObjects<S>,
     access: &Access,
 ) -> Result<(), Refusal>
-    ensures { Decides objects.old objects.new access.now.thread
+    ensures { DecidesAs objects.old objects.new access.now.thread
         (calls.Read access.now.container access.now.object) result (λ _. Unit {0}) }
 {
     Ok(objects.check_read(access)?)
@@ -44,8 +44,7 @@ pub fn read<S: LabelStore + Drop>(
     access: &Access,
 ) -> Result<Bytes, Refusal>
     ensures { Decides objects.old objects.new access.now.thread
-        (calls.Read access.now.container access.now.object) result
-        (AreBytesOf objects.old access.now.object) }
+        (calls.Read access.now.container access.now.object) result }
 {
     objects.read(alloc, access)
 }
@@ -59,7 +58,7 @@ pub fn write<S: LabelStore + Drop>(
     bytes: &Bytes,
 ) -> Result<(), Refusal>
     ensures { Decides objects.old objects.new access.now.thread
-        (calls.Write access.now.container access.now.object keep bytes.now) result (λ _. Unit {0}) }
+        (calls.Write access.now.container access.now.object keep bytes.now) result }
 {
     objects.check_write(access, keep, bytes)?;
     objects.splice(alloc, access.object, keep, bytes)?;

@@ -3,7 +3,8 @@ ghost use Rattle.std.specs.Prelude.{◌≡◌, ◌<◌, IfOk, Some};
 ghost use Rattle.histar_label.specs.Levels.{Levels};
 ghost use Rattle.histar_object.specs.Objects.{objects_of, thread_of};
 ghost use Rattle.histar_container.specs.ObjectsModel.{state_of};
-ghost use Rattle.histar_rules.specs.Rules.{check, FailsAt, Decides, IsNextNumber, AreLabelsOf};
+ghost use Rattle.histar_rules.specs.Rules.{check, FailsAt, Decides, DecidesAs};
+ghost use Rattle.histar_rules.specs.RawAnswers.{IsAnswer};
 ghost use Rattle.histar_rules.specs.declared.raw.RawCall.TheVariants as calls;
 
 use histar_label::{Category, Label, LabelStore, Level};
@@ -15,7 +16,7 @@ pub fn own_label<S: LabelStore + Drop>(
     objects: &LabelledObjects<S>,
     thread: ObjId,
 ) -> Result<(Label, Label), Refusal>
-    ensures { Decides objects.now objects.now thread calls.OwnLabel result (AreLabelsOf objects.now thread) }
+    ensures { Decides objects.now objects.now thread calls.OwnLabel result }
 {
     let Some((label, clearance)) = objects.own(thread) else {
         return Err(Refusal::Denied(Denied::NoThread));
@@ -30,8 +31,8 @@ pub fn check_own_label<S: LabelStore + Drop>(
     objects: &LabelledObjects<S>,
     thread: ObjId,
 ) -> Result<(), Refusal>
-    ensures { Decides objects.now objects.now thread calls.OwnLabel result
-        (λ _. (own : Levels × Levels) × AreLabelsOf objects.now thread own) }
+    ensures { DecidesAs objects.now objects.now thread calls.OwnLabel result
+        (λ _. (own : Levels × Levels) × IsAnswer (state_of objects.now) thread calls.OwnLabel own) }
 {
     match objects.own(thread) {
         Some(_) => Ok(()),
@@ -60,8 +61,7 @@ pub fn make_category<S: LabelStore + Drop>(
     objects: &mut LabelledObjects<S>,
     thread: ObjId,
 ) -> Result<Category, Refusal>
-    ensures { Decides objects.old objects.new thread calls.MakeCategory result
-        (λ category. category ≡ objects.old.next_category) }
+    ensures { Decides objects.old objects.new thread calls.MakeCategory result }
 {
     let (label, clearance) = check_make_category(objects, thread)?;
     let category = Category::new(objects.next_category());
@@ -79,7 +79,7 @@ pub fn set_label<S: LabelStore + Drop>(
     thread: ObjId,
     label: &Label,
 ) -> Result<(), Refusal>
-    ensures { Decides objects.old objects.new thread (calls.SetLabel label.now) result (λ _. Unit {0}) }
+    ensures { Decides objects.old objects.new thread (calls.SetLabel label.now) result }
 {
     objects.set_label(thread, label)
 }
@@ -91,7 +91,7 @@ pub fn set_clearance<S: LabelStore + Drop>(
     thread: ObjId,
     clearance: &Label,
 ) -> Result<(), Refusal>
-    ensures { Decides objects.old objects.new thread (calls.SetClearance clearance.now) result (λ _. Unit {0}) }
+    ensures { Decides objects.old objects.new thread (calls.SetClearance clearance.now) result }
 {
     objects.set_clearance(thread, clearance)
 }
@@ -105,7 +105,7 @@ pub fn make_thread<S: LabelStore + Drop>(
     clearance: Label,
 ) -> Result<ObjId, Refusal>
     ensures { Decides objects.old objects.new maker.now.thread
-        (calls.MakeThread maker.now.container label clearance) result (IsNextNumber objects.old) }
+        (calls.MakeThread maker.now.container label clearance) result }
 {
     objects.check_new_owner(maker, &label, &clearance)?;
     let number = objects.next_object();

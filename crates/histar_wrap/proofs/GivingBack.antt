@@ -9,7 +9,7 @@ use Rattle.histar_rules.specs.declared.raw.RawCall.{RawCall}
 use Rattle.histar_rules.specs.declared.raw.RawCall.TheVariants.{SetLabel, SetClearance}
 use Rattle.histar_rules.specs.declared.raw.Refusal.{Refusal}
 use Rattle.histar_rules.specs.declared.raw.Refusal.TheVariants as refusals
-use Rattle.histar_syscall.specs.KernelModel.{KernelModel, state, Called, Answered}
+use Rattle.histar_syscall.specs.KernelModel.{KernelModel, state, Called, Answered, AnsweredAs}
 use Rattle.histar_syscall.proofs.Runs.{same_kernel}
 use Rattle.histar_programs.specs.declared.call_error.CallError.{CallError}
 use Rattle.histar_programs.specs.declared.call_error.CallError.TheVariants.{Refused, Stopped}
@@ -44,7 +44,7 @@ module _ (t : ℕ) (call : RawCall) (old new : KernelModel) where
   is_granted answer called right = λ rest. asked t call (or_stops rest) old new (Ok answer) (called, right)
 
   -- the raw call was refused
-  pub is_refused : {A : Type 0} (P : A → Type 0) (refusal : Refusal) → Answered {A = A} old new t call (Err refusal) P
+  pub is_refused : {A : Type 0} (P : A → Type 0) (refusal : Refusal) → AnsweredAs {A = A} old new t call (Err refusal) P
       → RunsPart (ask_or_stop call) old new t (Err Stopped)
   unfolding RunsPart
   is_refused P (refusals.Denied denied) called = λ rest. (asked t call (or_stops rest) old new (Err denied) called).begins new (same_kernel new)
@@ -69,7 +69,7 @@ module _ (t : ℕ) (call : RawCall) (old new : KernelModel) where
 
     -- the raw call was refused, and there is no errno to reply
     pub stops_there : {A : Type 0} (P : A → Type 0) (refusal : Refusal)
-        → Answered {A = A} old new t call (Err refusal) P → call_error_of (errno_for call) refusal ≡ Stopped
+        → AnsweredAs {A = A} old new t call (Err refusal) P → call_error_of (errno_for call) refusal ≡ Stopped
         → RunsPart (ask_or_give_back own call) old new t (Err Stopped)
     unfolding RunsPart
     stops_there P (refusals.Denied denied) called is =
@@ -78,7 +78,7 @@ module _ (t : ℕ) (call : RawCall) (old new : KernelModel) where
 
     -- the raw call was denied with this errno
     pub leads_back : {A : Type 0} (P : A → Type 0) (refusal : Refusal) (errno : Errno)
-        → Answered {A = A} old new t call (Err refusal) P → call_error_of (errno_for call) refusal ≡ Refused errno
+        → AnsweredAs {A = A} old new t call (Err refusal) P → call_error_of (errno_for call) refusal ≡ Refused errno
         → (rest : AnswerOf call → Program) → LeadsTo (ask_or_give_back own call rest) old (give_back own errno) new t
     leads_back P (refusals.Denied denied) errno called is =
         λ rest. to_give_back rest denied (Some errno) (of_errno (errno_for call denied) errno is) called
@@ -94,26 +94,26 @@ before_asking t call k = λ rest. inl (same_kernel k)
 module _ (t : ℕ) (old new : KernelModel) where
   -- the thread was given the expected label
   pub label_given : (label due : Levels) → label ≡ due → (answer : Result (Unit {0}) Refusal)
-      → Answered old new t (SetLabel label) answer (λ _. Unit {0}) → (result : Result (Unit {0}) CallError)
+      → Answered old new t (SetLabel label) answer → (result : Result (Unit {0}) CallError)
       → result ≡ stopping answer → RunsPart (ask_or_stop (SetLabel due)) old new t result
   label_given label due same answer answered result is =
       subst (λ (l : Levels). RunsPart {A = Unit {0}} (ask_or_stop (SetLabel l)) old new t result) same
       (subst (RunsPart {A = Unit {0}} (ask_or_stop (SetLabel label)) old new t) (sym is) (by answer answered))
     where
-      by : (outcome : Result (Unit {0}) Refusal) → Answered old new t (SetLabel label) outcome (λ _. Unit {0})
+      by : (outcome : Result (Unit {0}) Refusal) → Answered old new t (SetLabel label) outcome
           → RunsPart {A = Unit {0}} (ask_or_stop (SetLabel label)) old new t (stopping outcome)
       by (Ok done) given = is_granted t (SetLabel label) old new done given.0 tt
       by (Err refusal) given = is_refused t (SetLabel label) old new (λ _. Unit {0}) refusal given
 
   -- the thread was given the expected clearance
   pub clearance_given : (clearance due : Levels) → clearance ≡ due → (answer : Result (Unit {0}) Refusal)
-      → Answered old new t (SetClearance clearance) answer (λ _. Unit {0}) → (result : Result (Unit {0}) CallError)
+      → Answered old new t (SetClearance clearance) answer → (result : Result (Unit {0}) CallError)
       → result ≡ stopping answer → RunsPart (ask_or_stop (SetClearance due)) old new t result
   clearance_given clearance due same answer answered result is =
       subst (λ (l : Levels). RunsPart {A = Unit {0}} (ask_or_stop (SetClearance l)) old new t result) same
       (subst (RunsPart {A = Unit {0}} (ask_or_stop (SetClearance clearance)) old new t) (sym is) (by answer answered))
     where
-      by : (outcome : Result (Unit {0}) Refusal) → Answered old new t (SetClearance clearance) outcome (λ _. Unit {0})
+      by : (outcome : Result (Unit {0}) Refusal) → Answered old new t (SetClearance clearance) outcome
           → RunsPart {A = Unit {0}} (ask_or_stop (SetClearance clearance)) old new t (stopping outcome)
       by (Ok done) given = is_granted t (SetClearance clearance) old new done given.0 tt
       by (Err refusal) given = is_refused t (SetClearance clearance) old new (λ _. Unit {0}) refusal given
@@ -149,7 +149,7 @@ module _ (t : ℕ) (old new : KernelModel) where
     gives_back_not A part mid errno first Stopped second = λ rest. (first rest).begins new (second (λ _. Answers (replies.Refused errno)))
 
 module _ (t : ℕ) (call : RawCall) (old mid : KernelModel) (own : Levels × Levels) {A : Type 0} (P : A → Type 0) (refusal : Refusal) (errno : Errno)
-    (denied : Answered {A = A} old mid t call (Err refusal) P) (is : Refused errno ≡ call_error_of (errno_for call) refusal) (new : KernelModel) where
+    (denied : AnsweredAs {A = A} old mid t call (Err refusal) P) (is : Refused errno ≡ call_error_of (errno_for call) refusal) (new : KernelModel) where
   -- the raw call was denied, and what was taken is given back
   pub given_back : RunsPart (restore own) mid new t (Ok tt) → RunsPart (ask_or_give_back own call) old new t (Err (Refused errno))
   given_back second =

@@ -2,22 +2,20 @@
 use Rattle.std.proofs.Common.{◌≡◌, refl}
 use Rattle.histar_rules.specs.declared.raw.RawCall.TheVariants.{MakeCategory, OwnLabel, MakeSegment, MakeContainer, MakeThread, MakeGate}
 use Rattle.histar_rules.specs.declared.raw.RawCall.TheVariants.{Enter, Read, Write, Unlink, LabelOf}
-use Rattle.histar_rules.specs.Rules.{IsNextNumber, AreBytesOf, AreLabelsOf, IsLabelOf, IsEntryOf}
 use Rattle.histar_syscall.specs.declared.answers.Answer.TheVariants as answers
 use Rattle.histar_syscall.proofs.Deciding.{turn, as_value}
 use Rattle.histar_syscall.proofs.decide.decide.Goals as goal
 
 pub returns-in-MakeCategory : goal.returns-in-MakeCategory
 returns-in-MakeCategory g c =
-    rw c.in-MakeCategory.is (as_value (turn c.args.objects.now c.make_category.new.objects c.args.thread MakeCategory)
-    (λ category. category ≡ c.args.objects.now.next_category) answers.Category
+    rw c.in-MakeCategory.is (as_value (turn c.args.objects.now c.make_category.new.objects c.args.thread MakeCategory) _ answers.Category
     (λ n is. record { answer = n; determined = is; is_value = refl })
     _ _ c.make_category.ensures c.category.ensures)
 
 pub returns-in-OwnLabel : goal.returns-in-OwnLabel
 returns-in-OwnLabel g c =
-    rw c.in-OwnLabel.is (as_value (turn c.args.objects.now c.args.objects.now c.args.thread OwnLabel)
-    (AreLabelsOf c.args.objects.now c.args.thread) (λ own. answers.OwnLabel own.0 own.1)
+    rw c.in-OwnLabel.is (as_value (turn c.args.objects.now c.args.objects.now c.args.thread OwnLabel) _
+    (λ own. answers.OwnLabel own.0 own.1)
     (λ own is. record { answer = own; determined = is; is_value = refl })
     _ _ c.own_label.ensures c.own.ensures)
 
@@ -25,16 +23,16 @@ pub returns-in-MakeSegment : goal.returns-in-MakeSegment
 returns-in-MakeSegment g c =
     rw c.in-MakeSegment.is (as_value (turn c.args.objects.now c.copied_segment.new.objects c.args.thread
     (MakeSegment c.in-MakeSegment.container c.in-MakeSegment.label c.in-MakeSegment.bytes))
-    (IsNextNumber c.args.objects.now) answers.Object
-    (λ n is. record { answer = n; determined = is.0; is_value = refl })
+    _ answers.Object
+    (λ n is. record { answer = n; determined = is; is_value = refl })
     _ _ (rw c.new-maker.ensures at c.copied_segment.ensures) c.made.ensures)
 
 pub returns-in-MakeContainer : goal.returns-in-MakeContainer
 returns-in-MakeContainer g c =
     rw c.in-MakeContainer.is (as_value (turn c.args.objects.now c.copied_container.new.objects c.args.thread
     (MakeContainer c.in-MakeContainer.container c.in-MakeContainer.label))
-    (IsNextNumber c.args.objects.now) answers.Object
-    (λ n is. record { answer = n; determined = is.0; is_value = refl })
+    _ answers.Object
+    (λ n is. record { answer = n; determined = is; is_value = refl })
     c.copied_container.result c.made-in-MakeContainer.result
     (rw c.new-maker-in-MakeContainer.ensures at c.copied_container.ensures) c.made-in-MakeContainer.ensures)
 
@@ -42,8 +40,8 @@ pub returns-in-MakeThread : goal.returns-in-MakeThread
 returns-in-MakeThread g c =
     rw c.in-MakeThread.is (as_value (turn c.args.objects.now c.copied_thread.new.objects c.args.thread
     (MakeThread c.in-MakeThread.container c.in-MakeThread.label c.in-MakeThread.clearance))
-    (IsNextNumber c.args.objects.now) answers.Object
-    (λ n is. record { answer = n; determined = is.0; is_value = refl })
+    _ answers.Object
+    (λ n is. record { answer = n; determined = is; is_value = refl })
     c.copied_thread.result c.made-in-MakeThread.result
     (rw c.new-maker-in-MakeThread.ensures at c.copied_thread.ensures) c.made-in-MakeThread.ensures)
 
@@ -51,15 +49,15 @@ pub returns-in-MakeGate : goal.returns-in-MakeGate
 returns-in-MakeGate g c =
     rw c.in-MakeGate.is (as_value (turn c.args.objects.now c.copied_gate.new.objects c.args.thread
     (MakeGate c.in-MakeGate.container c.in-MakeGate.label c.in-MakeGate.clearance c.in-MakeGate.entry))
-    (IsNextNumber c.args.objects.now) answers.Object
-    (λ n is. record { answer = n; determined = is.0; is_value = refl })
+    _ answers.Object
+    (λ n is. record { answer = n; determined = is; is_value = refl })
     _ _ (rw c.new-maker-in-MakeGate.ensures at c.copied_gate.ensures) c.made-in-MakeGate.ensures)
 
 pub returns-in-Enter : goal.returns-in-Enter
 returns-in-Enter g c =
     rw c.in-Enter.is (as_value (turn c.args.objects.now c.enter.new.objects c.args.thread
     (Enter c.in-Enter.container c.in-Enter.gate c.in-Enter.wanted c.in-Enter.clearance c.in-Enter.verify))
-    (IsEntryOf c.args.objects.now c.in-Enter.gate) answers.Entry
+    _ answers.Entry
     (λ entry is. record { answer = entry; determined = is; is_value = refl })
     c.enter.result c.entry.result
     (rw (c.new-access.ensures, c.label-in-Enter.ensures, c.label-in-Enter-2.ensures, c.label-in-Enter-3.ensures) at c.enter.ensures)
@@ -68,14 +66,14 @@ returns-in-Enter g c =
 pub returns-in-Read : goal.returns-in-Read
 returns-in-Read g c =
     rw c.in-Read.is (as_value (turn c.args.objects.now c.read.new.objects c.args.thread (Read c.in-Read.container c.in-Read.segment))
-    (AreBytesOf c.args.objects.now c.in-Read.segment) answers.Bytes
+    _ answers.Bytes
     (λ bytes is. record { answer = bytes; determined = is; is_value = refl })
     _ _ (rw c.new-access-in-Read.ensures at c.read.ensures) c.bytes.ensures)
 
 pub returns-in-LabelOf : goal.returns-in-LabelOf
 returns-in-LabelOf g c =
     rw c.in-LabelOf.is (as_value (turn c.args.objects.now c.label_of.new.self c.args.thread (LabelOf c.in-LabelOf.container c.in-LabelOf.object))
-    (IsLabelOf c.args.objects.now c.in-LabelOf.object) answers.Label
+    _ answers.Label
     (λ label is. record { answer = label; determined = is; is_value = refl })
     _ _ (rw c.new-access-in-LabelOf.ensures at c.label_of.ensures) c.label-in-LabelOf.ensures)
 
@@ -83,13 +81,13 @@ pub returns-in-Write : goal.returns-in-Write
 returns-in-Write g c =
     rw c.in-Write.is (as_value (turn c.args.objects.now c.write.new.objects c.args.thread
     (Write c.in-Write.container c.in-Write.segment c.in-Write.keep c.in-Write.bytes))
-    (λ _. Unit {0}) (λ _. answers.Done)
+    _ (λ _. answers.Done)
     (λ done is. record { answer = done; determined = tt; is_value = refl })
     _ _ (rw c.new-access-in-Write.ensures at c.write.ensures) c.done-in-Write.ensures)
 
 pub returns-in-Unlink : goal.returns-in-Unlink
 returns-in-Unlink g c =
     rw c.in-Unlink.is (as_value (turn c.args.objects.now c.unlink.new.objects c.args.thread (Unlink c.in-Unlink.container c.in-Unlink.object))
-    (λ _. Unit {0}) (λ _. answers.Done)
+    _ (λ _. answers.Done)
     (λ done is. record { answer = done; determined = tt; is_value = refl })
     _ _ (rw c.new-access-in-Unlink.ensures at c.unlink.ensures) c.done-in-Unlink.ensures)

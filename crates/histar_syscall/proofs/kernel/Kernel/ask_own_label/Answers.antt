@@ -3,26 +3,24 @@ use Rattle.std.proofs.Common.{refl}
 use Rattle.histar_label.specs.Levels.{Levels}
 use Rattle.histar_rules.proofs.Sound.{sound_decided}
 use Rattle.histar_rules.specs.declared.raw.RawCall.TheVariants.{OwnLabel}
-use Rattle.histar_rules.specs.Rules.{AreLabelsOf}
-use Rattle.histar_syscall.specs.KernelModel.{KernelModel}
+use Rattle.histar_rules.specs.RawAnswers.{IsAnswer}
+use Rattle.histar_syscall.specs.KernelModel.{KernelModel, state}
 use Rattle.histar_syscall.proofs.Rooms.{recorded, unstored}
 use Rattle.histar_syscall.proofs.kernel.Kernel.ask_own_label.Goals as goal
 
 pub returns-in_err-make_room : goal.returns-in_err-make_room
 returns-in_err-make_room g c =
     let before : KernelModel = record { kept = c.self.inside.objects; line = c.self.inside.line; trace = c.self.inside.trace.entries } in
-    unstored _ before _ _ OwnLabel _ (λ _.
-    (own : Levels × Levels) × AreLabelsOf c.args.self.now.kept c.args.thread own) c.self.view_is c.make_room.ensures.entries c.from_residual.ensures.1
+    unstored _ before _ _ OwnLabel _ _ c.self.view_is c.make_room.ensures.entries c.from_residual.ensures.1
 
 pub invariant_of-self-2 : goal.invariant_of-self-2
 invariant_of-self-2 g c =
-    sound_decided c.self.inside.objects c.self.inside.objects _ OwnLabel _ (λ _.
-    (own : Levels × Levels) × AreLabelsOf c.self.inside.objects c.args.thread own) c.self.invariant c.check_own_label-answer.ensures
+    sound_decided c.self.inside.objects c.self.inside.objects _ OwnLabel _ _ c.self.invariant c.check_own_label-answer.ensures
 
 pub returns : goal.returns
 returns g c =
     let before : KernelModel = record { kept = c.self.inside.objects; line = c.self.inside.line; trace = c.self.inside.trace.entries } in
     recorded c.args.self.now before c.self.inside.objects c.make_room.new.self.entries c.record.new.self.entries c.args.thread OwnLabel
     c.check_own_label-answer.result c.record.result (λ k _.
-    (own : Levels × Levels) × AreLabelsOf k.kept c.args.thread own) c.self.view_is c.make_room.ensures.entries
+    (own : Levels × Levels) × IsAnswer (state k) c.args.thread OwnLabel own) c.self.view_is c.make_room.ensures.entries
     c.check_own_label-answer.ensures c.record.ensures.outcome (c.record.ensures.entries OwnLabel (record { kept = tt; is = refl }))

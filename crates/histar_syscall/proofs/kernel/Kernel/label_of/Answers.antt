@@ -2,9 +2,8 @@
 use Rattle.std.proofs.Common.{refl}
 use Rattle.histar_rules.proofs.Sound.{sound_decided}
 use Rattle.histar_rules.specs.declared.raw.RawCall.TheVariants.{LabelOf}
-use Rattle.histar_rules.specs.Rules.{IsLabelOf}
 use Rattle.histar_syscall.specs.KernelModel.{KernelModel}
-use Rattle.histar_syscall.proofs.Rooms.{recorded, unstored}
+use Rattle.histar_syscall.proofs.Rooms.{recorded_answer, unstored}
 use Rattle.histar_syscall.proofs.kernel.Kernel.label_of.Goals as goal
 
 pub returns-in_err-make_room : goal.returns-in_err-make_room
@@ -15,11 +14,12 @@ returns-in_err-make_room g c =
 pub invariant_of-self-2 : goal.invariant_of-self-2
 invariant_of-self-2 g c =
     sound_decided c.self.inside.objects c.label_of-answer.new.self c.args.thread (LabelOf c.args.container c.args.object) _
-    (IsLabelOf c.self.inside.objects c.args.object) c.self.invariant (rw c.new-access.ensures at c.label_of-answer.ensures)
+    _ c.self.invariant (rw c.new-access.ensures at c.label_of-answer.ensures)
 
 pub returns : goal.returns
 returns g c =
     let before : KernelModel = record { kept = c.self.inside.objects; line = c.self.inside.line; trace = c.self.inside.trace.entries } in
-    recorded _ before _ _ c.record.new.self.entries _ _ _ c.record.result (λ k. IsLabelOf k.kept c.args.object) c.self.view_is
+    recorded_answer _ before _ _ c.record.new.self.entries _
+    (LabelOf c.args.container c.args.object) _ c.record.result c.self.view_is
     c.make_room.ensures.entries (rw c.new-access.ensures at c.label_of-answer.ensures) c.record.ensures.outcome (c.record.ensures.entries (LabelOf
     c.args.container c.args.object) (record { kept = tt; is = refl }))

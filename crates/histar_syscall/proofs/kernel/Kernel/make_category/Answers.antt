@@ -3,24 +3,22 @@ use Rattle.std.proofs.Common.{◌≡◌, refl}
 use Rattle.histar_rules.proofs.Sound.{sound_decided}
 use Rattle.histar_rules.specs.declared.raw.RawCall.TheVariants.{MakeCategory}
 use Rattle.histar_syscall.specs.KernelModel.{KernelModel}
-use Rattle.histar_syscall.proofs.Rooms.{recorded, unstored}
+use Rattle.histar_syscall.proofs.Rooms.{recorded_answer, unstored}
 use Rattle.histar_syscall.proofs.kernel.Kernel.make_category.Goals as goal
 
 pub returns-in_err-make_room : goal.returns-in_err-make_room
 returns-in_err-make_room g c =
     let before : KernelModel = record { kept = c.self.inside.objects; line = c.self.inside.line; trace = c.self.inside.trace.entries } in
-    unstored _ before _ _ MakeCategory _ (λ category. category ≡
-    c.args.self.now.kept.next_category) c.self.view_is c.make_room.ensures.entries c.from_residual.ensures.1
+    unstored _ before _ _ MakeCategory _ _ c.self.view_is c.make_room.ensures.entries c.from_residual.ensures.1
 
 pub invariant_of-self-2 : goal.invariant_of-self-2
 invariant_of-self-2 g c =
-    sound_decided c.self.inside.objects c.make_category-answer.new.objects _ MakeCategory _ (λ category.
-    category ≡ c.self.inside.objects.next_category) c.self.invariant c.make_category-answer.ensures
+    sound_decided c.self.inside.objects c.make_category-answer.new.objects _ MakeCategory _ _ c.self.invariant c.make_category-answer.ensures
 
 pub returns : goal.returns
 returns g c =
     let before : KernelModel = record { kept = c.self.inside.objects; line = c.self.inside.line; trace = c.self.inside.trace.entries } in
-    recorded _ before _ _ c.record.new.self.entries _ MakeCategory _ c.record.result (λ k category. category ≡ k.kept.next_category) c.self.view_is
+    recorded_answer _ before _ _ c.record.new.self.entries _ MakeCategory _ c.record.result c.self.view_is
     c.make_room.ensures.entries c.make_category-answer.ensures c.record.ensures.outcome (c.record.ensures.entries MakeCategory (record {
       kept = tt;
       is = refl;

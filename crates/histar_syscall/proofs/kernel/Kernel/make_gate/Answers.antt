@@ -1,9 +1,8 @@
 -- Proves the goals of `Kernel::make_gate` of src/kernel.rt that the search finds slowly.
 use Rattle.histar_rules.proofs.Sound.{sound_decided}
 use Rattle.histar_rules.specs.declared.raw.RawCall.TheVariants.{MakeGate}
-use Rattle.histar_rules.specs.Rules.{IsNextNumber}
 use Rattle.histar_syscall.specs.KernelModel.{KernelModel}
-use Rattle.histar_syscall.proofs.Rooms.{recorded, unstored}
+use Rattle.histar_syscall.proofs.Rooms.{recorded_answer, unstored}
 use Rattle.histar_syscall.proofs.kernel.Kernel.make_gate.Goals as goal
 
 pub returns-in_err-call : goal.returns-in_err-call
@@ -14,11 +13,12 @@ returns-in_err-call g c =
 pub invariant_of-self-2 : goal.invariant_of-self-2
 invariant_of-self-2 g c =
     sound_decided c.self.inside.objects c.make_gate-answer.new.objects c.args.thread (MakeGate c.args.container c.args.label c.args.clearance
-    c.args.entry) _ (IsNextNumber c.self.inside.objects) c.self.invariant (rw c.new-maker.ensures at c.make_gate-answer.ensures)
+    c.args.entry) _ _ c.self.invariant (rw c.new-maker.ensures at c.make_gate-answer.ensures)
 
 pub returns : goal.returns
 returns g c =
     let before : KernelModel = record { kept = c.self.inside.objects; line = c.self.inside.line; trace = c.self.inside.trace.entries } in
-    recorded _ before _ _ c.record.new.self.entries _ _ _ c.record.result (λ k. IsNextNumber k.kept)
+    recorded_answer _ before _ _ c.record.new.self.entries _
+    (MakeGate c.args.container c.args.label c.args.clearance c.args.entry) _ c.record.result
     c.self.view_is c.store_make_gate.ensures.entries (rw c.new-maker.ensures at c.make_gate-answer.ensures) c.record.ensures.outcome
     (c.record.ensures.entries (MakeGate c.args.container c.args.label c.args.clearance c.args.entry) c.in_ok-call.ensures.stands)

@@ -2,9 +2,8 @@
 use Rattle.std.proofs.Common.{◌≡◌}
 use Rattle.histar_rules.proofs.Sound.{sound_decided}
 use Rattle.histar_rules.specs.declared.raw.RawCall.TheVariants.{MakeSegment}
-use Rattle.histar_rules.specs.Rules.{IsNextNumber}
 use Rattle.histar_syscall.specs.KernelModel.{KernelModel}
-use Rattle.histar_syscall.proofs.Rooms.{recorded, unstored}
+use Rattle.histar_syscall.proofs.Rooms.{recorded_answer, unstored}
 use Rattle.histar_syscall.proofs.kernel.Kernel.make_segment.Goals as goal
 
 pub returns-in_err-call : goal.returns-in_err-call
@@ -16,12 +15,13 @@ pub invariant_of-self-2 : goal.invariant_of-self-2
 invariant_of-self-2 g c =
     let same : c.bytes-bytes.result.now ≡ c.args.bytes = cc (c.in_ok-call.ensures.bytes, c.bytes-bytes.ensures) in
     sound_decided c.self.inside.objects c.make_segment-answer.new.objects c.args.thread (MakeSegment c.args.container c.args.label c.args.bytes)
-    _ (IsNextNumber c.self.inside.objects) c.self.invariant (rw (c.new-maker.ensures, same) at c.make_segment-answer.ensures)
+    _ _ c.self.invariant (rw (c.new-maker.ensures, same) at c.make_segment-answer.ensures)
 
 pub returns : goal.returns
 returns g c =
     let before : KernelModel = record { kept = c.self.inside.objects; line = c.self.inside.line; trace = c.self.inside.trace.entries } in
     let same : c.bytes-bytes.result.now ≡ c.args.bytes = cc (c.in_ok-call.ensures.bytes, c.bytes-bytes.ensures) in
-    recorded _ before _ _ c.record.new.self.entries _ _ _ c.record.result (λ k. IsNextNumber k.kept) c.self.view_is
+    recorded_answer _ before _ _ c.record.new.self.entries _
+    (MakeSegment c.args.container c.args.label c.args.bytes) _ c.record.result c.self.view_is
     c.store_make_segment.ensures.entries (rw (c.new-maker.ensures, same) at c.make_segment-answer.ensures) c.record.ensures.outcome
     (c.record.ensures.entries (MakeSegment c.args.container c.args.label c.args.bytes) c.in_ok-call.ensures.stands)

@@ -2,9 +2,8 @@
 use Rattle.std.proofs.Common.{refl}
 use Rattle.histar_rules.proofs.Sound.{sound_decided}
 use Rattle.histar_rules.specs.declared.raw.RawCall.TheVariants.{OwnLabel}
-use Rattle.histar_rules.specs.Rules.{AreLabelsOf}
 use Rattle.histar_syscall.specs.KernelModel.{KernelModel}
-use Rattle.histar_syscall.proofs.Rooms.{recorded, unstored}
+use Rattle.histar_syscall.proofs.Rooms.{recorded_answer, unstored}
 use Rattle.histar_syscall.proofs.kernel.Kernel.own_label.Goals as goal
 
 pub returns-in_err-make_room : goal.returns-in_err-make_room
@@ -19,6 +18,5 @@ invariant_of-self-2 g c =
 pub returns : goal.returns
 returns g c =
     let before : KernelModel = record { kept = c.self.inside.objects; line = c.self.inside.line; trace = c.self.inside.trace.entries } in
-    recorded _ before _ _ c.record.new.self.entries _ OwnLabel
-    _ c.record.result (λ k. AreLabelsOf k.kept c.args.thread) c.self.view_is c.make_room.ensures.entries
+    recorded_answer _ before _ _ c.record.new.self.entries _ OwnLabel _ c.record.result c.self.view_is c.make_room.ensures.entries
     c.own_label-answer.ensures c.record.ensures.outcome (c.record.ensures.entries OwnLabel (record { kept = tt; is = refl }))

@@ -2,21 +2,21 @@
 use Rattle.histar_rules.proofs.Sound.{sound_decided}
 use Rattle.histar_rules.specs.declared.raw.RawCall.TheVariants.{SetLabel}
 use Rattle.histar_syscall.specs.KernelModel.{KernelModel}
-use Rattle.histar_syscall.proofs.Rooms.{recorded, unstored}
+use Rattle.histar_syscall.proofs.Rooms.{recorded_answer, unstored}
 use Rattle.histar_syscall.proofs.kernel.Kernel.set_label.Goals as goal
 
 pub returns-in_err-call : goal.returns-in_err-call
 returns-in_err-call g c =
     let before : KernelModel = record { kept = c.self.inside.objects; line = c.self.inside.line; trace = c.self.inside.trace.entries } in
-    unstored _ before _ _ _ _ (λ _. Unit {0}) c.self.view_is c.store_set_label.ensures.entries c.from_residual.ensures.1
+    unstored _ before _ _ _ _ _ c.self.view_is c.store_set_label.ensures.entries c.from_residual.ensures.1
 
 pub invariant_of-self-2 : goal.invariant_of-self-2
 invariant_of-self-2 g c =
-    sound_decided c.self.inside.objects c.set_label-answer.new.objects c.args.thread (SetLabel c.args.label) _ (λ _. Unit
-    {0}) c.self.invariant c.set_label-answer.ensures
+    sound_decided c.self.inside.objects c.set_label-answer.new.objects c.args.thread (SetLabel c.args.label) _ _ c.self.invariant c.set_label-answer.ensures
 
 pub returns : goal.returns
 returns g c =
     let before : KernelModel = record { kept = c.self.inside.objects; line = c.self.inside.line; trace = c.self.inside.trace.entries } in
-    recorded _ before _ _ c.record.new.self.entries _ _ _ c.record.result (λ _ _. Unit {0}) c.self.view_is c.store_set_label.ensures.entries
+    recorded_answer _ before _ _ c.record.new.self.entries _
+    (SetLabel c.args.label) _ c.record.result c.self.view_is c.store_set_label.ensures.entries
     c.set_label-answer.ensures c.record.ensures.outcome (c.record.ensures.entries (SetLabel c.args.label) c.in_ok-call.ensures.stands)

@@ -3,22 +3,22 @@ use Rattle.std.proofs.Common.{refl}
 use Rattle.histar_rules.proofs.Sound.{sound_decided}
 use Rattle.histar_rules.specs.declared.raw.RawCall.TheVariants.{Unlink}
 use Rattle.histar_syscall.specs.KernelModel.{KernelModel}
-use Rattle.histar_syscall.proofs.Rooms.{recorded, unstored}
+use Rattle.histar_syscall.proofs.Rooms.{recorded_answer, unstored}
 use Rattle.histar_syscall.proofs.kernel.Kernel.unlink.Goals as goal
 
 pub returns-in_err-make_room : goal.returns-in_err-make_room
 returns-in_err-make_room g c =
     let before : KernelModel = record { kept = c.self.inside.objects; line = c.self.inside.line; trace = c.self.inside.trace.entries } in
-    unstored _ before _ _ _ _ (λ _. Unit {0}) c.self.view_is c.make_room.ensures.entries c.from_residual.ensures.1
+    unstored _ before _ _ _ _ _ c.self.view_is c.make_room.ensures.entries c.from_residual.ensures.1
 
 pub invariant_of-self-2 : goal.invariant_of-self-2
 invariant_of-self-2 g c =
-    sound_decided c.self.inside.objects c.unlink-answer.new.objects c.args.thread (Unlink c.args.container c.args.object) _ (λ
-    _. Unit {0}) c.self.invariant (rw c.new-access.ensures at c.unlink-answer.ensures)
+    sound_decided c.self.inside.objects c.unlink-answer.new.objects c.args.thread (Unlink c.args.container c.args.object) _ _ c.self.invariant (rw c.new-access.ensures at c.unlink-answer.ensures)
 
 pub returns : goal.returns
 returns g c =
     let before : KernelModel = record { kept = c.self.inside.objects; line = c.self.inside.line; trace = c.self.inside.trace.entries } in
-    recorded _ before _ _ c.record.new.self.entries _ _ _ c.record.result (λ _ _. Unit {0}) c.self.view_is c.make_room.ensures.entries (rw
+    recorded_answer _ before _ _ c.record.new.self.entries _
+    (Unlink c.args.container c.args.object) _ c.record.result c.self.view_is c.make_room.ensures.entries (rw
     c.new-access.ensures at c.unlink-answer.ensures) c.record.ensures.outcome (c.record.ensures.entries (Unlink c.args.container c.args.object)
     (record { kept = tt; is = refl }))

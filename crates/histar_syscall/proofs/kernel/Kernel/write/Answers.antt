@@ -3,24 +3,25 @@ use Rattle.std.proofs.Common.{◌≡◌}
 use Rattle.histar_rules.proofs.Sound.{sound_decided}
 use Rattle.histar_rules.specs.declared.raw.RawCall.TheVariants.{Write}
 use Rattle.histar_syscall.specs.KernelModel.{KernelModel}
-use Rattle.histar_syscall.proofs.Rooms.{recorded, unstored}
+use Rattle.histar_syscall.proofs.Rooms.{recorded_answer, unstored}
 use Rattle.histar_syscall.proofs.kernel.Kernel.write.Goals as goal
 
 pub returns-in_err-call : goal.returns-in_err-call
 returns-in_err-call g c =
     let before : KernelModel = record { kept = c.self.inside.objects; line = c.self.inside.line; trace = c.self.inside.trace.entries } in
-    unstored _ before _ _ _ _ (λ _. Unit {0}) c.self.view_is c.store_write.ensures.entries c.from_residual.ensures.1
+    unstored _ before _ _ _ _ _ c.self.view_is c.store_write.ensures.entries c.from_residual.ensures.1
 
 pub invariant_of-self-2 : goal.invariant_of-self-2
 invariant_of-self-2 g c =
     let same : c.bytes-bytes.result.now ≡ c.args.bytes = cc (c.in_ok-call.ensures.bytes, c.bytes-bytes.ensures) in
     sound_decided c.self.inside.objects c.write-answer.new.objects c.args.thread (Write c.args.container c.args.segment c.args.keep c.args.bytes)
-    _ (λ _. Unit {0}) c.self.invariant (rw (c.new-access.ensures, same) at c.write-answer.ensures)
+    _ _ c.self.invariant (rw (c.new-access.ensures, same) at c.write-answer.ensures)
 
 pub returns : goal.returns
 returns g c =
     let before : KernelModel = record { kept = c.self.inside.objects; line = c.self.inside.line; trace = c.self.inside.trace.entries } in
     let same : c.bytes-bytes.result.now ≡ c.args.bytes = cc (c.in_ok-call.ensures.bytes, c.bytes-bytes.ensures) in
-    recorded _ before _ _ c.record.new.self.entries _ _ _ c.record.result (λ _ _. Unit {0}) c.self.view_is
+    recorded_answer _ before _ _ c.record.new.self.entries _
+    (Write c.args.container c.args.segment c.args.keep c.args.bytes) _ c.record.result c.self.view_is
     c.store_write.ensures.entries (rw (c.new-access.ensures, same) at c.write-answer.ensures) c.record.ensures.outcome (c.record.ensures.entries
     (Write c.args.container c.args.segment c.args.keep c.args.bytes) c.in_ok-call.ensures.stands)
