@@ -10,7 +10,8 @@ use Rattle.histar_flat.specs.declared.calls.UnixCall.TheVariants.{Rename, Wrap}
 use Rattle.histar_flat.specs.declared.replies.Errno.{Errno}
 use Rattle.histar_flat.specs.declared.replies.Errno.TheVariants.{ENOENT, EEXIST, EACCES, ENOSPC}
 use Rattle.histar_flat.specs.Words.{Name, Path, ProcName}
-use Rattle.histar_flat.specs.PathOrder.{same, under_path}
+use Rattle.histar_base.specs.Paths.{same}
+use Rattle.histar_flat.specs.PathOrder.{under_path}
 use Rattle.histar_flat.specs.Accounts.{Accounts, has, is_member, user_named}
 use Rattle.histar_flat.specs.Files.{get}
 use Rattle.histar_flat.specs.Classes.{Class, Process, nobody, is_free, free_class, class_made, carries}

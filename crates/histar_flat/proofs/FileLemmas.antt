@@ -6,8 +6,8 @@ use Rattle.std.specs.Cmp.Lexicographic.{pointwise_decides, bytes_decides}
 use Rattle.std.specs.FinMap.Entries.{find-put, find-where_key, same_entries}
 use Rattle.std.proofs.lemmas.Bool.{true≢false}
 use Rattle.histar_flat.specs.Words.{Name, Path}
-use Rattle.histar_flat.specs.PathOrder.{path_cmp, same, same_path}
-use Rattle.histar_flat.specs.PathOrderLaws.{path_cmp_exact, path_cmp_ties, path_cmp_total}
+use Rattle.histar_base.specs.Paths.{path_cmp, same, same_path}
+use Rattle.histar_base.proofs.PathLaws.{path_cmp_exact, path_cmp_ties, path_cmp_total}
 use Rattle.histar_flat.specs.Files.{Files, get, insert, keep}
 
 -- what a test for equality has found: it is true and the things are equal, or false and they differ

@@ -10,7 +10,7 @@ use Rattle.std.specs.FinMap.{IsAntisymmetric, find}
 use Rattle.std.specs.FinMap.Entries.{below_all}
 use Rattle.std.proofs.lemmas.Option.{none-some}
 use Rattle.histar_flat.specs.Words.{Name, Path}
-use Rattle.histar_flat.specs.PathOrder.{path_cmp, reverse_onto}
+use Rattle.histar_base.specs.Paths.{path_cmp, reverse_onto}
 
 -- the first of two tests that hold
 pub first : (a b : Bool) → T (a && b) → T a

@@ -5,7 +5,8 @@ use Rattle.std.proofs.lemmas.Bool.{true≢false}
 use Rattle.histar_flat.specs.declared.calls.CallLine.{CallLine}
 use Rattle.histar_flat.specs.declared.calls.UnixCall.{UnixCall}
 use Rattle.histar_flat.specs.Words.{ProcName}
-use Rattle.histar_flat.specs.PathOrder.{same, under_process}
+use Rattle.histar_base.specs.Paths.{same}
+use Rattle.histar_flat.specs.PathOrder.{under_process}
 use Rattle.histar_flat.specs.Accounts.{Accounts, user_named}
 use Rattle.histar_flat.specs.Classes.{Process, nobody, is_free}
 use Rattle.histar_flat.specs.FlatState.{Flat, with_process, with_child}

@@ -1,5 +1,4 @@
 -- The lemmas of this crate.
-pub mod PaddingLemmas
 pub mod NameBytes
 pub mod WordLemmas
 pub mod SplitLemmas

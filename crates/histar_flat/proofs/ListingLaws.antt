@@ -11,8 +11,8 @@ use Rattle.histar_flat.specs.declared.calls.UnixCall.TheVariants.{List as ListCa
 use Rattle.histar_flat.specs.declared.replies.Errno.{Errno}
 use Rattle.histar_flat.specs.declared.replies.Reply.TheVariants.{Entries}
 use Rattle.histar_flat.specs.Words.{Name, Path}
-use Rattle.histar_flat.specs.PathOrder.{path_cmp}
-use Rattle.histar_flat.specs.PathOrderLaws.{path_cmp_total, path_cmp_exact}
+use Rattle.histar_base.specs.Paths.{path_cmp}
+use Rattle.histar_base.proofs.PathLaws.{path_cmp_total, path_cmp_exact}
 use Rattle.histar_flat.specs.FlatState.{Node, Entry, is_dir, entry_in, entries_in}
 use Rattle.histar_flat.specs.FileLaws.{ListingsShowWhatIsThere}
 use Rattle.histar_flat.proofs.Answered.{is_answered}

@@ -3,7 +3,8 @@ use Rattle.std.proofs.Common.{◌≡◌, ℕ, ◌-◌, ◌<◌, suc, true, false
 use Rattle.std.specs.Prelude.{◌||◌}
 use Rattle.std.proofs.lemmas.Bool.{true≢false}
 use Rattle.histar_flat.specs.Words.{Name, Path}
-use Rattle.histar_flat.specs.PathOrder.{same, under_path, parent}
+use Rattle.histar_base.specs.Paths.{same}
+use Rattle.histar_flat.specs.PathOrder.{under_path, parent}
 use Rattle.histar_flat.specs.FlatState.{moved}
 use Rattle.histar_flat.proofs.FileLemmas.{same_path_found}
 use Rattle.histar_flat.proofs.Under.{under_is_longer}

@@ -7,7 +7,8 @@ use Rattle.histar_flat.specs.declared.calls.UnixCall.TheVariants.{Exit, Kill}
 use Rattle.histar_flat.specs.declared.replies.Errno.TheVariants.{EACCES}
 use Rattle.histar_flat.specs.declared.replies.Reply.TheVariants.{Done}
 use Rattle.histar_flat.specs.Words.{ProcName}
-use Rattle.histar_flat.specs.PathOrder.{same, under_process}
+use Rattle.histar_base.specs.Paths.{same}
+use Rattle.histar_flat.specs.PathOrder.{under_process}
 use Rattle.histar_flat.specs.Accounts.{Accounts}
 use Rattle.histar_flat.specs.Classes.{Process}
 use Rattle.histar_flat.specs.FlatState.{Flat, with_process, without_process, is_given}

@@ -7,7 +7,8 @@ use Rattle.std.specs.Ordering.{eq_by_cmp}
 use Rattle.std.specs.FinMap.{find}
 use Rattle.std.specs.FinMap.Entries.{where_key}
 use Rattle.histar_flat.specs.Words.{Name, Path}
-use Rattle.histar_flat.specs.PathOrder.{path_cmp, same, same_path, under_path}
+use Rattle.histar_base.specs.Paths.{path_cmp, same, same_path}
+use Rattle.histar_flat.specs.PathOrder.{under_path}
 use Rattle.histar_flat.specs.Files.{Files, get, keep, from_list}
 use Rattle.histar_flat.specs.FlatState.{Node, moved}
 use Rattle.histar_flat.proofs.FileLemmas.{same_path_found, get-insert, get-keep, ties, same_lists}

@@ -10,7 +10,8 @@ use Rattle.histar_flat.specs.Effects.Effect.{Nothing, Makes, Stores, Removes, Re
 use Rattle.histar_flat.specs.CallRules.{path_of, rule}
 use Rattle.histar_flat.specs.declared.replies.Errno.{Errno}
 use Rattle.histar_flat.specs.Words.{Name, Path, ProcName}
-use Rattle.histar_flat.specs.PathOrder.{path_cmp, same, same_path, under_path, under_process, parent}
+use Rattle.histar_base.specs.Paths.{path_cmp, same, same_path}
+use Rattle.histar_flat.specs.PathOrder.{under_path, under_process, parent}
 use Rattle.histar_flat.specs.Accounts.{Accounts, is_member}
 use Rattle.histar_flat.specs.Files.{get, insert, from_list}
 use Rattle.histar_flat.specs.Classes.{Class, Process, is_free, may_read, may_write}

@@ -6,7 +6,8 @@ use Rattle.histar_flat.specs.declared.calls.CallLine.{CallLine}
 use Rattle.histar_flat.specs.declared.calls.UnixCall.{UnixCall}
 use Rattle.histar_flat.specs.declared.replies.Errno.TheVariants.{ENOENT, ENOTDIR, EACCES}
 use Rattle.histar_flat.specs.Words.{Name, Path, ProcName}
-use Rattle.histar_flat.specs.PathOrder.{same, same_path, under_path}
+use Rattle.histar_base.specs.Paths.{same, same_path}
+use Rattle.histar_flat.specs.PathOrder.{under_path}
 use Rattle.histar_flat.specs.Accounts.{Accounts}
 use Rattle.histar_flat.specs.Files.{empty, get, insert}
 use Rattle.histar_flat.specs.Classes.{Process}

@@ -11,7 +11,8 @@ use Rattle.histar_flat.specs.declared.replies.Errno.{Errno}
 use Rattle.histar_flat.specs.declared.replies.Errno.TheVariants.{ENOENT, ENOTDIR, EACCES}
 use Rattle.histar_flat.specs.CallRules.{path_of}
 use Rattle.histar_flat.specs.Words.{Name, Path}
-use Rattle.histar_flat.specs.PathOrder.{path_cmp, same, same_path, under_path}
+use Rattle.histar_base.specs.Paths.{path_cmp, same, same_path}
+use Rattle.histar_flat.specs.PathOrder.{under_path}
 use Rattle.histar_flat.specs.Accounts.{Accounts}
 use Rattle.histar_flat.specs.Files.{get, keep}
 use Rattle.histar_flat.specs.Classes.{Process, may_read}

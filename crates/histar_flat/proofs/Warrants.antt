@@ -6,7 +6,8 @@ use Rattle.std.proofs.lemmas.Bool.{and_parts, true≢false}
 use Rattle.histar_flat.specs.declared.calls.UnixCall.{UnixCall}
 use Rattle.histar_flat.specs.declared.calls.UnixCall.TheVariants.{Create}
 use Rattle.histar_flat.specs.Words.{Path, ProcName}
-use Rattle.histar_flat.specs.PathOrder.{same, parent}
+use Rattle.histar_base.specs.Paths.{same}
+use Rattle.histar_flat.specs.PathOrder.{parent}
 use Rattle.histar_flat.specs.Accounts.{Accounts, is_member, has}
 use Rattle.histar_flat.specs.Files.{get}
 use Rattle.histar_flat.specs.Classes.{Class, Process, is_free, knows, may_read, may_write}

@@ -7,7 +7,7 @@ use Rattle.histar_flat.specs.declared.replies.FileMode.{FileMode}
 use Rattle.histar_flat.specs.declared.replies.FileMode.TheVariants as file_modes
 use Rattle.histar_flat.specs.Words.{Name, ProcName}
 use Rattle.histar_flat.specs.Accounts.{Accounts, has, is_member}
-use Rattle.histar_flat.specs.PathOrder.{same}
+use Rattle.histar_base.specs.Paths.{same}
 
 -- the class of a file or a directory: its owner, and who may read and write it
 pub data Class : Type 0 where

@@ -3,8 +3,8 @@ use Rattle.std.specs.Prelude.{Bool, T, List, [], ◌∷◌, Option}
 use Rattle.std.specs.FinMap.{find, put, is_sorted}
 use Rattle.std.specs.FinMap.Entries.{where_key, is_sorted-put, is_sorted-where_key}
 use Rattle.histar_flat.specs.Words.{Path}
-use Rattle.histar_flat.specs.PathOrder.{path_cmp}
-use Rattle.histar_flat.specs.PathOrderLaws.{path_cmp_total}
+use Rattle.histar_base.specs.Paths.{path_cmp}
+use Rattle.histar_base.proofs.PathLaws.{path_cmp_total}
 
 -- entries whose paths rise
 pub record Files (X : Type 0) : Type 0 where

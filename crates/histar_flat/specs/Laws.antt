@@ -8,7 +8,8 @@ use Rattle.histar_flat.specs.declared.calls.UnixCall.TheVariants.{Read, Write}
 use Rattle.histar_flat.specs.declared.replies.Errno.{Errno}
 use Rattle.histar_flat.specs.declared.replies.Reply.TheVariants.{Done, Data, Refused}
 use Rattle.histar_flat.specs.Words.{Name, Path, ProcName}
-use Rattle.histar_flat.specs.PathOrder.{same, under_path}
+use Rattle.histar_base.specs.Paths.{same}
+use Rattle.histar_flat.specs.PathOrder.{under_path}
 use Rattle.histar_flat.specs.Accounts.{Accounts, user_named, is_member}
 use Rattle.histar_flat.specs.Files.{get}
 use Rattle.histar_flat.specs.Classes.{Process, nobody, knows, carries}

@@ -1,10 +1,8 @@
 -- The definitions of this crate that contracts cite.
 pub mod Padding
-pub mod PaddingLaws
 pub mod Words
 pub mod Modes
 pub mod PathOrder
-pub mod PathOrderLaws
 pub mod Accounts
 pub mod Files
 pub mod Classes

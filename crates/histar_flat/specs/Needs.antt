@@ -5,7 +5,8 @@ use Rattle.histar_flat.specs.declared.calls.Mode.{Mode}
 use Rattle.histar_flat.specs.declared.replies.Errno.{Errno}
 use Rattle.histar_flat.specs.declared.replies.Errno.TheVariants.{ENOENT, EISDIR, EEXIST, EACCES, EBUSY, ENOSPC, ESRCH, EAGAIN}
 use Rattle.histar_flat.specs.Words.{Name, Password, Path, ProcName, most_children, most_numbers}
-use Rattle.histar_flat.specs.PathOrder.{same, parent}
+use Rattle.histar_base.specs.Paths.{same}
+use Rattle.histar_flat.specs.PathOrder.{parent}
 use Rattle.histar_flat.specs.Accounts.{Accounts, user_named}
 use Rattle.histar_flat.specs.Classes.{Process, nobody, is_free, sees, class_made}
 use Rattle.histar_flat.specs.FlatState.{Flat, is_some_and, is_there, is_dir_at, is_file_at, reads, writes, bytes_at, entries_in, walk}

@@ -3,7 +3,8 @@
 use Rattle.std.specs.Prelude.{◌≡◌, true, not, [], ◌∷◌, length, nat_le, None, is_some}
 use Rattle.histar_flat.specs.declared.calls.UnixCall.{UnixCall}
 use Rattle.histar_flat.specs.Words.{Path, ProcName}
-use Rattle.histar_flat.specs.PathOrder.{same, parent}
+use Rattle.histar_base.specs.Paths.{same}
+use Rattle.histar_flat.specs.PathOrder.{parent}
 use Rattle.histar_flat.specs.Accounts.{Accounts, user_named}
 use Rattle.histar_flat.specs.Files.{get}
 use Rattle.histar_flat.specs.Classes.{Process, nobody, is_free}

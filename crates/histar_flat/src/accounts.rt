@@ -1,6 +1,6 @@
 //! The users and groups that a script declares.
 ghost use Rattle.std.specs.Prelude.{◌≡◌, ◌<◌, ◌≤◌, length, position, IfSome, OnOk};
-ghost use Rattle.histar_flat.specs.PathOrder.{same};
+ghost use Rattle.histar_base.specs.Paths.{same};
 ghost use Rattle.histar_flat.specs.Accounts.{IsSmall, group_number, is_group, most_users, most_groups, no_accounts, with_user, with_group};
 
 use crate::calls::User;

@@ -1,7 +1,8 @@
 //! Paths of files and directories.
 ghost use Rattle.std.specs.Prelude.{◌≡◌, ◌<◌, ◌≤◌, [], ◌∷◌, length, codes, IsTrue};
 ghost use Rattle.histar_flat.specs.FlatState.{moved};
-ghost use Rattle.histar_flat.specs.Padding.{padded, unused_name};
+ghost use Rattle.histar_base.specs.Padding.{padded};
+ghost use Rattle.histar_flat.specs.Padding.{unused_name};
 ghost use Rattle.histar_flat.specs.PathOrder.{below_path, parent, under_path};
 ghost use Rattle.histar_flat.specs.Words.{most_names, is_path};
 
@@ -24,9 +25,10 @@ pub struct Path {
 
 impl Model for Path {
     ghost use Rattle.std.specs.Prelude.{ℕ, List, length, take};
-    ghost use Rattle.histar_flat.specs.Padding.{padded, HoldsPath, unused_name};
+    ghost use Rattle.histar_base.specs.Padding.{padded};
+    ghost use Rattle.histar_base.proofs.Padded.{padded-take, length-kept};
+    ghost use Rattle.histar_flat.specs.Padding.{HoldsPath, unused_name};
     ghost use Rattle.histar_flat.specs.Words.{most_names};
-    ghost use Rattle.histar_flat.specs.PaddingLaws.{padded-take, length-kept};
     ghost use Rattle.std.proofs.Common.{refl};
 
     ghost Value = { List (List ℕ) };
@@ -178,8 +180,8 @@ impl Eq for Path {
 
 impl PartialOrd for Path {
     ghost use Rattle.std.specs.Prelude.{Some};
-    ghost use Rattle.histar_flat.specs.PathOrder.{path_cmp};
-    ghost use Rattle.histar_flat.specs.PathOrderLaws.{path_cmp_po};
+    ghost use Rattle.histar_base.specs.Paths.{path_cmp};
+    ghost use Rattle.histar_base.proofs.PathLaws.{path_cmp_po};
 
     ghost partial_cmp = { λ p q. Some (path_cmp p q) };
 
@@ -193,8 +195,8 @@ impl PartialOrd for Path {
 /// Paths are ordered by their names from `/` on, as a tree is listed.
 impl Ord for Path {
     ghost use Rattle.std.proofs.Common.{refl};
-    ghost use Rattle.histar_flat.specs.PathOrder.{path_cmp};
-    ghost use Rattle.histar_flat.specs.PathOrderLaws.{path_cmp_total, path_cmp_ties};
+    ghost use Rattle.histar_base.specs.Paths.{path_cmp};
+    ghost use Rattle.histar_base.proofs.PathLaws.{path_cmp_total, path_cmp_ties};
 
     ghost cmp = { path_cmp };
 

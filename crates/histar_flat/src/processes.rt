@@ -20,9 +20,9 @@ pub struct ProcName {
 
 impl Model for ProcName {
     ghost use Rattle.std.specs.Prelude.{ℕ, List, length, take};
-    ghost use Rattle.histar_flat.specs.Padding.{padded, IsPadded};
+    ghost use Rattle.histar_base.specs.Padding.{padded, IsPadded};
+    ghost use Rattle.histar_base.proofs.Padded.{padded-take, length-kept};
     ghost use Rattle.histar_flat.specs.Words.{most_numbers};
-    ghost use Rattle.histar_flat.specs.PaddingLaws.{padded-take, length-kept};
     ghost use Rattle.std.proofs.Common.{refl};
 
     ghost Value = { List ℕ };

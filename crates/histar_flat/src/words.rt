@@ -1,6 +1,6 @@
 //! Byte strings of at most 32 bytes that can be copied.
 ghost use Rattle.std.specs.Prelude.{◌≡◌, ◌≤◌, length};
-ghost use Rattle.histar_flat.specs.Padding.{padded};
+ghost use Rattle.histar_base.specs.Padding.{padded};
 ghost use Rattle.histar_flat.specs.Words.{most_word_bytes};
 
 use std::marker::Model;
@@ -17,9 +17,9 @@ pub struct Word {
 
 impl Model for Word {
     ghost use Rattle.std.specs.Prelude.{ℕ, List, length, take};
-    ghost use Rattle.histar_flat.specs.Padding.{padded, IsPadded};
+    ghost use Rattle.histar_base.specs.Padding.{padded, IsPadded};
+    ghost use Rattle.histar_base.proofs.Padded.{padded-take, length-kept};
     ghost use Rattle.histar_flat.specs.Words.{most_word_bytes};
-    ghost use Rattle.histar_flat.specs.PaddingLaws.{padded-take, length-kept};
     ghost use Rattle.std.proofs.Common.{refl};
 
     ghost Value = { List ℕ };

@@ -5,11 +5,15 @@ use Rattle.std.specs.List.{insert}
 use Rattle.std.proofs.lemmas.Bool.Decides.{nat_tests}
 use Rattle.std.proofs.lemmas.List.Elements.{All-nil}
 use Rattle.std.proofs.lemmas.List.Edits.{insert_end, get_or-insert_below, get_or-insert_at, length-insert}
-use Rattle.histar_label.specs.declared.levels.Level.{Level}
-use Rattle.histar_label.specs.declared.levels.Level.TheVariants.{Star}
+use Rattle.histar_level.specs.declared.level.Level.{Level}
+use Rattle.histar_level.specs.declared.level.Level.TheVariants.{Star}
 use Rattle.histar_label.specs.declared.levels.Combination.{Combination}
 use Rattle.histar_label.specs.Level.{combine}
-use Rattle.histar_label.specs.Levels.{Levels, default_of, exceptions_of, from_exceptions, level_of-exceptions, level_of-from_exceptions, same_levels}
+use Rattle.histar_level.specs.Levels.{Levels, default_of, exceptions_of}
+use Rattle.histar_level.proofs.Exceptions.{level_of-exceptions}
+use Rattle.histar_level.proofs.Functions.{same_levels}
+use Rattle.histar_label.specs.Levels.{from_exceptions}
+use Rattle.histar_label.proofs.Readers.{level_of-from_exceptions}
 use Rattle.histar_label.specs.Exceptions.{Exceptions, category_at, IsRising, IsCanonical, HasGap}
 use Rattle.histar_label.specs.Floors.{combined_of, combined_level}
 use Rattle.histar_label.specs.Front.{lower, level_at, after}

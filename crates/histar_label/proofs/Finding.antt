@@ -8,8 +8,9 @@ use Rattle.std.proofs.lemmas.Bool.Decides.{nat_tests}
 use Rattle.std.proofs.lemmas.List.Quantifiers.{position-Some}
 use Rattle.std.proofs.lemmas.List.Sums.{fails_before_first}
 use Rattle.std.proofs.lemmas.Option.{slice_get-get_or, slice_get_within}
-use Rattle.histar_label.specs.Levels.{Levels}
-use Rattle.histar_label.specs.Same.{is_same, same_label, own_label}
+use Rattle.histar_level.specs.Levels.{Levels}
+use Rattle.histar_level.specs.Same.{is_same}
+use Rattle.histar_level.proofs.Equality.{same_label, own_label}
 
 -- the label at the place that is found is the one that was looked for
 pub found_label : (labels : List Levels) (L : Levels) (i : ℕ) → position (is_same L) labels ≡ Some i → slice_get labels i ≡ Some L

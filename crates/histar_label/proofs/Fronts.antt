@@ -6,10 +6,12 @@ use Rattle.std.specs.Ordering.{nat_cmp}
 use mathlib.Core.Bool.{false≢true}
 use Rattle.std.specs.FinMap.{find}
 use Rattle.std.proofs.lemmas.Bool.Decides.{nat_tests}
-use Rattle.histar_label.specs.declared.levels.Level.{Level}
+use Rattle.histar_level.specs.declared.level.Level.{Level}
 use Rattle.histar_label.specs.declared.levels.Test.{Test}
 use Rattle.histar_label.specs.Level.{Passes}
-use Rattle.histar_label.specs.Levels.{Levels, level_of, default_of, exceptions_of, level_of-exceptions, beyond, level_of-beyond, Fits}
+use Rattle.histar_level.specs.Levels.{Levels, level_of, default_of, exceptions_of, beyond}
+use Rattle.histar_level.proofs.Exceptions.{level_of-exceptions, level_of-beyond}
+use Rattle.histar_label.specs.Levels.{Fits}
 use Rattle.histar_label.specs.Exceptions.{Exceptions, IsRising}
 use Rattle.histar_label.specs.Front.{first_category, earlier, lower, lowest, level_at, after}
 use Rattle.histar_label.proofs.Canonical.{rising_tail}

@@ -5,9 +5,10 @@ use mathlib.Core.Bool.{false≢true}
 use Rattle.std.specs.List.{slice_get, list_any, IsDistinct, AllByRecursion}
 use Rattle.std.proofs.lemmas.Option.{slice_get-get_or}
 use Rattle.indexmap.specs.IndexSet.{insert_key}
-use Rattle.histar_label.specs.declared.levels.Level.TheVariants.{L1}
+use Rattle.histar_level.specs.declared.level.Level.TheVariants.{L1}
 use Rattle.histar_label.specs.declared.comparisons.Comparison.{Comparison}
-use Rattle.histar_label.specs.Levels.{Levels, constant, is_within}
+use Rattle.histar_level.specs.Levels.{Levels}
+use Rattle.histar_label.specs.Levels.{constant, is_within}
 use Rattle.histar_label.specs.Store.{label_at, Keeps, HasOneId}
 use Rattle.histar_label.specs.declared.comparisons.Question.{Question}
 use Rattle.histar_label.specs.declared.comparisons.Question.TheVariants.{Plain, Raised, Floor}

@@ -1,10 +1,11 @@
 -- The floor of two labels is the least that owns what either owns and is at least both elsewhere.
 use Rattle.std.proofs.Common.{◌≡◌, ◌≢◌, ℕ, ◌≤◌, max, ◌⊎◌, inl, inr, refl, ap, ◌∙◌, arith}
 use Rattle.std.proofs.lemmas.Bool.Decides.{nat_tests}
-use Rattle.histar_label.specs.declared.levels.Level.{Level}
-use Rattle.histar_label.specs.declared.levels.Level.TheVariants.{Star, L0, L1, L2, L3}
-use Rattle.histar_label.specs.Level.{rank, raised, lowered, same_level, rank-at_most, raised-at_most}
-use Rattle.histar_label.specs.Levels.{Levels, level_of}
+use Rattle.histar_level.specs.declared.level.Level.{Level}
+use Rattle.histar_level.specs.declared.level.Level.TheVariants.{Star, L0, L1, L2, L3}
+use Rattle.histar_level.specs.Level.{rank, raised, lowered}
+use Rattle.histar_level.specs.Levels.{Levels, level_of}
+use Rattle.histar_level.proofs.Ranks.{same_level, rank-at_most, raised-at_most}
 use Rattle.histar_label.specs.Floors.{floor_of}
 use Rattle.histar_label.specs.Laws.{IsFloor}
 use Rattle.histar_label.proofs.Floors.{grades-floor_of}

@@ -7,10 +7,11 @@ use Rattle.std.specs.FinMap.{find, is_sorted, entries, entries_sorted, get-entri
 use Rattle.std.specs.FinMap.Entries.{below_all}
 use Rattle.std.proofs.lemmas.List.{get_or_default}
 use Rattle.std.proofs.lemmas.Bool.Decides.{nat_tests}
-use Rattle.histar_label.specs.declared.levels.Level.{Level}
-use Rattle.histar_label.specs.declared.levels.Level.TheVariants.{Star}
-use Rattle.histar_label.specs.Levels.{Levels, level_of, default_of, exceptions_of, beyond, level_of-exceptions, level_of-beyond, IsDefault}
-use Rattle.histar_label.specs.Levels.{ListsExceptions}
+use Rattle.histar_level.specs.declared.level.Level.{Level}
+use Rattle.histar_level.specs.declared.level.Level.TheVariants.{Star}
+use Rattle.histar_level.specs.Levels.{Levels, level_of, default_of, exceptions_of, beyond}
+use Rattle.histar_level.proofs.Exceptions.{level_of-exceptions, level_of-beyond}
+use Rattle.histar_label.specs.Levels.{IsDefault, ListsExceptions}
 use Rattle.histar_label.specs.Exceptions.{Exceptions, category_at, IsRising, HasPlace}
 use Rattle.histar_label.proofs.Places.{find_at}
 

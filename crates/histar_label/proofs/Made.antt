@@ -8,11 +8,12 @@ use Rattle.std.proofs.lemmas.Option.{slice_get_within, get_or_from_slice_get}
 use Rattle.std.proofs.lemmas.List.Elements.{All-contains, Contains-get_or}
 use Rattle.std.proofs.lemmas.List.Sums.{AllPass-from_list_all, list_all-from_AllPass}
 use Rattle.std.proofs.lemmas.Bool.Decides.{nat_tests}
-use Rattle.histar_label.specs.declared.levels.Level.{Level}
-use Rattle.histar_label.specs.declared.levels.Level.TheVariants.{Star}
+use Rattle.histar_level.specs.declared.level.Level.{Level}
+use Rattle.histar_level.specs.declared.level.Level.TheVariants.{Star}
 use Rattle.histar_label.specs.Exceptions.{Exceptions, IsRising, category_at}
-use Rattle.histar_label.specs.Levels.{Levels, level_of, exceptions_of, constant, with_level, level_of-constant, level_of-with_level}
-use Rattle.histar_label.specs.Levels.{default_of-constant, default_of-with_level, NamesOnlyMade, is_made}
+use Rattle.histar_level.specs.Levels.{Levels, level_of, exceptions_of}
+use Rattle.histar_label.specs.Levels.{constant, with_level, NamesOnlyMade, is_made}
+use Rattle.histar_label.proofs.Readers.{level_of-constant, level_of-with_level, default_of-constant, default_of-with_level}
 use Rattle.histar_label.proofs.Listed.{ListsExceptions-exceptions_of}
 
 -- whether a category is made

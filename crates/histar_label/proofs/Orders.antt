@@ -1,15 +1,19 @@
 -- The comparisons of labels at every category, and the laws of orders that follow.
 use Rattle.std.proofs.Common.{◌≡◌, ◌≤◌, IsTrue, ◌↔◌, sym, arith, ap}
 use Rattle.std.proofs.lemmas.Bool.Decides.{same_from_decides}
-use Rattle.histar_label.specs.declared.levels.Level.{Level}
-use Rattle.histar_label.specs.declared.levels.Level.TheVariants.{Star, L0, L1, L2, L3}
+use Rattle.histar_level.specs.declared.level.Level.{Level}
+use Rattle.histar_level.specs.declared.level.Level.TheVariants.{Star, L0, L1, L2, L3}
 use Rattle.histar_label.specs.declared.levels.Raising.TheVariants.{Plain, Raised}
 use Rattle.histar_label.specs.declared.levels.Test.TheVariants.{BelowJoin, FloorBelow}
-use Rattle.histar_label.specs.Level.{rank, raised, same_level}
-use Rattle.histar_label.specs.Levels.{Levels, level_of, grades, raised_grades, joined, floor_grades, IsBelow, is_within, same_levels, is_below}
-use Rattle.histar_label.specs.Levels.{is_below_raised, is_below_join, is_below_join_raised}
+use Rattle.histar_level.specs.Level.{rank, raised}
+use Rattle.histar_level.specs.Levels.{Levels, level_of}
+use Rattle.histar_level.specs.Same.{is_same}
+use Rattle.histar_level.proofs.Ranks.{same_level}
+use Rattle.histar_level.proofs.Functions.{same_levels}
+use Rattle.histar_level.proofs.Equality.{same_label, own_label}
+use Rattle.histar_label.specs.Levels.{grades, raised_grades, joined, floor_grades, IsBelow, is_within, is_below, is_below_raised, is_below_join}
+use Rattle.histar_label.specs.Levels.{is_below_join_raised}
 use Rattle.histar_label.specs.Floors.{join_of, floor_of}
-use Rattle.histar_label.specs.Same.{is_same, same_label, own_label}
 use Rattle.histar_label.specs.Laws.{IsSameFunction, ComparesFunctions, IsListed, TestsArePointwise, IsPartialOrder, IsLeastUpperBound}
 use Rattle.histar_label.proofs.Floors.{grades-join_of, grades-floor_of}
 use Rattle.histar_label.proofs.Listed.{IsDefault-default_of, IsRising-exceptions_of, ListsExceptions-exceptions_of}

@@ -9,7 +9,7 @@ use Rattle.lru.specs.LruCache.{LruCache, lru_cache, put_entries}
 use Rattle.lru.proofs.CallerLemmas.{Contains-put_entries, Contains-lookup}
 use Rattle.histar_label.specs.contracts.comparisons.Question.{the_type}
 use Rattle.histar_label.specs.declared.comparisons.Comparison.{Comparison}
-use Rattle.histar_label.specs.Same.{both_true}
+use Rattle.histar_level.proofs.Equality.{both_true}
 
 -- the test of two comparisons that `derive` makes
 abbrev pub is_same_comparison : Comparison → Comparison → Bool

@@ -4,9 +4,12 @@ use mathlib.Core.Bool.{false≢true}
 use Rattle.std.specs.List.{list_any}
 use Rattle.std.proofs.lemmas.List.Folds.{Any-from_list_any, list_any-from_Any}
 use Rattle.std.proofs.lemmas.Bool.{false_from_ne_true}
-use Rattle.histar_label.specs.declared.levels.Level.TheVariants.{Star}
-use Rattle.histar_label.specs.Level.{is_star, star_from_is_star, is_star_from_star}
-use Rattle.histar_label.specs.Levels.{Levels, level_of, default_of, exceptions_of, beyond, level_of-beyond, HasStar, has_star}
+use Rattle.histar_level.specs.declared.level.Level.TheVariants.{Star}
+use Rattle.histar_level.specs.Level.{is_star}
+use Rattle.histar_level.specs.Levels.{Levels, level_of, default_of, exceptions_of, beyond}
+use Rattle.histar_level.proofs.Star.{star_from_is_star, is_star_from_star}
+use Rattle.histar_level.proofs.Exceptions.{level_of-beyond}
+use Rattle.histar_label.specs.Levels.{HasStar, has_star}
 use Rattle.histar_label.proofs.Listed.{ListsExceptions-exceptions_of}
 
 -- a default of star is the level of a category beyond all exceptions

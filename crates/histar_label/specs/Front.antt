@@ -1,6 +1,6 @@
 -- The front of a list of exceptions, as one pass goes over several lists.
 use Rattle.std.specs.Prelude.{ℕ, min, [], ◌∷◌, Option, None, Some, if◌then◌else◌, ◌==◌}
-use Rattle.histar_label.specs.declared.levels.Level.{Level}
+use Rattle.histar_level.specs.declared.level.Level.{Level}
 use Rattle.histar_label.specs.Exceptions.{Exceptions}
 
 -- the category of the first exception

@@ -6,7 +6,8 @@ use Rattle.histar_label.specs.declared.comparisons.Question.TheVariants.{Plain, 
 use Rattle.histar_label.specs.declared.levels.Raising.TheVariants as raisings
 use Rattle.histar_label.specs.declared.levels.Test.{Test}
 use Rattle.histar_label.specs.declared.levels.Test.TheVariants.{BelowJoin, FloorBelow}
-use Rattle.histar_label.specs.Levels.{Levels, is_within}
+use Rattle.histar_level.specs.Levels.{Levels}
+use Rattle.histar_label.specs.Levels.{is_within}
 use Rattle.histar_label.specs.Store.{label_at, HasOneId}
 
 -- the test that the levels of three labels have to pass at every category

@@ -1,10 +1,10 @@
 -- What the comparisons, the join and the floor of labels amount to, in the terms of orders.
 use Rattle.std.specs.Prelude.{◌≡◌, ◌≢◌, ◌↔◌, ◌⊎◌, ℕ, ◌≤◌, Bool, IsTrue}
-use Rattle.histar_label.specs.declared.levels.Level.TheVariants.{Star}
-use Rattle.histar_label.specs.Level.{rank}
-use Rattle.histar_label.specs.Levels.{Levels, level_of, default_of, exceptions_of, grades, raised_grades, joined, floor_grades, IsBelow, IsSame}
-use Rattle.histar_label.specs.Levels.{IsDefault, ListsExceptions, HasStar, NamesOnlyMade, is_below, is_below_raised, is_below_join}
-use Rattle.histar_label.specs.Levels.{is_below_join_raised, has_star, is_made}
+use Rattle.histar_level.specs.declared.level.Level.TheVariants.{Star}
+use Rattle.histar_level.specs.Level.{rank}
+use Rattle.histar_level.specs.Levels.{Levels, level_of, default_of, exceptions_of}
+use Rattle.histar_label.specs.Levels.{grades, raised_grades, joined, floor_grades, IsBelow, IsSame, IsDefault, ListsExceptions, HasStar}
+use Rattle.histar_label.specs.Levels.{NamesOnlyMade, is_below, is_below_raised, is_below_join, is_below_join_raised, has_star, is_made}
 use Rattle.histar_label.specs.Floors.{join_of, floor_of}
 use Rattle.histar_label.specs.Exceptions.{IsRising}
 

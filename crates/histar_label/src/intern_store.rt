@@ -61,7 +61,8 @@ pub struct InternStore {
 impl Model for InternStore {
     ghost use Rattle.std.specs.Prelude.{List};
     ghost use Rattle.std.specs.Coded.{coded_list};
-    ghost use Rattle.histar_label.specs.Levels.{Levels, coded_levels};
+    ghost use Rattle.histar_level.specs.Levels.{Levels};
+    ghost use Rattle.histar_label.specs.Levels.{coded_levels};
     ghost use Rattle.histar_label.specs.InternStore.{IsInterned};
 
     ghost Value = { List Levels };

@@ -1,8 +1,9 @@
 //! What the definitions of labels amount to. Each law is the contract of a function that does
 //! nothing.
-ghost use Rattle.histar_label.specs.Levels.{Levels, is_below};
+ghost use Rattle.histar_level.specs.Levels.{Levels};
+ghost use Rattle.histar_level.specs.Same.{is_same};
+ghost use Rattle.histar_label.specs.Levels.{is_below};
 ghost use Rattle.histar_label.specs.Floors.{join_of, floor_of};
-ghost use Rattle.histar_label.specs.Same.{is_same};
 ghost use Rattle.histar_label.specs.Laws.{ComparesFunctions, IsListed, TestsArePointwise};
 ghost use Rattle.histar_label.specs.Laws.{IsPartialOrder, IsLeastUpperBound, IsFloor};
 

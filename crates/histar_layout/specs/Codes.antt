@@ -15,11 +15,8 @@ abbrev pub join_target : ℕ ⊎ (ℕ × ℕ) → Target
 join_target (inl file) = File file
 join_target (inr numbers) = Directory numbers.0 numbers.1
 
--- a target that was split comes back
-pub join_target-split : (t : Target) → join_target (split_target t) ≡ t
-join_target-split (File file) = refl
-join_target-split (Directory container listing) = refl
-
--- a target is stored as its numbers
+-- a target is stored as its numbers; one that is split comes back
 abbrev pub coded_target : Coded Target
-coded_target = code_by (ℕ ⊎ (ℕ × ℕ)) (coded⊎ coded_ℕ (coded× coded_ℕ coded_ℕ)) split_target join_target join_target-split
+coded_target =
+    code_by (ℕ ⊎ (ℕ × ℕ)) (coded⊎ coded_ℕ (coded× coded_ℕ coded_ℕ)) split_target join_target
+    (λ t. elim t as (λ u. join_target (split_target u) ≡ u) [ File file ↦ refl | Directory container listing ↦ refl ])

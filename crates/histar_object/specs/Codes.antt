@@ -21,12 +21,11 @@ abbrev pub join_entry : ℕ ⊎ ℕ → Entry
 join_entry (inl n) = Login n
 join_entry (inr n) = Mark n
 
-pub join_entry-split : (e : Entry) → join_entry (split_entry e) ≡ e
-join_entry-split (Login n) = refl
-join_entry-split (Mark n) = refl
-
+-- an entry is stored as its number; one that is split comes back
 abbrev pub coded_entry : Coded Entry
-coded_entry = code_by (ℕ ⊎ ℕ) (coded⊎ coded_ℕ coded_ℕ) split_entry join_entry join_entry-split
+coded_entry =
+    code_by (ℕ ⊎ ℕ) (coded⊎ coded_ℕ coded_ℕ) split_entry join_entry
+    (λ e. elim e as (λ f. join_entry (split_entry f) ≡ f) [ Login n ↦ refl | Mark n ↦ refl ])
 
 module _ {L : Type 0} where
   -- a kind as one of four things
@@ -43,17 +42,24 @@ module _ {L : Type 0} where
   join_kind (inr (inl clearance)) = Thread clearance
   join_kind (inr (inr gate)) = Gate gate.0 gate.1
 
-  pub join_kind-split : (k : Kind L) → join_kind (split_kind k) ≡ k
-  join_kind-split (Segment bytes) = refl
-  join_kind-split (Container links) = refl
-  join_kind-split (Thread clearance) = refl
-  join_kind-split (Gate clearance entry) = refl
-
+  -- a kind is stored as one of four things; one that is split comes back
   abbrev pub coded_kind : Coded L → Coded (Kind L)
-  coded_kind l = code_by _ (coded⊎ (coded⊎ (coded_list coded_ℕ) (set.code coded_ℕ)) (coded⊎ l (coded× l coded_entry))) split_kind join_kind join_kind-split
+  coded_kind l =
+      code_by _ (coded⊎ (coded⊎ (coded_list coded_ℕ) (set.code coded_ℕ)) (coded⊎ l (coded× l coded_entry))) split_kind join_kind
+      (λ k. elim k as (λ m. join_kind (split_kind m) ≡ m) [
+        | Segment bytes ↦ refl
+        | Container links ↦ refl
+        | Thread clearance ↦ refl
+        | Gate clearance entry ↦ refl
+      ])
 
+  -- an object is stored as its label and its kind
   abbrev pub coded_object : Coded L → Coded (Object L)
   coded_object l = code_by (L × Kind L) (coded× l (coded_kind l)) (λ o. (o.label, o.kind)) (λ p. record { label = p.0; kind = p.1 }) (λ _. refl)
 
+  -- a table is stored as its objects, the slots of these, and its room
   abbrev pub coded_table : Coded L → Coded (TableModel L)
-  coded_table l = code_by (List (ℕ × Object L) × (List (ℕ × ℕ) × ℕ)) (coded× (coded_list (coded× coded_ℕ (coded_object l))) (coded× (coded_list (coded× coded_ℕ coded_ℕ)) coded_ℕ)) (λ t. (t.objects, (t.slots, t.room))) (λ p. record { objects = p.0; slots = p.1.0; room = p.1.1 }) (λ _. refl)
+  coded_table l =
+      code_by (List (ℕ × Object L) × (List (ℕ × ℕ) × ℕ))
+      (coded× (coded_list (coded× coded_ℕ (coded_object l))) (coded× (coded_list (coded× coded_ℕ coded_ℕ)) coded_ℕ))
+      (λ t. (t.objects, (t.slots, t.room))) (λ p. record { objects = p.0; slots = p.1.0; room = p.1.1 }) (λ _. refl)

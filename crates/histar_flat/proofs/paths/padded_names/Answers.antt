@@ -1,7 +1,8 @@
 -- Proves the goals of `padded_names` of src/paths.rt that the search leaves open.
 use Rattle.std.proofs.Common.{ℕ, List, length, refl}
 use Rattle.std.proofs.lemmas.List.{drop-replicate}
-use Rattle.histar_flat.specs.Padding.{padded, unused_name}
+use Rattle.histar_base.specs.Padding.{padded}
+use Rattle.histar_flat.specs.Padding.{unused_name}
 use Rattle.histar_flat.proofs.paths.padded_names.Goals as goal
 
 pub returns : goal.returns

@@ -2,9 +2,8 @@
 use Rattle.std.proofs.Common.{◌≡◌, ◌≤◌, ℕ, List, IsTrue, length, take, ap, subst, sym, ◌∙◌, arith}
 use Rattle.std.specs.List.{list_all}
 use Rattle.histar_flat.proofs.NamedPaths.{pass_both}
-use Rattle.histar_flat.proofs.PaddingLemmas.{padded_front, take_front}
+use Rattle.histar_base.proofs.Padded.{padded_front, take_front, length-kept}
 use Rattle.histar_flat.specs.Padding.{unused_name}
-use Rattle.histar_flat.specs.PaddingLaws.{length-kept}
 use Rattle.histar_flat.specs.Words.{is_name}
 use Rattle.histar_flat.proofs.paths.Path.enter.Goals as goal
 

@@ -2,7 +2,7 @@
 use Rattle.std.proofs.Common.{IsTrue, List, ℕ, refl, subst, sym}
 use Rattle.std.specs.List.{list_all}
 use Rattle.histar_flat.proofs.NamedPaths.{path_is_short, path_is_named}
-use Rattle.histar_flat.proofs.PaddingLemmas.{padded_fits, take-padded}
+use Rattle.histar_base.proofs.Padded.{padded_fits, take-padded}
 use Rattle.histar_flat.specs.Padding.{unused_name}
 use Rattle.histar_flat.specs.Words.{is_name}
 use Rattle.histar_flat.proofs.paths.Path.of.Goals as goal

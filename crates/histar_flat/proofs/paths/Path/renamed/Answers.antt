@@ -6,11 +6,11 @@ use Rattle.std.proofs.Math.Seq.{take-set-lt}
 use Rattle.histar_flat.specs.Words.{Path, most_names, is_name}
 use Rattle.histar_flat.proofs.NamedPaths.{named_set}
 use Rattle.histar_flat.specs.Padding.{unused_name}
-use Rattle.histar_flat.specs.PaddingLaws.{length-kept}
-use Rattle.histar_flat.specs.PathOrder.{same, parent, under_path}
+use Rattle.histar_base.specs.Paths.{same}
+use Rattle.histar_base.proofs.Padded.{length-kept, padded_set}
+use Rattle.histar_flat.specs.PathOrder.{parent, under_path}
 use Rattle.histar_flat.specs.FlatState.{moved}
 use Rattle.histar_flat.proofs.FileLemmas.{same_path_found}
-use Rattle.histar_flat.proofs.PaddingLemmas.{padded_set}
 use Rattle.histar_flat.proofs.Under.{under_is_longer}
 use Rattle.histar_flat.proofs.Moved.{moved_aside, moved_below, moved_root}
 use Rattle.histar_flat.proofs.paths.Path.renamed.Goals.{then-depth-eq0-via-then-depth-eq0, then-depth-eq0-via-else-depth-eq0+then-not-is_at_or_below}

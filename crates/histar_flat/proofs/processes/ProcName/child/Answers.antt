@@ -1,7 +1,6 @@
 -- Proves the goals of `ProcName::child` of src/processes.rt that the search leaves open.
 use Rattle.std.proofs.Common.{◌≡◌, ◌≤◌, length, ap, sym, ◌∙◌, arith}
-use Rattle.histar_flat.proofs.PaddingLemmas.{padded_front}
-use Rattle.histar_flat.specs.PaddingLaws.{length-kept}
+use Rattle.histar_base.proofs.Padded.{padded_front, length-kept}
 use Rattle.histar_flat.proofs.processes.ProcName.child.Goals as goal
 
 pub invariant_of-result : goal.invariant_of-result

@@ -1,6 +1,6 @@
 -- Proves the goals of `Word::of` of src/words.rt that the search leaves open.
 use Rattle.std.proofs.Common.{refl}
-use Rattle.histar_flat.proofs.PaddingLemmas.{padded_fits, take-padded}
+use Rattle.histar_base.proofs.Padded.{padded_fits, take-padded}
 use Rattle.histar_flat.proofs.words.Word.of.Goals as goal
 
 pub invariant_of-result : goal.invariant_of-result

@@ -1,6 +1,6 @@
 -- Proves the goals of `InternStore::found_at_hand` of src/intern_store.rt that the search leaves open.
 use Rattle.std.proofs.Common.{Some, sym, ap, ◌∙◌}
-use Rattle.histar_label.specs.Same.{same_label}
+use Rattle.histar_level.proofs.Equality.{same_label}
 use Rattle.histar_label.proofs.intern_store.InternStore.found_at_hand.Goals as goal
 
 pub returns-then-eq : goal.returns-then-eq

@@ -1,7 +1,7 @@
 -- Proves the goals of `InternStore::searched` of src/intern_store.rt that the search leaves open.
 use Rattle.std.proofs.Common.{sym, ap, ◌∙◌}
 use Rattle.std.specs.Prelude.{position}
-use Rattle.histar_label.specs.Same.{is_same}
+use Rattle.histar_level.specs.Same.{is_same}
 use Rattle.histar_label.proofs.Finding.{found_label, nothing_found}
 use Rattle.histar_label.proofs.intern_store.InternStore.searched.Goals as goal
 

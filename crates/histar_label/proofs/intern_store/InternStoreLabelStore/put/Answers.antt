@@ -4,8 +4,9 @@ use mathlib.Core.Bool.{false≢true}
 use Rattle.std.specs.List.{slice_get}
 use Rattle.std.proofs.lemmas.Option.{IfSome_then}
 use Rattle.std.proofs.lemmas.List.Elements.{All-weaker}
-use Rattle.histar_label.specs.Levels.{Levels}
-use Rattle.histar_label.specs.Same.{is_same, same_label, own_label}
+use Rattle.histar_level.specs.Levels.{Levels}
+use Rattle.histar_level.specs.Same.{is_same}
+use Rattle.histar_level.proofs.Equality.{same_label, own_label}
 use Rattle.histar_label.proofs.Interned.{Keeps-insert_key, IsRight-insert_key, HasOneId-distinct, found_by_id}
 use Rattle.histar_label.proofs.intern_store.InternStoreLabelStore.put.Goals as goal
 

@@ -1,6 +1,7 @@
 -- Proves the goals of `Label::set` of src/labels.rt that the search leaves open.
 use Rattle.std.proofs.Common.{ap, ◌∙◌}
-use Rattle.histar_label.specs.Levels.{Levels, from_exceptions, with_level}
+use Rattle.histar_level.specs.Levels.{Levels}
+use Rattle.histar_label.specs.Levels.{from_exceptions, with_level}
 use Rattle.histar_label.proofs.Edits.{edited_last}
 use Rattle.histar_label.proofs.labels.Label.set.Goals as goal
 

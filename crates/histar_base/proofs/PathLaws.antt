@@ -1,5 +1,5 @@
 -- The order of paths is total, and only equal paths tie.
-use Rattle.std.specs.Prelude.{◌≡◌, List, [], ◌∷◌, Some, refl}
+use Rattle.std.specs.Prelude.{◌≡◌, ℕ, List, [], ◌∷◌, Some, refl}
 use Rattle.std.proofs.Common.{sym, ◌∙◌, ap}
 use Rattle.std.specs.declared.cmp.Ordering.{Ordering}
 use Rattle.std.specs.Ordering.{eq_by_cmp, nat_cmp}
@@ -7,8 +7,7 @@ use Rattle.std.specs.Bool.{one_answer}
 use Rattle.std.specs.Cmp.{Equal-is, IsPartialOrder, IsTotalOrder, nat_cmp_total, po, tied_itself}
 use Rattle.std.specs.Cmp.Lexicographic.{bytes_decides, lists_total, pointwise_decides, slice_cmp}
 use Rattle.std.specs.FinMap.{IsAntisymmetric, nat_cmp-IsAntisymmetric, slice_cmp-IsAntisymmetric}
-use Rattle.histar_flat.specs.PathOrder.{from_root, path_cmp, reverse_onto, same_path}
-use Rattle.histar_flat.specs.Words.{Path}
+use Rattle.histar_base.specs.Paths.{from_root, path_cmp, reverse_onto, same_path}
 
 -- an order of the images under a function is an order
 by_image : {A B : Type 0} (f : A → B) (R : B → B → Ordering) → IsTotalOrder R → IsTotalOrder (λ x y. R (f x) (f y))
@@ -33,10 +32,13 @@ from_root_twice xs = reversed-onto [] xs
 
 -- two paths tie only where they are equal
 pub path_cmp_exact : IsAntisymmetric path_cmp
-path_cmp_exact p q e = sym (from_root_twice p) ∙ ap from_root (slice_cmp-IsAntisymmetric (slice_cmp-IsAntisymmetric nat_cmp-IsAntisymmetric) (from_root p) (from_root q) e) ∙ from_root_twice q
+path_cmp_exact p q e =
+    sym (from_root_twice p)
+    ∙ ap from_root (slice_cmp-IsAntisymmetric (slice_cmp-IsAntisymmetric nat_cmp-IsAntisymmetric) (from_root p) (from_root q) e)
+    ∙ from_root_twice q
 
 -- two paths tie where they are the same
-pub path_cmp_ties : (p q : Path) → same_path p q ≡ eq_by_cmp path_cmp p q
+pub path_cmp_ties : (p q : List (List ℕ)) → same_path p q ≡ eq_by_cmp path_cmp p q
 path_cmp_ties p q =
     let same = pointwise_decides bytes_decides p q in
     one_answer (same_path p q) (eq_by_cmp path_cmp p q)

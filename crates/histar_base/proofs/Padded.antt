@@ -1,10 +1,19 @@
--- Padded arrays: the list in front, and items that are put in.
+-- Padded arrays are determined by the list in front of them; items that are put in.
 use Rattle.std.proofs.Common.{◌≡◌, ℕ, zero, suc, ◌+◌, ◌-◌, ◌≤◌, ◌<◌, List, [], ◌∷◌, ◌++◌, length, take, drop, replicate, slice_set, refl, sym, ap}
 use Rattle.std.proofs.Common.{◌∙◌, arith, length-append}
-use Rattle.std.proofs.lemmas.List.{length-replicate, length-drop, take_at, take-replicate, set-append_left, length-set}
+use Rattle.std.proofs.lemmas.List.{length-take-le, length-replicate, length-drop, take_at, take-replicate, set-append_left, length-set}
 use Rattle.std.proofs.Math.Seq.{take-set-lt}
-use Rattle.histar_flat.specs.Padding.{padded, IsPadded}
-use Rattle.histar_flat.specs.PaddingLaws.{length-kept}
+use Rattle.histar_base.specs.Padding.{padded, IsPadded}
+
+-- the padded list is the array
+pub padded-take : {A : Type 0} (places : ℕ) (fill : A) (items : List A) (len : ℕ) → IsPadded places fill items len
+    → padded places fill (take len items) ≡ items
+padded-take places fill items len h = h.filled
+
+-- the list has the given length
+pub length-kept : {A : Type 0} (places : ℕ) (fill : A) (items : List A) (len : ℕ) → IsPadded places fill items len
+    → length (take len items) ≡ len
+length-kept places fill items len h = length-take-le len items (omega (arith, h.short, h.whole))
 
 -- the list is at the front of its padded array
 pub take-padded : {A : Type 0} (places : ℕ) (fill : A) (items : List A) → take (length items) (padded places fill items) ≡ items
