@@ -6,14 +6,14 @@ use Rattle.std.specs.FinMap as maps
 use Rattle.std.specs.FinMap.{find, is_sorted}
 use Rattle.std.specs.FinMap.Entries.{below_all}
 use Rattle.histar_flat.specs.Words.{Name, Path}
-use Rattle.histar_flat.specs.PathOrder.{path_cmp}
-use Rattle.histar_flat.specs.PathOrderLaws.{path_cmp_total, path_cmp_exact}
+use Rattle.histar_base.specs.Paths.{path_cmp}
+use Rattle.histar_base.proofs.PathLaws.{path_cmp_total, path_cmp_exact}
+use Rattle.histar_level.specs.Levels.{Levels}
 use Rattle.histar_flat.specs.Accounts.{Accounts}
 use Rattle.histar_flat.specs.Files.{get}
 use Rattle.histar_flat.specs.Classes.{may_read, may_write}
 use Rattle.histar_flat.specs.FlatState.{Flat, Node}
 use Rattle.histar_flat.proofs.Finding.{first, second, find_first, find_later}
-use Rattle.histar_label.specs.Levels.{Levels}
 use Rattle.histar_object.specs.declared.objects.Kind.{Kind}
 use Rattle.histar_object.specs.Objects.{label_there}
 use Rattle.histar_object.specs.State.{State, Found, observes, modifies}

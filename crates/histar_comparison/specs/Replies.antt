@@ -5,7 +5,8 @@ use Rattle.histar_flat.specs.declared.calls.UnixCall.TheVariants.{Unlink, Rmdir,
 use Rattle.histar_flat.specs.declared.replies.Reply.{Reply}
 use Rattle.histar_flat.specs.declared.replies.Reply.TheVariants.{Done, Child}
 use Rattle.histar_flat.specs.Words.{Path, ProcName}
-use Rattle.histar_flat.specs.PathOrder.{same, parent}
+use Rattle.histar_base.specs.Paths.{same}
+use Rattle.histar_flat.specs.PathOrder.{parent}
 use Rattle.histar_flat.specs.FlatState.{moved}
 use Rattle.histar_flat.specs.Texts.{reply_text}
 use Rattle.histar_flat.specs.Meaning.{RepliedCall}

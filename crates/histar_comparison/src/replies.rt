@@ -2,7 +2,8 @@
 ghost use Rattle.std.specs.Prelude.{◌≡◌, ◌∷◌, ◌||◌, OnOk, option_map};
 ghost use Rattle.histar_noninterference.specs.Comparison.{is_outsider};
 ghost use Rattle.histar_noninterference.specs.Following.{left_without};
-ghost use Rattle.histar_flat.specs.PathOrder.{parent, same};
+ghost use Rattle.histar_base.specs.Paths.{same};
+ghost use Rattle.histar_flat.specs.PathOrder.{parent};
 ghost use Rattle.histar_flat.specs.FlatState.{moved};
 ghost use Rattle.histar_comparison.specs.Replies.{directory_after, is_start, no_replies, once_done, shown_by, wrap_path};
 

@@ -7,7 +7,7 @@ use Rattle.std.specs.Option.{option_copied}
 use mathlib.Core.Bool.{false≢true}
 use Rattle.std.proofs.lemmas.Bool.{cases_lt}
 use Rattle.std.proofs.lemmas.Bool.Decides.{nat_tests}
-use Rattle.histar_label.specs.Levels.{Levels}
+use Rattle.histar_level.specs.Levels.{Levels}
 use Rattle.histar_label.specs.Store.{label_at, Keeps}
 use Rattle.histar_label.proofs.Stands.{label_at-stands, label_at-Keeps}
 use Rattle.histar_object.specs.declared.objects.Kind.{Kind}

@@ -1,7 +1,8 @@
 -- The model of a table and its store: objects by number with their labels by value, and the next numbers.
 use Rattle.std.specs.Prelude.{◌≡◌, ℕ, refl}
 use Rattle.std.specs.Coded.{Coded, code_by, coded×, coded_ℕ}
-use Rattle.histar_label.specs.Levels.{Levels, coded_levels}
+use Rattle.histar_level.specs.Levels.{Levels}
+use Rattle.histar_label.specs.Levels.{coded_levels}
 use Rattle.histar_object.specs.Codes.{coded_table}
 use Rattle.histar_object.specs.Objects.{TableModel, objects_of}
 use Rattle.histar_object.specs.State.{State}

@@ -13,8 +13,8 @@ use Rattle.std.specs.Cmp.{IsTotalOrder, then_total}
 use Rattle.std.specs.FinMap.Entries.{below_all, same_entries}
 use Rattle.std.specs.FinMap.{IsAntisymmetric, find, is_sorted}
 use Rattle.histar_flat.specs.Words.{Path, ProcName}
-use Rattle.histar_flat.specs.PathOrder.{path_cmp}
-use Rattle.histar_flat.specs.PathOrderLaws.{path_cmp_exact, path_cmp_total}
+use Rattle.histar_base.specs.Paths.{path_cmp}
+use Rattle.histar_base.proofs.PathLaws.{path_cmp_exact, path_cmp_total}
 use Rattle.histar_flat.specs.Accounts.{Accounts}
 use Rattle.histar_flat.specs.Files.{get}
 use Rattle.histar_flat.specs.Classes.{Process}

@@ -11,8 +11,8 @@ use Rattle.std.specs.Cmp.Lexicographic.{lists_total, slice_cmp}
 use Rattle.std.specs.FinMap.Entries.{by_order}
 use Rattle.std.specs.FinMap.{IsAntisymmetric, nat_cmp-IsAntisymmetric, slice_cmp-IsAntisymmetric}
 use Rattle.histar_flat.specs.Words.{Path, ProcName}
-use Rattle.histar_flat.specs.PathOrder.{from_root, path_cmp}
-use Rattle.histar_flat.specs.PathOrderLaws.{from_root_twice, path_cmp_total}
+use Rattle.histar_base.specs.Paths.{from_root, path_cmp}
+use Rattle.histar_base.proofs.PathLaws.{from_root_twice, path_cmp_total}
 use Rattle.histar_rights.specs.Running.{process_cmp}
 use Rattle.histar_diff.specs.declared.table.Runner.{Runner}
 use Rattle.histar_diff.specs.declared.table.TableLine.{TableLine}

@@ -3,7 +3,7 @@ use Rattle.std.specs.Prelude.{Bool, ◌&&◌, List, [], Option, None, Some, unwr
 use Rattle.std.specs.List.{filter_map, flat_map}
 use Rattle.std.specs.Bool.{beq}
 use Rattle.histar_flat.specs.Words.{Path}
-use Rattle.histar_flat.specs.PathOrder.{path_cmp}
+use Rattle.histar_base.specs.Paths.{path_cmp}
 use Rattle.histar_rights.specs.declared.rights.Rights.{Rights}
 use Rattle.histar_diff.specs.declared.table.TableLine.{TableLine}
 use Rattle.histar_diff.specs.declared.columns.Column.{Column}

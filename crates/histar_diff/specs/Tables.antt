@@ -2,7 +2,7 @@
 use Rattle.std.specs.Prelude.{ℕ, ◌+◌, false, T, List, [], ◌∷◌, map, Option, None, Some, option_map, unwrap_or, slice_index_or}
 use Rattle.std.specs.FinMap.{find, is_sorted}
 use Rattle.histar_flat.specs.Words.{Name, Path, ProcName}
-use Rattle.histar_flat.specs.PathOrder.{path_cmp}
+use Rattle.histar_base.specs.Paths.{path_cmp}
 use Rattle.histar_rights.specs.declared.rights.Rights.{Rights}
 use Rattle.histar_rights.specs.Running.{process_cmp}
 use Rattle.histar_diff.specs.declared.table.Runner.{Runner}

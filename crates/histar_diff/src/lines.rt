@@ -1,6 +1,6 @@
 //! The lines of two tables, side by side.
 ghost use Rattle.std.specs.Prelude.{◌≡◌, [], unwrap_or};
-ghost use Rattle.histar_flat.specs.PathOrder.{path_cmp};
+ghost use Rattle.histar_base.specs.Paths.{path_cmp};
 ghost use Rattle.histar_diff.specs.Joining.{at_key, lower, past_key};
 ghost use Rattle.histar_diff.specs.Tables.{by_path};
 

@@ -4,11 +4,12 @@ use Rattle.std.proofs.Common.{arith}
 use Rattle.std.specs.List.{list_all}
 use Rattle.std.proofs.lemmas.Bool.Decides.{nat_tests}
 use mathlib.Core.Bool.{false≢true}
-use Rattle.histar_label.specs.declared.levels.Level.{Level}
-use Rattle.histar_label.specs.declared.levels.Level.TheVariants.{Star, L0, L1, L2, L3}
+use Rattle.histar_level.specs.declared.level.Level.{Level}
+use Rattle.histar_level.specs.declared.level.Level.TheVariants.{Star, L0, L1, L2, L3}
 use Rattle.std.specs.Prelude.{nat_le}
-use Rattle.histar_label.specs.Level.{rank, raised}
-use Rattle.histar_label.specs.Levels.{Levels, level_of, constant, beyond, exceptions_of, is_within, is_below, is_below_raised}
+use Rattle.histar_level.specs.Level.{rank, raised}
+use Rattle.histar_level.specs.Levels.{Levels, level_of, beyond, exceptions_of}
+use Rattle.histar_label.specs.Levels.{constant, is_within, is_below, is_below_raised}
 use Rattle.histar_object.specs.declared.objects.Kind.TheVariants as kinds
 use Rattle.histar_object.specs.declared.objects.Kind.{Kind as ObjectKind}
 use Rattle.histar_object.specs.Objects.{is_present, is_thread, is_gate, kind_is_thread, kind_is_gate, label_there, clearance_there, kind_clearance}

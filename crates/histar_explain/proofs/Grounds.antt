@@ -5,7 +5,8 @@ use Rattle.std.specs.List.{list_any}
 use mathlib.Core.Bool.{false≢true}
 use Rattle.std.specs.FinSet as set
 use Rattle.histar_base.specs.Refusals.{unless, ◌orelse◌}
-use Rattle.histar_label.specs.Levels.{Levels, has_star, is_below, is_below_join_raised}
+use Rattle.histar_level.specs.Levels.{Levels}
+use Rattle.histar_label.specs.Levels.{has_star, is_below, is_below_join_raised}
 use Rattle.histar_object.specs.Objects.{is_present, is_segment, is_container, is_thread, is_gate, links_in}
 use Rattle.histar_object.specs.State.{State, Found}
 use Rattle.histar_object.specs.State as states

@@ -3,10 +3,12 @@ use Rattle.std.proofs.Common.{◌≡◌, ℕ, List, [], ◌∷◌, ◌++◌, tru
 use Rattle.std.proofs.Common.{ap, ◌∙◌, arith}
 use Rattle.std.specs.Ordering.{nat_cmp, eq_by_cmp}
 use Rattle.std.specs.FinMap.{find}
-use Rattle.histar_label.specs.declared.levels.Level.{Level}
-use Rattle.histar_label.specs.declared.levels.Level.TheVariants.{Star}
-use Rattle.histar_label.specs.Levels.{Levels, level_of, default_of, exceptions_of, constant, refilled, level_of-constant, level_of-exceptions, above}
-use Rattle.histar_label.specs.Levels.{find_above}
+use Rattle.histar_level.specs.declared.level.Level.{Level}
+use Rattle.histar_level.specs.declared.level.Level.TheVariants.{Star}
+use Rattle.histar_level.specs.Levels.{Levels, level_of, default_of, exceptions_of, above}
+use Rattle.histar_level.proofs.Exceptions.{level_of-exceptions, find_above}
+use Rattle.histar_label.specs.Levels.{constant, refilled}
+use Rattle.histar_label.proofs.Readers.{level_of-constant}
 use Rattle.histar_label.specs.Exceptions.{Exceptions}
 use Rattle.histar_label.proofs.Combined.{level_of-refilled}
 use Rattle.histar_explain.specs.Comparisons.{exceeds}

@@ -4,8 +4,10 @@ use Rattle.std.proofs.Common.{None, Some, refl, sym, ap, ◌∙◌, subst, arith
 use Rattle.std.proofs.lemmas.Bool.Decides.{nat_tests}
 use Rattle.std.proofs.lemmas.List.Elements.{All-head, All-tail, All-weaker, All-contains_itself}
 use mathlib.Core.Bool.{false≢true}
-use Rattle.histar_label.specs.declared.levels.Level.{Level}
-use Rattle.histar_label.specs.Levels.{Levels, level_of, default_of, exceptions_of, level_of-exceptions, ListsExceptions}
+use Rattle.histar_level.specs.declared.level.Level.{Level}
+use Rattle.histar_level.specs.Levels.{Levels, level_of, default_of, exceptions_of}
+use Rattle.histar_level.proofs.Exceptions.{level_of-exceptions}
+use Rattle.histar_label.specs.Levels.{ListsExceptions}
 use Rattle.histar_label.specs.Exceptions.{Exceptions, IsRising as Rises}
 use Rattle.histar_label.specs.Front.{first_category, earlier, level_at, after}
 use Rattle.histar_label.proofs.Fronts.{IsUnder, looked, level_at_front, level_after, rising_after}

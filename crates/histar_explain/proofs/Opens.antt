@@ -3,8 +3,9 @@ use Rattle.std.proofs.Common.{◌≡◌, ◌≢◌, ℕ, [], ◌∷◌, Bool, tr
 use Rattle.std.specs.Prelude.{option_map}
 use Rattle.std.proofs.lemmas.Bool.Decides.{nat_tests}
 use mathlib.Core.Bool.{false≢true}
-use Rattle.histar_label.specs.declared.levels.Level.TheVariants.{L1}
-use Rattle.histar_label.specs.Levels.{Levels, constant}
+use Rattle.histar_level.specs.declared.level.Level.TheVariants.{L1}
+use Rattle.histar_level.specs.Levels.{Levels}
+use Rattle.histar_label.specs.Levels.{constant}
 use Rattle.histar_object.specs.declared.objects.Kind.TheVariants as kinds
 use Rattle.histar_object.specs.declared.objects.Kind.{Kind}
 use Rattle.histar_object.specs.Objects.{is_thread, is_gate, kind_is_thread, kind_is_gate, label_there, clearance_there}

@@ -5,7 +5,8 @@ use Rattle.std.specs.Prelude.{not}
 use Rattle.std.proofs.lemmas.List.Elements.{All-nil, All-head, All-tail, All-push, All-weaker}
 use Rattle.std.proofs.lemmas.List.Folds.{list_any-append}
 use mathlib.Core.Bool.{false≢true}
-use Rattle.histar_label.specs.Levels.{level_of, default_of, exceptions_of, ListsExceptions}
+use Rattle.histar_level.specs.Levels.{level_of, default_of, exceptions_of}
+use Rattle.histar_label.specs.Levels.{ListsExceptions}
 use Rattle.histar_label.specs.Exceptions.{Exceptions, IsRising as Rises}
 use Rattle.histar_label.specs.Front.{first_category, lower, level_at, after}
 use Rattle.histar_label.proofs.Fronts.{IsUnder, front_under, lower_none}

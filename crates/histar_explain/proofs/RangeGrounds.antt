@@ -8,11 +8,14 @@ use Rattle.std.specs.FinMap.{find}
 use Rattle.std.proofs.lemmas.Bool.Decides.{nat_tests}
 use Rattle.std.proofs.lemmas.List.Elements.{All-head, All-tail}
 use mathlib.Core.Bool.{false≢true}
-use Rattle.histar_label.specs.declared.levels.Level.{Level}
-use Rattle.histar_label.specs.declared.levels.Level.TheVariants.{Star, L0, L1, L2, L3}
-use Rattle.histar_label.specs.Level.{rank, raised, rank-at_most}
-use Rattle.histar_label.specs.Levels.{Levels, level_of, default_of, constant, level_of-constant, level_of-exceptions, beyond, exceptions_of}
-use Rattle.histar_label.specs.Levels.{is_within, is_below, is_below_join, is_below_join_raised, is_made, has_star}
+use Rattle.histar_level.specs.declared.level.Level.{Level}
+use Rattle.histar_level.specs.declared.level.Level.TheVariants.{Star, L0, L1, L2, L3}
+use Rattle.histar_level.specs.Level.{rank, raised}
+use Rattle.histar_level.specs.Levels.{Levels, level_of, default_of, beyond, exceptions_of}
+use Rattle.histar_level.proofs.Ranks.{rank-at_most}
+use Rattle.histar_level.proofs.Exceptions.{level_of-exceptions}
+use Rattle.histar_label.specs.Levels.{constant, is_within, is_below, is_below_join, is_below_join_raised, is_made, has_star}
+use Rattle.histar_label.proofs.Readers.{level_of-constant}
 use Rattle.histar_label.specs.Floors.{join_of, floor_of}
 use Rattle.histar_label.proofs.Combined.{level_of-refilled}
 use Rattle.histar_label.proofs.Floors.{grades-join_of}

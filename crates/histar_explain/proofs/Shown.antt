@@ -4,9 +4,10 @@ use Rattle.std.proofs.Common.{Some, None, refl, sym, ap, ◌∙◌, arith}
 use Rattle.std.proofs.lemmas.Bool.Decides.{nat_tests}
 use Rattle.std.proofs.lemmas.List.Elements.{All-head, All-tail}
 use mathlib.Core.Bool.{false≢true}
-use Rattle.histar_label.specs.declared.levels.Level.{Level}
-use Rattle.histar_label.specs.Level.{rank, same_level}
-use Rattle.histar_label.specs.Levels.{level_of, default_of}
+use Rattle.histar_level.specs.declared.level.Level.{Level}
+use Rattle.histar_level.specs.Level.{rank}
+use Rattle.histar_level.specs.Levels.{level_of, default_of}
+use Rattle.histar_level.proofs.Ranks.{same_level}
 use Rattle.histar_explain.specs.declared.reasons.Difference.{Difference}
 use Rattle.histar_explain.specs.declared.reasons.Reason.{Reason}
 use Rattle.histar_explain.specs.Comparisons.{Comparison, exceeds, fails_at, IsListed, is_named, IsDifference, Explains, is_shown}

@@ -5,15 +5,17 @@ use Rattle.std.specs.Prelude.{not}
 use Rattle.std.proofs.lemmas.Bool.Decides.{nat_tests}
 use Rattle.std.proofs.lemmas.List.Elements.{All-nil, All-head, All-tail, All-push, All-weaker}
 use Rattle.std.proofs.lemmas.List.Folds.{list_any-append}
-use Rattle.histar_label.specs.Level.{rank, same_level}
-use Rattle.histar_label.specs.Levels.{Levels, level_of, default_of, exceptions_of, ListsExceptions}
+use Rattle.histar_level.specs.Level.{rank}
+use Rattle.histar_level.specs.Levels.{Levels, level_of, default_of, exceptions_of}
+use Rattle.histar_level.proofs.Ranks.{same_level}
+use Rattle.histar_label.specs.Levels.{ListsExceptions, constant}
 use Rattle.histar_label.specs.Exceptions.{Exceptions, IsRising as Rises}
 use Rattle.histar_label.specs.Front.{first_category, lower, lowest, after}
 use Rattle.histar_label.proofs.Fronts.{lowest_under, lowest_none}
 use Rattle.std.specs.Prelude.{Result, Ok, Err, IfOk}
 use Rattle.std.specs.Global.{Vec}
-use Rattle.histar_label.specs.declared.levels.Level.TheVariants.{L1}
-use Rattle.histar_label.specs.Levels.{constant, level_of-constant, default_of-constant}
+use Rattle.histar_level.specs.declared.level.Level.TheVariants.{L1}
+use Rattle.histar_label.proofs.Readers.{level_of-constant, default_of-constant}
 use Rattle.histar_explain.specs.Unmade.{lists, was_made, is_unmade, AreRising, is_among, AreUnmade}
 use Rattle.histar_explain.proofs.LeftExceptions.{IsLeft, left_at_first, level_between, level_at_end, differs_here, left_on, lower_is_one}
 use Rattle.histar_explain.proofs.LeftExceptions.{bound_at_first, lt_or_le, up_to}

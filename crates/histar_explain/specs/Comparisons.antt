@@ -2,9 +2,9 @@
 use Rattle.std.specs.Prelude.{◌≡◌, ◌≢◌, ◌⊎◌, ℕ, ◌<◌, Bool, true, false, not, ◌==◌, ◌&&◌, ◌||◌, List, [], ◌∷◌, Option, None, Some, is_some}
 use Rattle.std.specs.Prelude.{if◌then◌else◌, nat_lt}
 use Rattle.std.specs.List.{All, list_any}
-use Rattle.histar_label.specs.declared.levels.Level.{Level}
-use Rattle.histar_label.specs.Level.{rank, raised}
-use Rattle.histar_label.specs.Levels.{Levels, level_of, default_of}
+use Rattle.histar_level.specs.declared.level.Level.{Level}
+use Rattle.histar_level.specs.Level.{rank, raised}
+use Rattle.histar_level.specs.Levels.{Levels, level_of, default_of}
 use Rattle.histar_explain.specs.declared.reasons.Difference.{Difference}
 use Rattle.histar_explain.specs.declared.reasons.Reason.{Reason}
 

@@ -1,7 +1,8 @@
 -- The container and the object that a raw call names, and the labels that it is given.
 use Rattle.std.specs.Prelude.{ℕ, List, [], ◌∷◌, unwrap_or, if◌then◌else◌}
-use Rattle.histar_label.specs.declared.levels.Level.TheVariants.{L1}
-use Rattle.histar_label.specs.Levels.{Levels, constant}
+use Rattle.histar_level.specs.declared.level.Level.TheVariants.{L1}
+use Rattle.histar_level.specs.Levels.{Levels}
+use Rattle.histar_label.specs.Levels.{constant}
 use Rattle.histar_object.specs.Objects.{label_there, clearance_there}
 use Rattle.histar_object.specs.State.{State, observes}
 use Rattle.histar_rules.specs.declared.raw.RawCall.{RawCall}

@@ -1,8 +1,9 @@
 -- The comparisons of labels that a denial rests on.
 use Rattle.std.specs.Prelude.{◌≡◌, ℕ, true, false, List, [], ◌∷◌}
-use Rattle.histar_label.specs.declared.levels.Level.{Level}
-use Rattle.histar_label.specs.declared.levels.Level.TheVariants.{Star, L0, L1, L2, L3}
-use Rattle.histar_label.specs.Levels.{Levels, level_of, default_of, exceptions_of, constant, refilled}
+use Rattle.histar_level.specs.declared.level.Level.{Level}
+use Rattle.histar_level.specs.declared.level.Level.TheVariants.{Star, L0, L1, L2, L3}
+use Rattle.histar_level.specs.Levels.{Levels, level_of, default_of, exceptions_of}
+use Rattle.histar_label.specs.Levels.{constant, refilled}
 use Rattle.histar_label.specs.Floors.{join_of, floor_of}
 use Rattle.histar_object.specs.State.{State}
 use Rattle.histar_rules.specs.declared.raw.Denied.{Denied}

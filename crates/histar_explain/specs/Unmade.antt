@@ -1,8 +1,8 @@
 -- The categories that a call names in a label and that were never made.
 use Rattle.std.specs.Prelude.{◌≡◌, ℕ, ◌<◌, Bool, not, ◌==◌, ◌&&◌, List, [], ◌∷◌, nat_lt}
 use Rattle.std.specs.List.{All, list_any}
-use Rattle.histar_label.specs.Level.{rank}
-use Rattle.histar_label.specs.Levels.{Levels, level_of, default_of}
+use Rattle.histar_level.specs.Level.{rank}
+use Rattle.histar_level.specs.Levels.{Levels, level_of, default_of}
 use Rattle.histar_rules.specs.declared.raw.Denied.{Denied}
 use Rattle.histar_rules.specs.declared.raw.Denied.TheVariants.{Range}
 use Rattle.histar_rules.specs.declared.raw.RawCall.{RawCall}

@@ -1,7 +1,7 @@
 //! Explaining a denied raw call.
 ghost use Rattle.std.specs.Prelude.{◌≡◌, IfOk};
 ghost use Rattle.std.specs.List.{AllZip};
-ghost use Rattle.histar_label.specs.declared.levels.Level.TheVariants.{L1};
+ghost use Rattle.histar_level.specs.declared.level.Level.TheVariants.{L1};
 ghost use Rattle.histar_label.specs.Levels.{constant};
 ghost use Rattle.histar_syscall.specs.KernelModel.{state};
 ghost use Rattle.histar_explain.specs.Named.{clearance_in, label_in};

@@ -1,6 +1,6 @@
 //! The objects that a raw call names.
 ghost use Rattle.std.specs.Prelude.{◌≡◌};
-ghost use Rattle.histar_label.specs.declared.levels.Level.TheVariants.{L1};
+ghost use Rattle.histar_level.specs.declared.level.Level.TheVariants.{L1};
 ghost use Rattle.histar_label.specs.Levels.{constant};
 ghost use Rattle.histar_object.specs.State.{observes};
 ghost use Rattle.histar_syscall.specs.KernelModel.{state};

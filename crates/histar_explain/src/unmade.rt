@@ -1,6 +1,6 @@
 //! The categories of a denied call's labels that were never made.
 ghost use Rattle.std.specs.Prelude.{◌≡◌, ◌∷◌, [], IfOk};
-ghost use Rattle.histar_label.specs.declared.levels.Level.TheVariants.{L1};
+ghost use Rattle.histar_level.specs.declared.level.Level.TheVariants.{L1};
 ghost use Rattle.histar_label.specs.Levels.{constant};
 ghost use Rattle.histar_explain.specs.Named.{handed};
 ghost use Rattle.histar_explain.specs.Unmade.{AreUnmade, labels_of, was_made};

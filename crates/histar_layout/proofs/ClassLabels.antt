@@ -7,9 +7,11 @@ use Rattle.std.proofs.lemmas.Bool.{and_from}
 use Rattle.std.proofs.lemmas.Option.{same_Some, none-some}
 use Rattle.histar_flat.specs.Accounts.{Accounts}
 use Rattle.histar_flat.specs.Words.{Name}
-use Rattle.histar_label.specs.declared.levels.Level.{Level}
-use Rattle.histar_label.specs.declared.levels.Level.TheVariants.{L1, L3}
-use Rattle.histar_label.specs.Levels.{Levels, level_of, constant, default_of, default_of-constant}
+use Rattle.histar_level.specs.declared.level.Level.{Level}
+use Rattle.histar_level.specs.declared.level.Level.TheVariants.{L1, L3}
+use Rattle.histar_level.specs.Levels.{Levels, level_of, default_of}
+use Rattle.histar_label.specs.Levels.{constant}
+use Rattle.histar_label.proofs.Readers.{default_of-constant}
 use Rattle.histar_layout.specs.Jobs.{is_three}
 use Rattle.histar_layout.specs.Labelling.{each_at}
 use Rattle.histar_layout.specs.Categories.{read_category, write_category, scratch_label}

@@ -4,15 +4,17 @@ use Rattle.std.proofs.Common.{None, Some, arith, refl, sym, ap, ◌∙◌, if◌
 use Rattle.std.specs.Prelude.{position, slice_get}
 use Rattle.std.proofs.lemmas.Bool.Decides.{eqb_tells}
 use Rattle.std.proofs.lemmas.Option.{none-some, same_Some}
-use Rattle.histar_flat.specs.PathOrder.{same}
+use Rattle.histar_base.specs.Paths.{same}
+use Rattle.histar_level.specs.Levels.{Levels, level_of, default_of}
 use Rattle.histar_flat.specs.declared.calls.User.{User}
 use Rattle.histar_flat.specs.Words.{Name}
 use Rattle.histar_flat.specs.Accounts.{Group, Accounts, user_number, group_number}
 use Rattle.histar_label.specs.Exceptions.{IsCanonical}
 use Rattle.histar_label.proofs.Canonical.{exceptions_of-from_exceptions}
-use Rattle.histar_label.specs.declared.levels.Level.{Level}
-use Rattle.histar_label.specs.declared.levels.Level.TheVariants.{L0, L1, L3}
-use Rattle.histar_label.specs.Levels.{Levels, level_of, constant, default_of, level_of-constant, default_of-constant}
+use Rattle.histar_level.specs.declared.level.Level.{Level}
+use Rattle.histar_level.specs.declared.level.Level.TheVariants.{L0, L1, L3}
+use Rattle.histar_label.specs.Levels.{constant}
+use Rattle.histar_label.proofs.Readers.{level_of-constant, default_of-constant}
 use Rattle.histar_layout.specs.Categories.{read_category, write_category, group_owner, scratch_label}
 use Rattle.histar_layout.specs.Labelling.{guarded_by, written_by}
 use Rattle.histar_layout.specs.ShownClass.{class_at, group_class_at, group_class_from, is_plain_level, is_unnamed, is_all_plain, class_from}

@@ -1,9 +1,10 @@
 -- Labels by their exceptions: the level at each category, and the default.
 use Rattle.std.proofs.Common.{◌≡◌, ℕ, ◌==◌, Bool, true, false, ◌||◌, List, [], ◌∷◌, ◌++◌, if◌then◌else◌, refl, ap, ◌∙◌}
-use Rattle.histar_label.specs.declared.levels.Level.{Level}
-use Rattle.histar_label.specs.declared.levels.Level.TheVariants.{Star, L0, L1, L2, L3}
-use Rattle.histar_label.specs.Levels.{Levels, level_of, constant, with_level, default_of, level_of-constant, level_of-with_level}
-use Rattle.histar_label.specs.Levels.{default_of-with_level}
+use Rattle.histar_level.specs.declared.level.Level.{Level}
+use Rattle.histar_level.specs.declared.level.Level.TheVariants.{Star, L0, L1, L2, L3}
+use Rattle.histar_level.specs.Levels.{Levels, level_of, default_of}
+use Rattle.histar_label.specs.Levels.{constant, with_level}
+use Rattle.histar_label.proofs.Readers.{level_of-constant, level_of-with_level, default_of-with_level}
 use Rattle.histar_layout.specs.Labelling.{with_levels, each_at, guarded_by, owner_label, cleared_at}
 use Rattle.histar_layout.proofs.LabellingLemmas.{with_levels-append}
 use Rattle.histar_layout.proofs.Members.{is_in}

@@ -3,8 +3,11 @@ use Rattle.std.proofs.Common.{◌≡◌, ℕ, ◌+◌, ◌<◌, List, [], ◌∷
 use Rattle.std.proofs.Common.{Bool, true, false, if◌then◌else◌}
 use Rattle.std.specs.Prelude.{◌==◌}
 use Rattle.std.proofs.Math.Seq.{take-suc}
-use Rattle.histar_label.specs.declared.levels.Level.{Level}
-use Rattle.histar_label.specs.Levels.{Levels, constant, level_of, level_of-with_level, same_levels, with_level}
+use Rattle.histar_level.specs.declared.level.Level.{Level}
+use Rattle.histar_level.specs.Levels.{Levels, level_of}
+use Rattle.histar_level.proofs.Functions.{same_levels}
+use Rattle.histar_label.specs.Levels.{constant, with_level}
+use Rattle.histar_label.proofs.Readers.{level_of-with_level}
 use Rattle.histar_layout.specs.Labelling.{with_levels, labelled, each_at}
 
 -- the front of a list, with the next item, is the next front

@@ -7,9 +7,9 @@ use Rattle.std.proofs.lemmas.Bool.Decides.{eqb_tells}
 use Rattle.std.proofs.lemmas.List.{get_or_default}
 use Rattle.std.proofs.lemmas.Bool.{or_left, or_right}
 use mathlib.Core.Bool.{true≢false}
-use Rattle.histar_label.specs.declared.levels.Level.{Level}
-use Rattle.histar_label.specs.declared.levels.Level.TheVariants.{Star}
-use Rattle.histar_label.specs.Levels.{Levels, level_of, default_of, exceptions_of}
+use Rattle.histar_level.specs.declared.level.Level.{Level}
+use Rattle.histar_level.specs.declared.level.Level.TheVariants.{Star}
+use Rattle.histar_level.specs.Levels.{Levels, level_of, default_of, exceptions_of}
 use Rattle.histar_label.specs.Exceptions.{IsRising, category_at}
 use Rattle.histar_label.proofs.Canonical.{rising_tail}
 use Rattle.histar_label.proofs.Listed.{IsRising-exceptions_of, ListsExceptions-exceptions_of}

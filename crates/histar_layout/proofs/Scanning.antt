@@ -4,7 +4,7 @@ use Rattle.std.proofs.Common.{refl, sym, ap, ◌∙◌, append_assoc, arith}
 use Rattle.std.proofs.Math.Seq.{drop-cons}
 use Rattle.std.specs.Prelude.{map}
 use Rattle.std.specs.List.{filter}
-use Rattle.histar_label.specs.declared.levels.Level.{Level}
+use Rattle.histar_level.specs.declared.level.Level.{Level}
 
 -- the categories of the exceptions that pass a test
 abbrev pub passed : (ℕ × Level → Bool) → List (ℕ × Level) → List ℕ

@@ -4,7 +4,7 @@ use Rattle.std.proofs.Common.{if◌then◌else◌}
 use Rattle.std.proofs.lemmas.List.{drop_all, drop_more}
 use Rattle.histar_flat.specs.declared.calls.User.{User}
 use Rattle.histar_flat.specs.Accounts.{Group}
-use Rattle.histar_label.specs.Levels.{Levels, level_of}
+use Rattle.histar_level.specs.Levels.{Levels, level_of}
 use Rattle.histar_layout.specs.declared.shown.ShownClass.TheVariants.{Open}
 use Rattle.histar_layout.specs.Categories.{read_category, write_category}
 use Rattle.histar_layout.specs.ShownClass.{class_at, group_class_at, is_unnamed, is_all_plain, class_from, group_class_from}

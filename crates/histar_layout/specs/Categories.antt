@@ -4,9 +4,10 @@ use Rattle.histar_flat.specs.declared.calls.Mode.{Mode}
 use Rattle.histar_flat.specs.declared.calls.Mode.TheVariants.{Private, Readable, Open, Group}
 use Rattle.histar_flat.specs.Words.{Name}
 use Rattle.histar_flat.specs.Accounts.{Group as DeclaredGroup, Accounts, group_number, numbers_with}
-use Rattle.histar_label.specs.Level.{is_star}
-use Rattle.histar_label.specs.declared.levels.Level.TheVariants.{L1}
-use Rattle.histar_label.specs.Levels.{Levels, constant, level_of}
+use Rattle.histar_level.specs.Level.{is_star}
+use Rattle.histar_level.specs.Levels.{Levels, level_of}
+use Rattle.histar_level.specs.declared.level.Level.TheVariants.{L1}
+use Rattle.histar_label.specs.Levels.{constant}
 use Rattle.histar_layout.specs.Jobs.{is_empty, jobs_in}
 use Rattle.histar_layout.specs.Labelling.{guarded_by, written_by, secret_of}
 

@@ -2,8 +2,9 @@
 use Rattle.std.specs.Prelude.{◌≡◌, ℕ, ◌+◌, ◌*◌, ◌≤◌, ◌&&◌, nat_le, List, [], ◌∷◌, length, Option, Some, option_map, MatchOption, map}
 use Rattle.std.specs.List.{filter}
 use Rattle.histar_flat.specs.Accounts.{Accounts, user_number, group_number}
-use Rattle.histar_label.specs.declared.levels.Level.TheVariants.{L1}
-use Rattle.histar_label.specs.Levels.{Levels, constant, exceptions_of}
+use Rattle.histar_level.specs.declared.level.Level.TheVariants.{L1}
+use Rattle.histar_level.specs.Levels.{Levels, exceptions_of}
+use Rattle.histar_label.specs.Levels.{constant}
 use Rattle.histar_layout.specs.Labelling.{written_by, secret_of}
 use Rattle.histar_layout.specs.Jobs.{is_three}
 use Rattle.histar_layout.specs.Categories.{read_category, write_category, group_owner, scratch_label}

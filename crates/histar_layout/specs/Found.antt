@@ -1,7 +1,7 @@
 -- Looking up a name in bytes, from the front.
 use Rattle.std.specs.Prelude.{ℕ, zero, suc, ◌+◌, ◌-◌, List, [], ◌∷◌, length, drop, slice_range, Option, Some, None, if◌then◌else◌}
 use Rattle.histar_flat.specs.Words.{Name}
-use Rattle.histar_flat.specs.PathOrder.{same}
+use Rattle.histar_base.specs.Paths.{same}
 use Rattle.histar_layout.specs.Reading.{◌>>=◌, front_at, target_at}
 use Rattle.histar_layout.specs.declared.entry.Target.{Target}
 

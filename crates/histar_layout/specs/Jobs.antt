@@ -1,9 +1,9 @@
 -- The jobs of a process, from the own label of its thread.
 use Rattle.std.specs.Prelude.{ℕ, Bool, true, false, List, [], ◌∷◌, map}
 use Rattle.std.specs.List.{filter}
-use Rattle.histar_label.specs.declared.levels.Level.{Level}
-use Rattle.histar_label.specs.declared.levels.Level.TheVariants.{L3}
-use Rattle.histar_label.specs.Levels.{Levels, exceptions_of}
+use Rattle.histar_level.specs.declared.level.Level.{Level}
+use Rattle.histar_level.specs.declared.level.Level.TheVariants.{L3}
+use Rattle.histar_level.specs.Levels.{Levels, exceptions_of}
 
 -- level 3
 abbrev pub is_three : Level → Bool

@@ -1,8 +1,9 @@
 -- Labels by their exceptions: those of objects that their owners alone write or read, and those of owners.
 use Rattle.std.specs.Prelude.{ℕ, List, [], ◌∷◌, ◌++◌}
-use Rattle.histar_label.specs.declared.levels.Level.{Level}
-use Rattle.histar_label.specs.declared.levels.Level.TheVariants.{Star, L0, L1, L2, L3}
-use Rattle.histar_label.specs.Levels.{Levels, constant, with_level}
+use Rattle.histar_level.specs.declared.level.Level.{Level}
+use Rattle.histar_level.specs.declared.level.Level.TheVariants.{Star, L0, L1, L2, L3}
+use Rattle.histar_level.specs.Levels.{Levels}
+use Rattle.histar_label.specs.Levels.{constant, with_level}
 
 -- a label with these levels at these categories in turn, and at all others as before
 abbrev pub with_levels : Levels → List (ℕ × Level) → Levels

@@ -6,9 +6,9 @@ use Rattle.histar_flat.specs.declared.calls.User.{User}
 use Rattle.histar_flat.specs.declared.replies.FileMode.{FileMode}
 use Rattle.histar_flat.specs.declared.replies.FileMode.TheVariants as modes
 use Rattle.histar_flat.specs.declared.replies.Stat.{Stat}
-use Rattle.histar_label.specs.declared.levels.Level.{Level}
-use Rattle.histar_label.specs.declared.levels.Level.TheVariants.{L0, L1, L3}
-use Rattle.histar_label.specs.Levels.{Levels, level_of, default_of, exceptions_of}
+use Rattle.histar_level.specs.declared.level.Level.{Level}
+use Rattle.histar_level.specs.declared.level.Level.TheVariants.{L0, L1, L3}
+use Rattle.histar_level.specs.Levels.{Levels, level_of, default_of, exceptions_of}
 use Rattle.histar_layout.specs.Categories.{read_category, write_category}
 use Rattle.histar_layout.specs.declared.shown.ShownClass.{ShownClass}
 use Rattle.histar_layout.specs.declared.shown.ShownClass.TheVariants as classes

@@ -1,7 +1,7 @@
 //! Looking up a name in the bytes of a directory.
 ghost use Rattle.std.specs.Prelude.{◌≡◌, ◌+◌, ◌-◌, ◌<◌, ◌≤◌, length, slice_index, slice_range};
 ghost use Rattle.std.specs.FinMap as map;
-ghost use Rattle.histar_flat.specs.PathOrder.{same};
+ghost use Rattle.histar_base.specs.Paths.{same};
 ghost use Rattle.histar_layout.specs.Directory.{Entries, IsDirectory};
 ghost use Rattle.histar_layout.specs.Found.{found_in};
 

@@ -1,6 +1,6 @@
 //! The users and the groups of a machine, without passwords.
 ghost use Rattle.std.specs.Prelude.{◌≡◌, ◌<◌, ◌≤◌, length, map, position, slice_get, Some, IfOk, IfSome};
-ghost use Rattle.histar_flat.specs.PathOrder.{same};
+ghost use Rattle.histar_base.specs.Paths.{same};
 ghost use Rattle.histar_flat.specs.Accounts.{IsSmall, group_number, most_groups, most_users, user_number};
 ghost use Rattle.histar_layout.specs.UserTable.{HaveOwnNames, called, without_passwords};
 

@@ -6,9 +6,10 @@ use Rattle.std.proofs.lemmas.Bool.Decides.{nat_tests}
 use Rattle.std.specs.FinSet as set
 use Rattle.std.specs.Cmp.{nat_cmp_total}
 use Rattle.histar_base.specs.Refusals.{unless, ◌orelse◌}
-use Rattle.histar_label.specs.declared.levels.Level.TheVariants.{L1, L2}
-use Rattle.histar_label.specs.Levels.{Levels, is_below}
-use Rattle.histar_label.specs.Same.{and_true}
+use Rattle.histar_level.specs.declared.level.Level.TheVariants.{L1, L2}
+use Rattle.histar_level.specs.Levels.{Levels}
+use Rattle.histar_level.proofs.Equality.{and_true}
+use Rattle.histar_label.specs.Levels.{is_below}
 use Rattle.histar_object.specs.declared.objects.Entry.{Entry}
 use Rattle.histar_object.specs.declared.objects.Object.{Object}
 use Rattle.histar_object.specs.Objects.{is_present, is_container, is_thread, links_in, kind_is_thread, kind_is_container, kind_clearance, kind_links}

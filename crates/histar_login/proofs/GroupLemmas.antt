@@ -8,8 +8,9 @@ use Rattle.std.proofs.lemmas.List.{get_or_default, length-take-le}
 use Rattle.histar_flat.specs.declared.calls.User.{User}
 use Rattle.histar_flat.specs.Accounts.{Group, Accounts, has, numbers_with}
 use Rattle.histar_flat.specs.Words.{Name}
-use Rattle.histar_label.specs.declared.levels.Level.{Level}
-use Rattle.histar_label.specs.Levels.{Levels, with_level}
+use Rattle.histar_level.specs.declared.level.Level.{Level}
+use Rattle.histar_level.specs.Levels.{Levels}
+use Rattle.histar_label.specs.Levels.{with_level}
 use Rattle.histar_layout.specs.Categories.{read_category, write_category, group_owner, owners_of}
 use Rattle.histar_layout.specs.Labelling.{with_levels, labelled}
 use Rattle.histar_layout.proofs.LabellingLemmas.{take_next}

@@ -1,7 +1,7 @@
 -- How the code of a login runs its program, from one part to the next.
 use Rattle.std.proofs.Common.{◌≡◌, ℕ, Bool, List, Result, Ok, Err, sym, subst}
 use Rattle.std.specs.Str.{bytes_eq}
-use Rattle.histar_label.specs.Levels.{Levels}
+use Rattle.histar_level.specs.Levels.{Levels}
 use Rattle.histar_object.specs.declared.objects.Entry.{Entry}
 use Rattle.histar_rules.specs.declared.raw.RawCall.TheVariants.{Enter, OwnLabel, Read, SetLabel, SetClearance}
 use Rattle.histar_rules.specs.Sound.{root_number}

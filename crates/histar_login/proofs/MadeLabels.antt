@@ -4,11 +4,13 @@ use Rattle.std.specs.Prelude.{nat_lt}
 use Rattle.std.proofs.lemmas.Bool.Decides.{nat_tests}
 use Rattle.std.proofs.lemmas.List.Elements.{All-head, All-tail}
 use mathlib.Core.Bool.{false≢true}
-use Rattle.histar_label.specs.declared.levels.Level.{Level}
-use Rattle.histar_label.specs.declared.levels.Level.TheVariants.{Star, L0, L1, L2, L3}
-use Rattle.histar_label.specs.Level.{rank, raised, rank-at_most}
-use Rattle.histar_label.specs.Levels.{Levels, level_of, constant, with_level, level_of-constant, level_of-with_level, grades, IsBelow, is_made}
-use Rattle.histar_label.specs.Levels.{has_star, is_below, is_below_raised}
+use Rattle.histar_level.specs.declared.level.Level.{Level}
+use Rattle.histar_level.specs.declared.level.Level.TheVariants.{Star, L0, L1, L2, L3}
+use Rattle.histar_level.specs.Level.{rank, raised}
+use Rattle.histar_level.specs.Levels.{Levels, level_of}
+use Rattle.histar_level.proofs.Ranks.{rank-at_most}
+use Rattle.histar_label.specs.Levels.{constant, with_level, grades, IsBelow, is_made, has_star, is_below, is_below_raised}
+use Rattle.histar_label.proofs.Readers.{level_of-constant, level_of-with_level}
 use Rattle.histar_label.proofs.Made.{is_made-constant, is_made-with_level}
 use Rattle.histar_label.proofs.Orders.{is_below-law, is_below_raised-law}
 use Rattle.histar_label.proofs.Stars.{has_star-none}

@@ -2,13 +2,13 @@
 use Rattle.std.proofs.Common.{◌≡◌, ℕ, ◌+◌, ◌*◌, List, [], ◌∷◌, ◌++◌, length, None, Some, refl, sym, ◌∙◌, arith, append_assoc, append-nil}
 use Rattle.std.proofs.lemmas.List.{length-append}
 use Rattle.std.specs.FinSet as set
-use Rattle.histar_label.specs.Levels.{Levels}
+use Rattle.histar_level.specs.Levels.{Levels}
 use Rattle.histar_object.specs.declared.objects.Kind.TheVariants.{Segment, Container, Thread}
 use Rattle.histar_object.specs.declared.objects.Object.{Object}
 use Rattle.histar_object.specs.State.{Found}
 use Rattle.histar_rules.specs.declared.raw.RawCall.TheVariants as calls
 use Rattle.histar_rules.specs.Sound.{root_number}
-use Rattle.histar_label.specs.declared.levels.Level.TheVariants.{Star, L1, L2, L3}
+use Rattle.histar_level.specs.declared.level.Level.TheVariants.{Star, L1, L2, L3}
 use Rattle.histar_syscall.specs.KernelModel.{KernelModel, Called, IsUnchanged}
 use Rattle.histar_layout.specs.Labelling.{written_by, secret_of, owner_of, cleared_of}
 use Rattle.histar_programs.specs.Start.{own_read_category, own_write_category, container, segment, first_process_bytes}

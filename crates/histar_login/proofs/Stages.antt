@@ -5,8 +5,9 @@ use Rattle.std.proofs.lemmas.List.{length-append, length-take-le, take-append-dr
 use Rattle.std.specs.List.{range_with_len}
 use Rattle.histar_flat.specs.declared.calls.User.{User}
 use Rattle.histar_flat.specs.Accounts.{Accounts}
-use Rattle.histar_label.specs.declared.levels.Level.TheVariants.{Star, L1, L2, L3}
-use Rattle.histar_label.specs.Levels.{Levels, constant}
+use Rattle.histar_level.specs.declared.level.Level.TheVariants.{Star, L1, L2, L3}
+use Rattle.histar_level.specs.Levels.{Levels}
+use Rattle.histar_label.specs.Levels.{constant}
 use Rattle.histar_object.specs.declared.objects.Entry.TheVariants.{Login}
 use Rattle.histar_object.specs.declared.objects.Kind.TheVariants.{Segment, Gate}
 use Rattle.histar_object.specs.declared.objects.Object.{Object}

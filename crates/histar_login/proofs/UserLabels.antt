@@ -1,9 +1,12 @@
 -- The label and the clearance of a user's thread, in whatever order their categories are set.
 use Rattle.std.proofs.Common.{◌≡◌, ℕ, Bool, true, false, List, [], ◌∷◌, ◌++◌, if◌then◌else◌, ◌==◌, refl, sym, ap, ◌∙◌}
 use Rattle.std.specs.Prelude.{map}
-use Rattle.histar_label.specs.declared.levels.Level.{Level}
-use Rattle.histar_label.specs.declared.levels.Level.TheVariants.{Star, L1, L2, L3}
-use Rattle.histar_label.specs.Levels.{Levels, constant, level_of, with_level, level_of-with_level, same_levels}
+use Rattle.histar_level.specs.declared.level.Level.{Level}
+use Rattle.histar_level.specs.declared.level.Level.TheVariants.{Star, L1, L2, L3}
+use Rattle.histar_level.specs.Levels.{Levels, level_of}
+use Rattle.histar_level.proofs.Functions.{same_levels}
+use Rattle.histar_label.specs.Levels.{constant, with_level}
+use Rattle.histar_label.proofs.Readers.{level_of-with_level}
 use Rattle.histar_layout.specs.Categories.{read_category, write_category}
 use Rattle.histar_layout.specs.Labelling.{with_levels, labelled, each_at}
 use Rattle.histar_programs.specs.declared.caller.Caller.{Caller}

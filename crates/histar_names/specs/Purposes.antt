@@ -4,7 +4,7 @@ use Rattle.std.specs.Prelude.{Option, None, Some, slice_get, codes, if◌then◌
 use Rattle.histar_flat.specs.Words.{Name, ProcName}
 use Rattle.histar_flat.specs.Texts.{process_text}
 use Rattle.histar_flat.specs.Accounts.{Group, Accounts}
-use Rattle.histar_label.specs.Levels.{Levels, level_of}
+use Rattle.histar_level.specs.Levels.{Levels, level_of}
 use Rattle.histar_object.specs.Objects.{label_there}
 use Rattle.histar_object.specs.State.{State}
 use Rattle.histar_layout.specs.Jobs.{is_three}

@@ -14,7 +14,8 @@ use Rattle.histar_flat.specs.CallRules.{path_of, rule}
 use Rattle.histar_flat.specs.Effects.{Effect, apply}
 use Rattle.histar_flat.specs.Effects.Effect.{Nothing, Makes, Stores, Removes, Renames, Spawns, Exits, LogsIn, Kills, Wraps}
 use Rattle.histar_flat.specs.FlatState.{Flat, bytes_of, walk}
-use Rattle.histar_flat.specs.PathOrder.{parent, same, under_process}
+use Rattle.histar_base.specs.Paths.{same}
+use Rattle.histar_flat.specs.PathOrder.{parent, under_process}
 use Rattle.histar_flat.specs.Accounts.{Accounts}
 use Rattle.histar_flat.specs.Words.{Name, Path, ProcName}
 use Rattle.histar_flat.proofs.Changes.{another_name, or_stays}

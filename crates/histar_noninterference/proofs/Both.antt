@@ -12,7 +12,7 @@ use Rattle.histar_flat.specs.Files.{get}
 use Rattle.histar_flat.specs.FlatCalls.{changed, class_or_open, flat_by, inner_chain, next_child, refused}
 use Rattle.histar_flat.specs.FlatState.{Flat, Node, bytes_at, bytes_of, class_of, with_bytes, with_node, with_process}
 use Rattle.histar_flat.specs.FlatState.Content.{Dir, File}
-use Rattle.histar_flat.specs.PathOrder.{same}
+use Rattle.histar_base.specs.Paths.{same}
 use Rattle.histar_flat.specs.Accounts.{Accounts}
 use Rattle.histar_flat.specs.Words.{Path, ProcName}
 use Rattle.histar_flat.proofs.Changes.{another_name}

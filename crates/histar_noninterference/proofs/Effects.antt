@@ -5,7 +5,8 @@ use Rattle.std.proofs.lemmas.Bool.{or_parts, true≢false, cases_Bool}
 use Rattle.std.proofs.Math.Bool.{or-true}
 use Rattle.histar_flat.specs.Files.{Files, get, insert, keep}
 use Rattle.histar_flat.specs.FlatState.{Node}
-use Rattle.histar_flat.specs.PathOrder.{same, same_path, under_path}
+use Rattle.histar_base.specs.Paths.{same, same_path}
+use Rattle.histar_flat.specs.PathOrder.{under_path}
 use Rattle.histar_flat.specs.Words.{Name, Path, ProcName}
 use Rattle.histar_flat.proofs.FileLemmas.{get-insert, get-keep, get_other, same_path_found}
 use Rattle.histar_flat.proofs.Under.{under_itself}

@@ -9,7 +9,8 @@ use Rattle.histar_flat.specs.Files.{from_list, get}
 use Rattle.histar_flat.specs.FlatCalls.{flat_after, reply_to}
 use Rattle.histar_flat.specs.FlatState.{Flat}
 use Rattle.histar_flat.specs.Meaning.{RepliedCall, answered_from, flat_end, without}
-use Rattle.histar_flat.specs.PathOrder.{parent, same, under_process}
+use Rattle.histar_base.specs.Paths.{same}
+use Rattle.histar_flat.specs.PathOrder.{parent, under_process}
 use Rattle.histar_flat.specs.Accounts.{Accounts}
 use Rattle.histar_flat.specs.Texts.{reply_text}
 use Rattle.histar_flat.specs.Words.{Path, ProcName}

@@ -22,7 +22,8 @@ use Rattle.histar_flat.specs.FlatState.{Flat, IsTree, Node, class_of, into, is_d
 use Rattle.histar_flat.specs.FlatState.Content.{Dir, File}
 use Rattle.histar_flat.specs.Laws.{NamesAreGiven, takes_away}
 use Rattle.histar_flat.specs.Meaning.{answered_from, boot, first_user, flat_end, meaning}
-use Rattle.histar_flat.specs.PathOrder.{same, under_path}
+use Rattle.histar_base.specs.Paths.{same}
+use Rattle.histar_flat.specs.PathOrder.{under_path}
 use Rattle.histar_flat.specs.Accounts.{Accounts, has}
 use Rattle.histar_flat.specs.Words.{Name, Path, ProcName}
 use Rattle.histar_flat.proofs.Changes.{EachChange, by_line, rename_tests, room_tests, runs_is_there}

@@ -5,7 +5,8 @@ use Rattle.std.proofs.Common.{ap, inl, inr, sym, ◌∙◌}
 use Rattle.std.proofs.lemmas.Bool.{true≢false, cases_Bool}
 use Rattle.histar_flat.specs.Files.{get, insert}
 use Rattle.histar_flat.specs.FlatState.{Flat, IsTree, Node, moved, with_node, with_renamed, without_below}
-use Rattle.histar_flat.specs.PathOrder.{same, under_path}
+use Rattle.histar_base.specs.Paths.{same}
+use Rattle.histar_flat.specs.PathOrder.{under_path}
 use Rattle.histar_flat.specs.Words.{Name, Path, ProcName}
 use Rattle.histar_flat.proofs.FileLemmas.{get-keep, get_new, get_other, same_path_found}
 use Rattle.histar_flat.proofs.Renaming.{leaves, returns_from, stays}

@@ -9,7 +9,8 @@ use Rattle.histar_flat.specs.Files.{Files, get}
 use Rattle.histar_flat.specs.FlatCalls.{flat_after, inner_chain, next_child}
 use Rattle.histar_flat.specs.FlatState.{Flat, Node, class_of, is_file_at, moved, with_bytes, with_node, with_process, writes}
 use Rattle.histar_flat.specs.FlatState.Content.{Dir, File}
-use Rattle.histar_flat.specs.PathOrder.{same, under_path, under_process}
+use Rattle.histar_base.specs.Paths.{same}
+use Rattle.histar_flat.specs.PathOrder.{under_path, under_process}
 use Rattle.histar_flat.specs.Accounts.{Accounts}
 use Rattle.histar_flat.specs.Words.{Name, Path, ProcName}
 use Rattle.histar_flat.proofs.Changes.{EachChange, by_line, runs_is_there}

@@ -19,7 +19,8 @@ use Rattle.histar_flat.specs.FlatState.{Flat, IsTree, Node, is_dir, is_given}
 use Rattle.histar_flat.specs.FlatState.Content.{Dir}
 use Rattle.histar_flat.specs.Laws.{NamesAreGiven}
 use Rattle.histar_flat.specs.Meaning.{answered_from, boot, flat_end, without}
-use Rattle.histar_flat.specs.PathOrder.{same, under_process}
+use Rattle.histar_base.specs.Paths.{same}
+use Rattle.histar_flat.specs.PathOrder.{under_process}
 use Rattle.histar_flat.specs.Accounts.{Accounts, has}
 use Rattle.histar_flat.specs.Texts.{reply_text}
 use Rattle.histar_flat.specs.Words.{Name, Path, ProcName}

@@ -11,7 +11,8 @@ use Rattle.histar_flat.specs.FlatCalls.{flat_after, inner_chain, next_child}
 use Rattle.histar_flat.specs.FlatState.{Flat, IsTree, Node, class_of, is_dir, is_given, is_some_and, moved, with_node, with_process, with_renamed}
 use Rattle.histar_flat.specs.FlatState.{without_below, without_process, writes}
 use Rattle.histar_flat.specs.FlatState.Content.{Dir, File}
-use Rattle.histar_flat.specs.PathOrder.{parent, same, under_path, under_process}
+use Rattle.histar_base.specs.Paths.{same}
+use Rattle.histar_flat.specs.PathOrder.{parent, under_path, under_process}
 use Rattle.histar_flat.specs.Accounts.{Accounts, has}
 use Rattle.histar_flat.specs.Words.{Name, Path, ProcName}
 use Rattle.histar_flat.proofs.Changes.{EachChange, by_line, runs_is_there}

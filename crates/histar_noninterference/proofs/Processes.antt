@@ -10,7 +10,8 @@ use Rattle.histar_flat.specs.declared.replies.Errno.TheVariants.{EACCES, ESRCH}
 use Rattle.histar_flat.specs.Classes.{Process, knows, sees}
 use Rattle.histar_flat.specs.FlatCalls.{is_child, not_found, refused}
 use Rattle.histar_flat.specs.FlatState.{Flat, is_some_and, without_process}
-use Rattle.histar_flat.specs.PathOrder.{same, under_process}
+use Rattle.histar_base.specs.Paths.{same}
+use Rattle.histar_flat.specs.PathOrder.{under_process}
 use Rattle.histar_flat.specs.Accounts.{Accounts, has}
 use Rattle.histar_flat.specs.Words.{ProcName}
 use Rattle.histar_flat.proofs.FileLemmas.{same_name_found}

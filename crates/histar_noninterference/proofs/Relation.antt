@@ -3,7 +3,8 @@ use Rattle.std.specs.Prelude.{List, None, Option, Some, false, true, ◌≡◌}
 use Rattle.histar_flat.specs.Classes.{Process, carries}
 use Rattle.histar_flat.specs.Files.{Files, get}
 use Rattle.histar_flat.specs.FlatState.{Flat, IsTree, Node, is_dir, is_given}
-use Rattle.histar_flat.specs.PathOrder.{parent, same, under_process}
+use Rattle.histar_base.specs.Paths.{same}
+use Rattle.histar_flat.specs.PathOrder.{parent, under_process}
 use Rattle.histar_flat.specs.Accounts.{has}
 use Rattle.histar_flat.specs.Words.{Path, ProcName}
 use Rattle.histar_noninterference.specs.Comparison.{lies_in_job}

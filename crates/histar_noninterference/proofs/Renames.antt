@@ -4,7 +4,8 @@ use Rattle.std.proofs.Common.{ap, inl, inr, sym, ◌∙◌}
 use Rattle.std.proofs.lemmas.Bool.{or_parts, cases_Bool}
 use Rattle.histar_flat.specs.Files.{Files, from_list, get}
 use Rattle.histar_flat.specs.FlatState.{Node, moved}
-use Rattle.histar_flat.specs.PathOrder.{same, same_path, under_path}
+use Rattle.histar_base.specs.Paths.{same, same_path}
+use Rattle.histar_flat.specs.PathOrder.{under_path}
 use Rattle.histar_flat.specs.Words.{Name, Path, ProcName}
 use Rattle.histar_flat.proofs.FileLemmas.{same_path_found}
 use Rattle.histar_flat.proofs.Renaming.{get_renamed, stays}

@@ -9,7 +9,8 @@ use Rattle.histar_flat.specs.Effects.Effect.{Stores}
 use Rattle.histar_flat.specs.Classes.{Process, knows}
 use Rattle.histar_flat.specs.FlatCalls.{flat_after, flat_by, if_running, reply_by, reply_to, running}
 use Rattle.histar_flat.specs.FlatState.{Flat}
-use Rattle.histar_flat.specs.PathOrder.{parent, same, under_process}
+use Rattle.histar_base.specs.Paths.{same}
+use Rattle.histar_flat.specs.PathOrder.{parent, under_process}
 use Rattle.histar_flat.specs.Accounts.{Accounts, has}
 use Rattle.histar_flat.specs.Words.{Path, ProcName}
 use Rattle.histar_flat.proofs.Changes.{runs_is_there}

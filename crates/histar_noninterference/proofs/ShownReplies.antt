@@ -1,6 +1,6 @@
 -- Replies differ exactly if their texts differ.
 use Rattle.std.specs.Prelude.{◌≡◌, List, None, Some, [], cond, refl, ◌∷◌}
-use Rattle.histar_flat.specs.PathOrder.{same}
+use Rattle.histar_base.specs.Paths.{same}
 use Rattle.histar_flat.specs.Texts.{reply_text}
 use Rattle.histar_noninterference.specs.declared.replies.ShownReply.{ShownReply}
 use Rattle.histar_noninterference.specs.Replies.{FindsFirstLine, first_shown}

@@ -5,7 +5,8 @@ use Rattle.std.proofs.lemmas.Bool.{and_parts, true≢false}
 use Rattle.std.specs.Cmp.Lexicographic.{pointwise}
 use Rattle.std.specs.List.{list_all}
 use Rattle.histar_base.specs.Refusals.{unless, ◌orelse◌}
-use Rattle.histar_flat.specs.PathOrder.{is_under, same, same_path}
+use Rattle.histar_base.specs.Paths.{same, same_path}
+use Rattle.histar_flat.specs.PathOrder.{is_under}
 use Rattle.histar_flat.specs.Accounts.{has}
 use Rattle.histar_flat.specs.Words.{Path, ProcName}
 use Rattle.histar_flat.proofs.FileLemmas.{Found, same_name_found, same_path_found}

@@ -12,8 +12,8 @@ use Rattle.std.proofs.Math.Bool.{and-true}
 use Rattle.histar_flat.specs.Files.{from_list, get}
 use Rattle.histar_flat.specs.FlatState.{Flat, Node}
 use Rattle.histar_flat.specs.Meaning.{boot, flat_end, meaning}
-use Rattle.histar_flat.specs.PathOrder.{path_cmp, same}
-use Rattle.histar_flat.specs.PathOrderLaws.{path_cmp_exact}
+use Rattle.histar_base.specs.Paths.{path_cmp, same}
+use Rattle.histar_base.proofs.PathLaws.{path_cmp_exact}
 use Rattle.histar_flat.specs.Texts.{path_text}
 use Rattle.histar_flat.specs.Words.{Path}
 use Rattle.histar_flat.proofs.FileLemmas.{same_name_found}

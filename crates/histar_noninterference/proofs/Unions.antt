@@ -11,8 +11,8 @@ use Rattle.std.specs.declared.cmp.Ordering.TheVariants.{Equal, Greater, Less}
 use Rattle.histar_base.specs.Refusals.{◌orelse◌}
 use Rattle.histar_flat.specs.Files.{Files, from_list}
 use Rattle.histar_flat.specs.FlatState.{Node}
-use Rattle.histar_flat.specs.PathOrder.{path_cmp}
-use Rattle.histar_flat.specs.PathOrderLaws.{path_cmp_exact, path_cmp_total}
+use Rattle.histar_base.specs.Paths.{path_cmp}
+use Rattle.histar_base.proofs.PathLaws.{path_cmp_exact, path_cmp_total}
 use Rattle.histar_flat.specs.Words.{Path}
 use Rattle.histar_flat.proofs.FileLemmas.{ties}
 use Rattle.histar_flat.proofs.Renaming.{get-from_list}

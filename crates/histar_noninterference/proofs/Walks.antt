@@ -11,7 +11,7 @@ use Rattle.histar_flat.specs.Classes.{Class, Process, carries, knows, may_read}
 use Rattle.histar_flat.specs.Classes.Class.{Grouped, Open, Private, Readable, Scratch}
 use Rattle.histar_flat.specs.Files.{get, keep}
 use Rattle.histar_flat.specs.FlatState.{Entry, Flat, Node, entries_in, entry_in, into, is_dir, is_some_and, walk}
-use Rattle.histar_flat.specs.PathOrder.{path_cmp, same, same_path}
+use Rattle.histar_base.specs.Paths.{path_cmp, same, same_path}
 use Rattle.histar_flat.specs.Accounts.{Accounts}
 use Rattle.histar_flat.specs.Words.{Name, Path, ProcName}
 use Rattle.histar_flat.proofs.FileLemmas.{get-keep, same_lists, same_path_found}

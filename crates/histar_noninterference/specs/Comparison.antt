@@ -7,7 +7,8 @@ use Rattle.histar_flat.specs.declared.calls.UnixCall.TheVariants.{Wrap}
 use Rattle.histar_flat.specs.declared.replies.Reply.{Reply}
 use Rattle.histar_flat.specs.declared.replies.Reply.TheVariants.{Child}
 use Rattle.histar_flat.specs.Words.{Path, ProcName}
-use Rattle.histar_flat.specs.PathOrder.{same, under_process, parent}
+use Rattle.histar_base.specs.Paths.{same}
+use Rattle.histar_flat.specs.PathOrder.{under_process, parent}
 use Rattle.histar_flat.specs.Accounts.{Accounts}
 use Rattle.histar_flat.specs.Files.{Files, get, from_list}
 use Rattle.histar_flat.specs.Classes.{carries, class_owner, class_mode}

@@ -5,7 +5,8 @@ use Rattle.histar_flat.specs.declared.calls.CallLine.{CallLine}
 use Rattle.histar_flat.specs.declared.calls.UnixCall.{UnixCall}
 use Rattle.histar_flat.specs.declared.calls.UnixCall.TheVariants.{Rmdir, Wrap}
 use Rattle.histar_flat.specs.Words.{ProcName}
-use Rattle.histar_flat.specs.PathOrder.{same, parent}
+use Rattle.histar_base.specs.Paths.{same}
+use Rattle.histar_flat.specs.PathOrder.{parent}
 use Rattle.histar_flat.specs.Accounts.{Accounts}
 use Rattle.histar_flat.specs.Meaning.{RepliedCall, meaning}
 use Rattle.histar_noninterference.specs.Comparison.{is_wrap_reply, starts, verdict}

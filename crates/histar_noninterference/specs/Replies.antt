@@ -1,6 +1,6 @@
 -- The replies of two runs, as they are printed.
 use Rattle.std.specs.Prelude.{◌≡◌, ℕ, cond, List, [], ◌∷◌, Option, None, Some, map}
-use Rattle.histar_flat.specs.PathOrder.{same}
+use Rattle.histar_base.specs.Paths.{same}
 use Rattle.histar_flat.specs.Texts.{reply_text}
 use Rattle.histar_flat.specs.Meaning.{RepliedCall}
 use Rattle.histar_noninterference.specs.declared.replies.ShownReply.{ShownReply}

@@ -1,8 +1,9 @@
 -- The state of a kernel, and what its labels allow.
 use Rattle.std.specs.Prelude.{ℕ, ◌+◌, Bool, false, ◌&&◌, List, Option, Some}
 use Rattle.std.specs.FinSet as set
-use Rattle.histar_label.specs.declared.levels.Level.TheVariants.{Star, L0, L1, L2, L3}
-use Rattle.histar_label.specs.Levels.{Levels, constant, with_level, is_below, is_below_raised}
+use Rattle.histar_level.specs.declared.level.Level.TheVariants.{Star, L0, L1, L2, L3}
+use Rattle.histar_level.specs.Levels.{Levels}
+use Rattle.histar_label.specs.Levels.{constant, with_level, is_below, is_below_raised}
 use Rattle.histar_object.specs.declared.objects.Object.{Object}
 use Rattle.histar_object.specs.declared.objects.Kind.TheVariants.{Container}
 use Rattle.histar_object.specs.Objects.{Objects, no_objects, put, changed_at, with_new, holding, thread_of, label_there, clearance_there}

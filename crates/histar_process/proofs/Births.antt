@@ -1,7 +1,7 @@
 -- How the code that makes the objects of a child runs its parts.
 use Rattle.std.proofs.Common.{◌≡◌, ℕ, List, [], ◌∷◌, Result, Ok, Err, ap, subst}
 use Rattle.std.specs.Result.{IsErrAnd}
-use Rattle.histar_label.specs.Levels.{Levels}
+use Rattle.histar_level.specs.Levels.{Levels}
 use Rattle.histar_rules.specs.declared.raw.RawCall.{RawCall}
 use Rattle.histar_rules.specs.declared.raw.RawCall.TheVariants.{MakeCategory, MakeSegment, MakeContainer, MakeThread, Write}
 use Rattle.histar_syscall.specs.KernelModel.{KernelModel}

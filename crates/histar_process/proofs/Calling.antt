@@ -2,7 +2,7 @@
 use Rattle.std.proofs.Common.{◌≡◌, ℕ, List, Bool, true, false, not, Option, Some, Result, Ok, Err, length, refl, sym, ap, ◌∙◌, subst}
 use Rattle.std.proofs.lemmas.Option.{same_Some}
 use Rattle.histar_flat.specs.Accounts.{Accounts}
-use Rattle.histar_label.specs.Levels.{Levels}
+use Rattle.histar_level.specs.Levels.{Levels}
 use Rattle.histar_rules.specs.declared.raw.RawCall.TheVariants.{MakeCategory, Unlink}
 use Rattle.histar_syscall.specs.KernelModel.{KernelModel}
 use Rattle.histar_layout.specs.Status.{ProcessStatus, child_at, look_for, status_in}

@@ -4,7 +4,7 @@ use Rattle.std.specs.Prelude.{nat_lt, not}
 use Rattle.histar_flat.specs.Words.{ProcName, most_children, most_numbers}
 use Rattle.histar_flat.specs.Accounts.{Accounts}
 use Rattle.histar_flat.specs.declared.replies.Reply.TheVariants as replies
-use Rattle.histar_label.specs.Levels.{Levels}
+use Rattle.histar_level.specs.Levels.{Levels}
 use Rattle.histar_rules.specs.Sound.{root_number}
 use Rattle.histar_rules.specs.declared.raw.RawCall.TheVariants.{MakeCategory, MakeSegment, MakeContainer, MakeThread, OwnLabel, SetLabel}
 use Rattle.histar_rules.specs.declared.raw.RawCall.TheVariants.{SetClearance, Read, Write, Unlink}

@@ -10,8 +10,8 @@ use Rattle.histar_flat.specs.Words.{ProcName}
 use Rattle.histar_flat.specs.declared.replies.Errno.{Errno}
 use Rattle.histar_rules.specs.declared.raw.RawCall.TheVariants.{Read}
 use Rattle.histar_rules.specs.declared.raw.Refusal.{Refusal}
-use Rattle.histar_rules.specs.Rules.{AreBytesOf}
-use Rattle.histar_syscall.specs.KernelModel.{KernelModel, ReadsLent}
+use Rattle.histar_rules.specs.RawAnswers.{IsAnswer}
+use Rattle.histar_syscall.specs.KernelModel.{KernelModel, ReadsLent, state}
 use Rattle.histar_syscall.proofs.Runs.{same_kernel}
 use Rattle.histar_layout.specs.Status.{ProcessStatus, child_at, head_of, look_for, status_in}
 use Rattle.histar_layout.specs.declared.status.Child.{Child}

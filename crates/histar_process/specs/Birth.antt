@@ -2,7 +2,7 @@
 -- is added to its parent's segment.
 use Rattle.std.specs.Prelude.{ℕ, [], ◌∷◌, ◌++◌}
 use Rattle.histar_rules.specs.declared.raw.RawCall.TheVariants.{MakeCategory, MakeSegment, MakeContainer, MakeThread}
-use Rattle.histar_label.specs.Levels.{Levels}
+use Rattle.histar_level.specs.Levels.{Levels}
 use Rattle.histar_layout.specs.Status.{ProcessStatus, started, status_bytes, with_child_listed}
 use Rattle.histar_programs.specs.declared.roots.Home.{Home}
 use Rattle.histar_layout.specs.Labelling.{guarded_by, owner_label, cleared_at}

@@ -5,7 +5,7 @@ use Rattle.histar_flat.specs.Words.{ProcName, most_children, most_numbers}
 use Rattle.histar_flat.specs.declared.replies.Errno.{Errno}
 use Rattle.histar_flat.specs.declared.replies.Errno.TheVariants.{EAGAIN}
 use Rattle.histar_flat.specs.declared.replies.Reply.TheVariants as replies
-use Rattle.histar_label.specs.Levels.{Levels}
+use Rattle.histar_level.specs.Levels.{Levels}
 use Rattle.histar_rules.specs.declared.raw.RawCall.TheVariants.{OwnLabel, SetLabel, SetClearance}
 use Rattle.histar_layout.specs.Status.{ProcessStatus, status_in}
 use Rattle.histar_syscall.specs.KernelModel.{KernelModel}

@@ -3,7 +3,7 @@ ghost use Rattle.std.specs.Prelude.{◌≡◌, [], ◌∷◌, ◌++◌, ◌<◌,
 ghost use Rattle.histar_rules.specs.declared.raw.RawCall.TheVariants as calls;
 ghost use Rattle.histar_layout.specs.Status.{started, status_bytes};
 ghost use Rattle.histar_layout.specs.StatusParts.{HasRoomForChild};
-ghost use Rattle.histar_label.specs.declared.levels.Level.TheVariants.{L3};
+ghost use Rattle.histar_level.specs.declared.level.Level.TheVariants.{L3};
 ghost use Rattle.histar_layout.specs.Labelling.{guarded_by, owner_label, cleared_at, each_at, labelled};
 ghost use Rattle.histar_programs.specs.Parts.{ask};
 ghost use Rattle.histar_programs.specs.Programs.{RunsPart};

@@ -1,6 +1,6 @@
 -- How the code that makes things runs its part.
 use Rattle.std.proofs.Common.{◌≡◌, ℕ, List, [], Result, subst}
-use Rattle.histar_label.specs.Levels.{Levels}
+use Rattle.histar_level.specs.Levels.{Levels}
 use Rattle.histar_rules.specs.declared.raw.RawCall.TheVariants.{MakeSegment}
 use Rattle.histar_syscall.specs.KernelModel.{KernelModel}
 use Rattle.histar_programs.specs.declared.call_error.CallError.{CallError}

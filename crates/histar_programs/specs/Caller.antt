@@ -2,9 +2,9 @@
 use Rattle.std.specs.Prelude.{ℕ, Bool, true, false, not, ◌&&◌, [], ◌∷◌, Option, None, Some, option_map}
 use Rattle.std.specs.List.{find}
 use Rattle.histar_flat.specs.Words.{ProcName}
-use Rattle.histar_label.specs.declared.levels.Level.{Level}
-use Rattle.histar_label.specs.declared.levels.Level.TheVariants.{L0}
-use Rattle.histar_label.specs.Levels.{Levels, level_of, exceptions_of}
+use Rattle.histar_level.specs.declared.level.Level.{Level}
+use Rattle.histar_level.specs.declared.level.Level.TheVariants.{L0}
+use Rattle.histar_level.specs.Levels.{Levels, level_of, exceptions_of}
 use Rattle.histar_object.specs.Objects.{label_there}
 use Rattle.histar_object.specs.State.{State}
 use Rattle.histar_syscall.specs.KernelModel.{lent_bytes}

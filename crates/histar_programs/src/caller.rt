@@ -1,6 +1,6 @@
 //! The process that makes a call, found in the kernel's own table.
 ghost use Rattle.std.specs.Prelude.{◌≡◌, ◌&&◌, not};
-ghost use Rattle.histar_label.specs.Levels.{level_of};
+ghost use Rattle.histar_level.specs.Levels.{level_of};
 ghost use Rattle.histar_syscall.specs.KernelModel.{state};
 ghost use Rattle.histar_programs.specs.Caller.{caller_at, caller_in, home_at, is_zero, read_category_in, running_caller, write_category_in};
 ghost use Rattle.histar_layout.specs.Jobs.{is_three};

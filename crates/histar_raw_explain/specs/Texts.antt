@@ -1,7 +1,7 @@
 -- The text of the explanation of a denied call.
 use Rattle.std.specs.Prelude.{ℕ, ◌==◌, List, [], ◌++◌, length, Option, None, Some, codes, decimal, if◌then◌else◌}
 use Rattle.std.specs.List.{flat_map}
-use Rattle.histar_label.specs.declared.levels.Level.{Level}
+use Rattle.histar_level.specs.declared.level.Level.{Level}
 use Rattle.histar_rawtext.specs.RawText.{level_text}
 use Rattle.histar_explain.specs.declared.explanations.Act.{Act}
 use Rattle.histar_explain.specs.declared.explanations.Act.TheVariants as acts

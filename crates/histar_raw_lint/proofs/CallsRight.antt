@@ -10,7 +10,7 @@ use Rattle.std.proofs.lemmas.Fmt.{decimal_nonempty}
 use Rattle.std.proofs.lemmas.List.{append_assoc, append-nil}
 use Rattle.histar_flat.proofs.Numbers.{decimal_digits}
 use Rattle.histar_flat.proofs.SplitLemmas.{lacks}
-use Rattle.histar_label.specs.Levels.{Levels}
+use Rattle.histar_level.specs.Levels.{Levels}
 use Rattle.histar_object.specs.declared.objects.Entry.{Entry}
 use Rattle.histar_object.specs.declared.objects.Entry.TheVariants.{Login, Mark}
 use Rattle.histar_rules.specs.Rules.{greatest}

@@ -12,10 +12,12 @@ use Rattle.std.proofs.lemmas.List.{append_assoc, append-nil}
 use Rattle.std.proofs.lemmas.List.Elements.{All-nil, All-cons}
 use Rattle.std.proofs.lemmas.List.Splits.{join_with_byte-slice_split, length-slice_split}
 use Rattle.std.proofs.lemmas.Slice.Eq.{bytes_eq-Decides}
-use Rattle.histar_label.specs.declared.levels.Level.{Level}
-use Rattle.histar_label.specs.declared.levels.Level.TheVariants.{Star, L0, L1, L2, L3}
+use Rattle.histar_level.specs.declared.level.Level.{Level}
+use Rattle.histar_level.specs.declared.level.Level.TheVariants.{Star, L0, L1, L2, L3}
 use Rattle.histar_label.specs.Exceptions.{Exceptions, IsRising, category_at}
-use Rattle.histar_label.specs.Levels.{Levels, default_of, exceptions_of, from_exceptions, default_of-from_exceptions, is_made}
+use Rattle.histar_level.specs.Levels.{Levels, default_of, exceptions_of}
+use Rattle.histar_label.specs.Levels.{from_exceptions, is_made}
+use Rattle.histar_label.proofs.Readers.{default_of-from_exceptions}
 use Rattle.histar_label.proofs.Canonical.{exceptions_of-from_exceptions}
 use Rattle.histar_label.proofs.Made.{is_made-law}
 use Rattle.histar_rules.specs.Rules.{greatest}

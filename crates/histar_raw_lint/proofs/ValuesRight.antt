@@ -15,10 +15,10 @@ use Rattle.std.proofs.lemmas.Slice.Eq.{bytes_eq-Decides}
 use Rattle.histar_flat.specs.Words.{number_of, split_at_first}
 use Rattle.histar_flat.proofs.Numbers.{decimal_digits, number_again}
 use Rattle.histar_flat.proofs.SplitLemmas.{split_before}
-use Rattle.histar_label.specs.declared.levels.Level.{Level}
-use Rattle.histar_label.specs.declared.levels.Level.TheVariants.{Star, L0, L1, L2, L3}
+use Rattle.histar_level.specs.declared.level.Level.{Level}
+use Rattle.histar_level.specs.declared.level.Level.TheVariants.{Star, L0, L1, L2, L3}
 use Rattle.histar_label.specs.Exceptions.{Exceptions, IsRising, category_at}
-use Rattle.histar_label.specs.Levels.{Levels, default_of, exceptions_of}
+use Rattle.histar_level.specs.Levels.{Levels, default_of, exceptions_of}
 use Rattle.histar_label.proofs.Canonical.{rising_tail}
 use Rattle.histar_label.proofs.Listed.{IsRising-exceptions_of, ListsExceptions-exceptions_of}
 use Rattle.histar_object.specs.declared.objects.Entry.{Entry}

@@ -5,10 +5,10 @@ use Rattle.std.specs.Fmt.{decimal}
 use Rattle.std.proofs.lemmas.Fmt.{decimal_injective}
 use Rattle.std.proofs.lemmas.List.{append_assoc, append-nil}
 use Rattle.histar_flat.proofs.SplitLemmas.{lacks}
-use Rattle.histar_label.specs.declared.levels.Level.{Level}
-use Rattle.histar_label.specs.declared.levels.Level.TheVariants.{Star, L0, L1, L2, L3}
-use Rattle.histar_label.specs.Levels.{Levels, exceptions_of, default_of}
-use Rattle.histar_label.specs.Same.{same_lists}
+use Rattle.histar_level.specs.declared.level.Level.{Level}
+use Rattle.histar_level.specs.declared.level.Level.TheVariants.{Star, L0, L1, L2, L3}
+use Rattle.histar_level.specs.Levels.{Levels, exceptions_of, default_of}
+use Rattle.histar_level.proofs.Equality.{same_lists}
 use Rattle.histar_rawtext.specs.RawText.{level_text, exception_text, label_text}
 use Rattle.histar_rawtext.specs.RawTextLaws.{IsNumber, IsWritableLabel}
 use Rattle.histar_rawtext.proofs.Parting.{same_parts}

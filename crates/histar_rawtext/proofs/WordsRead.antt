@@ -10,9 +10,10 @@ use Rattle.std.proofs.lemmas.List.{append_assoc}
 use Rattle.histar_flat.proofs.SplitLemmas.{lacks, split_before}
 use Rattle.hex.specs.Hex.{decode_pairs, hex_digit_value}
 use Rattle.hex.proofs.HexLemmas.{decode_of-even}
-use Rattle.histar_label.specs.declared.levels.Level.{Level}
-use Rattle.histar_label.specs.declared.levels.Level.TheVariants.{Star, L0, L1, L2, L3}
-use Rattle.histar_label.specs.Levels.{Levels, exceptions_of, default_of, constant, from_exceptions, is_made}
+use Rattle.histar_level.specs.declared.level.Level.{Level}
+use Rattle.histar_level.specs.declared.level.Level.TheVariants.{Star, L0, L1, L2, L3}
+use Rattle.histar_level.specs.Levels.{Levels, exceptions_of, default_of}
+use Rattle.histar_label.specs.Levels.{constant, from_exceptions, is_made}
 use Rattle.histar_label.proofs.Floors.{from_exceptions-of}
 use Rattle.histar_label.proofs.Made.{is_made-law}
 use Rattle.histar_object.specs.declared.objects.Entry.{Entry}

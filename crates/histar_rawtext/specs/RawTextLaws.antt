@@ -1,7 +1,7 @@
 -- The raw calls that texts determine.
 use Rattle.std.specs.Prelude.{◌≡◌, ℕ, ◌<◌, ◌^◌, ⊤}
 use Rattle.std.specs.List.{AllByRecursion}
-use Rattle.histar_label.specs.Levels.{Levels, exceptions_of}
+use Rattle.histar_level.specs.Levels.{Levels, exceptions_of}
 use Rattle.histar_object.specs.declared.objects.Entry.{Entry}
 use Rattle.histar_object.specs.declared.objects.Entry.TheVariants.{Login, Mark}
 use Rattle.histar_rules.specs.declared.raw.RawCall.{RawCall}

@@ -1,7 +1,8 @@
 -- The raw calls whose texts can be read.
 use Rattle.std.specs.Prelude.{◌≡◌, ℕ, ◌<◌, ◌≤◌, ◌^◌, ⊤, List, Option, Some, None}
 use Rattle.std.specs.List.{AllByRecursion}
-use Rattle.histar_label.specs.Levels.{Levels, NamesOnlyMade}
+use Rattle.histar_level.specs.Levels.{Levels}
+use Rattle.histar_label.specs.Levels.{NamesOnlyMade}
 use Rattle.histar_object.specs.declared.objects.Entry.{Entry}
 use Rattle.histar_object.specs.declared.objects.Entry.TheVariants.{Login, Mark}
 use Rattle.histar_rules.specs.declared.raw.RawCall.{RawCall}

@@ -13,8 +13,9 @@ use Rattle.std.specs.Cmp.Lexicographic.{slice_cmp, nat_list_cmp_total}
 use Rattle.std.specs.FinMap.{IsAntisymmetric, find, is_sorted, nat_cmp-IsAntisymmetric, slice_cmp-IsAntisymmetric}
 use Rattle.std.specs.FinMap.Entries.{below_all, same_entries}
 use Rattle.histar_flat.specs.Words.{Name, Path}
-use Rattle.histar_flat.specs.PathOrder.{same, under_path, path_cmp, reverse_onto, from_root}
-use Rattle.histar_flat.specs.PathOrderLaws.{path_cmp_total, path_cmp_exact}
+use Rattle.histar_base.specs.Paths.{same, path_cmp, reverse_onto, from_root}
+use Rattle.histar_base.proofs.PathLaws.{path_cmp_total, path_cmp_exact}
+use Rattle.histar_flat.specs.PathOrder.{under_path}
 use Rattle.histar_flat.specs.Files.{get}
 use Rattle.histar_flat.specs.FlatState.{Flat, Node, IsTree, is_some_and, is_dir, is_dir_at}
 use Rattle.histar_flat.proofs.FileLemmas.{same_name_found, same_path_found}

@@ -10,9 +10,9 @@ use Rattle.histar_flat.specs.Words.{ProcName}
 use Rattle.histar_flat.specs.Accounts.{Accounts, has, user_number}
 use Rattle.histar_flat.specs.Classes.{Process}
 use Rattle.histar_flat.specs.FlatState.{Flat}
-use Rattle.histar_label.specs.Level.{is_star}
-use Rattle.histar_label.specs.declared.levels.Level.{Level}
-use Rattle.histar_label.specs.Levels.{Levels, default_of, level_of}
+use Rattle.histar_level.specs.Level.{is_star}
+use Rattle.histar_level.specs.Levels.{Levels, default_of, level_of}
+use Rattle.histar_level.specs.declared.level.Level.{Level}
 use Rattle.histar_object.specs.State.{State}
 use Rattle.histar_layout.specs.Labelling.{owner_label}
 use Rattle.histar_layout.proofs.LabelLevels.{at_owning, owning_level}

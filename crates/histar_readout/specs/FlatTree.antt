@@ -2,7 +2,7 @@
 use Rattle.std.specs.Prelude.{◌≡◌, ℕ, zero, suc, ◌≤◌, true, cond, List, [], ◌∷◌, length, Option, None, Some}
 use Rattle.std.specs.List.{flat_map, filter_map}
 use Rattle.histar_flat.specs.Words.{Name, Path}
-use Rattle.histar_flat.specs.PathOrder.{same_path}
+use Rattle.histar_base.specs.Paths.{same_path}
 use Rattle.histar_flat.specs.Files.{get}
 use Rattle.histar_flat.specs.FlatState.{Flat, Node, is_there, is_dir, IsTree}
 

@@ -4,8 +4,8 @@ use Rattle.std.specs.List.{filter}
 use Rattle.std.specs.Set.{is_member}
 use Rattle.histar_flat.specs.Words.{ProcName}
 use Rattle.histar_flat.specs.Accounts.{Accounts}
-use Rattle.histar_label.specs.Level.{is_star}
-use Rattle.histar_label.specs.Levels.{Levels, exceptions_of}
+use Rattle.histar_level.specs.Level.{is_star}
+use Rattle.histar_level.specs.Levels.{Levels, exceptions_of}
 use Rattle.histar_object.specs.Objects.{is_container, is_thread, label_there}
 use Rattle.histar_object.specs.State.{State, Found}
 use Rattle.histar_layout.specs.Reading.{◌>>=◌}

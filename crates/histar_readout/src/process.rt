@@ -2,7 +2,7 @@
 ghost use Rattle.std.specs.Prelude.{◌≡◌, ◌&&◌, not, nat_eq, IfOk};
 ghost use Rattle.std.specs.Set.{is_member};
 ghost use Rattle.std.specs.Option.{option_copied};
-ghost use Rattle.histar_label.specs.Level.{is_star};
+ghost use Rattle.histar_level.specs.Level.{is_star};
 ghost use Rattle.histar_object.specs.Objects.{objects_of};
 ghost use Rattle.histar_syscall.specs.KernelModel.{state};
 ghost use Rattle.histar_readout.specs.Process.{ReadsFrom, container_label, life_in, node_in, owned_beside, running_by, thread_label};

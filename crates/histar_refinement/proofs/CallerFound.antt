@@ -12,7 +12,7 @@ use Rattle.histar_flat.specs.Accounts.{Accounts}
 use Rattle.histar_flat.specs.Classes.{Process}
 use Rattle.histar_flat.specs.FlatState.{Flat}
 use Rattle.histar_flat.specs.FlatCalls.{if_running, running}
-use Rattle.histar_label.specs.Levels.{Levels}
+use Rattle.histar_level.specs.Levels.{Levels}
 use Rattle.histar_object.specs.Objects.{bytes_in, label_there}
 use Rattle.histar_object.specs.State.{State}
 use Rattle.histar_layout.specs.declared.status.Child.{Child as Listed}

@@ -6,9 +6,11 @@ use Rattle.std.proofs.Math.Bool.{or-false}
 use mathlib.Core.Bool.{true≢false}
 use Rattle.histar_flat.specs.Words.{ProcName}
 use Rattle.histar_flat.specs.Classes.{Process}
-use Rattle.histar_label.specs.declared.levels.Level.{Level}
-use Rattle.histar_label.specs.declared.levels.Level.TheVariants.{L0, L1, L3}
-use Rattle.histar_label.specs.Levels.{Levels, level_of, default_of, default_of-constant, constant}
+use Rattle.histar_level.specs.declared.level.Level.{Level}
+use Rattle.histar_level.specs.declared.level.Level.TheVariants.{L0, L1, L3}
+use Rattle.histar_level.specs.Levels.{Levels, level_of, default_of}
+use Rattle.histar_label.proofs.Readers.{default_of-constant}
+use Rattle.histar_label.specs.Levels.{constant}
 use Rattle.histar_layout.specs.Labelling.{each_at, guarded_by}
 use Rattle.histar_programs.specs.Caller.{is_zero, write_category_in, read_category_in}
 use Rattle.histar_layout.specs.Jobs.{is_three}

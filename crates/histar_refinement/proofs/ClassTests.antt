@@ -6,7 +6,7 @@ use Rattle.std.proofs.lemmas.Option.{same_Some}
 use Rattle.std.proofs.Math.Bool.{or_comm, or-false, and-true, and-false}
 use mathlib.Core.Bool.{true≢false}
 use Rattle.histar_flat.specs.Words.{Name, ProcName}
-use Rattle.histar_flat.specs.PathOrder.{same}
+use Rattle.histar_base.specs.Paths.{same}
 use Rattle.histar_label.specs.Levels.{is_below, is_below_raised}
 use Rattle.histar_flat.specs.Accounts.{Accounts, has, user_number, group_number, groups_of, is_member}
 use Rattle.histar_flat.specs.Classes.{Class, Process, is_free, knows, may_read, may_write, sees}

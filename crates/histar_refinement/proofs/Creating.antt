@@ -5,7 +5,7 @@ use Rattle.std.specs.FinMap as map
 use Rattle.std.specs.FinSet as set
 use Rattle.histar_flat.specs.Words.{Name, Path, is_name}
 use Rattle.histar_flat.specs.Files.{get}
-use Rattle.histar_label.specs.Levels.{Levels}
+use Rattle.histar_level.specs.Levels.{Levels}
 use Rattle.histar_layout.specs.Directory.{spelling}
 use Rattle.histar_layout.specs.declared.entry.Target.TheVariants as targets
 use Rattle.histar_object.specs.declared.objects.Kind.TheVariants.{Segment, Container}

@@ -9,8 +9,8 @@ use Rattle.std.specs.FinMap.{find, is_sorted}
 use Rattle.std.specs.FinMap.Entries.{below_all}
 use Rattle.std.proofs.lemmas.List.{length-append}
 use Rattle.histar_flat.specs.Words.{Name, Path}
-use Rattle.histar_flat.specs.PathOrder.{path_cmp}
-use Rattle.histar_flat.specs.PathOrderLaws.{path_cmp_total, path_cmp_exact}
+use Rattle.histar_base.specs.Paths.{path_cmp}
+use Rattle.histar_base.proofs.PathLaws.{path_cmp_total, path_cmp_exact}
 use Rattle.histar_flat.specs.Files.{Files, get}
 use Rattle.histar_flat.specs.FlatState.{Node, Flat, Entry, is_dir, entry_in, entries_in}
 use Rattle.histar_flat.proofs.FileLemmas.{same_path_found, same_name_found}

@@ -4,8 +4,8 @@ use Rattle.std.specs.Prelude.{option_map}
 use Rattle.std.specs.List.{find, list_any}
 use Rattle.std.proofs.lemmas.List.Folds.{list_any-from_Any}
 use mathlib.Core.Bool.{true≢false}
-use Rattle.histar_label.specs.declared.levels.Level.{Level}
-use Rattle.histar_label.specs.Levels.{Levels, level_of, default_of, exceptions_of}
+use Rattle.histar_level.specs.declared.level.Level.{Level}
+use Rattle.histar_level.specs.Levels.{Levels, level_of, default_of, exceptions_of}
 use Rattle.histar_label.proofs.Listed.{ListsExceptions-exceptions_of}
 
 module _ (test : ℕ × Level → Bool) (c : ℕ) where

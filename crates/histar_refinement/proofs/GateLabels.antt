@@ -6,8 +6,8 @@ use Rattle.std.proofs.lemmas.Bool.Decides.{nat_tests}
 use Rattle.std.proofs.lemmas.List.{append-nil, map-append}
 use Rattle.histar_flat.specs.Accounts.{Group, Accounts, has, numbers_with}
 use Rattle.histar_flat.specs.Words.{Name}
-use Rattle.histar_label.specs.declared.levels.Level.{Level}
-use Rattle.histar_label.specs.declared.levels.Level.TheVariants.{Star, L1, L2, L3}
+use Rattle.histar_level.specs.declared.level.Level.{Level}
+use Rattle.histar_level.specs.declared.level.Level.TheVariants.{Star, L1, L2, L3}
 use Rattle.histar_layout.specs.Categories.{read_category, write_category, group_owner, owners_of}
 use Rattle.histar_layout.specs.Labelling.{labelled, each_at, owner_label, cleared_at}
 use Rattle.histar_programs.specs.Kin.{categories_of}

@@ -5,8 +5,10 @@ use Rattle.std.specs.Prelude.{map}
 use Rattle.std.proofs.lemmas.Bool.Decides.{eqb_tells, nat_tests}
 use Rattle.std.proofs.lemmas.Bool.{or_left, or_right}
 use mathlib.Core.Bool.{true≢false}
-use Rattle.histar_label.specs.declared.levels.Level.TheVariants.{Star, L3}
-use Rattle.histar_label.specs.Levels.{with_level, level_of-with_level, same_levels}
+use Rattle.histar_level.specs.declared.level.Level.TheVariants.{Star, L3}
+use Rattle.histar_level.proofs.Functions.{same_levels}
+use Rattle.histar_label.specs.Levels.{with_level}
+use Rattle.histar_label.proofs.Readers.{level_of-with_level}
 use Rattle.histar_layout.specs.Labelling.{written_by, secret_of, owner_of, guarded_by, owner_label, cleared_at}
 use Rattle.histar_refinement.specs.Categories.{CategoryName, Categories, AreDifferent, IsMade, same_category, among, swapped, naming_next}
 use Rattle.histar_refinement.specs.Guards.{Guard, Rights, guard_label, rights_label, rights_clearance}

@@ -8,8 +8,10 @@ use mathlib.Core.Bool.{true≢false}
 use Rattle.histar_flat.specs.Words.{ProcName}
 use Rattle.histar_flat.specs.Accounts.{Accounts}
 use Rattle.histar_flat.specs.Classes.{Process, is_free}
-use Rattle.histar_label.specs.declared.levels.Level.TheVariants.{Star, L1, L3}
-use Rattle.histar_label.specs.Levels.{Levels, constant, default_of, default_of-constant}
+use Rattle.histar_level.specs.declared.level.Level.TheVariants.{Star, L1, L3}
+use Rattle.histar_level.specs.Levels.{Levels, default_of}
+use Rattle.histar_label.specs.Levels.{constant}
+use Rattle.histar_label.proofs.Readers.{default_of-constant}
 use Rattle.histar_layout.specs.Jobs.{is_three, jobs_in, is_empty}
 use Rattle.histar_layout.specs.Labelling.{each_at, owner_label}
 use Rattle.histar_layout.proofs.LabelLevels.{default_kept, at_guarded, at_owning, guarded_level, owning_level}

@@ -6,10 +6,10 @@ use Rattle.std.proofs.lemmas.Option.{none-some}
 use Rattle.std.proofs.lemmas.Bool.{and_from}
 use mathlib.Core.Bool.{true≢false}
 use Rattle.histar_flat.specs.Words.{Path, ProcName}
-use Rattle.histar_flat.specs.PathOrder.{same as same_name}
+use Rattle.histar_base.specs.Paths.{same as same_name}
+use Rattle.histar_level.specs.Levels.{Levels}
 use Rattle.histar_flat.specs.Files.{get}
 use Rattle.histar_flat.proofs.FileLemmas.{same_name_found}
-use Rattle.histar_label.specs.Levels.{Levels}
 use Rattle.histar_layout.specs.Directory.{Entries, IsListable, spelling}
 use Rattle.histar_object.specs.Objects.{Objects, changed_at, holding}
 use Rattle.histar_object.specs.State.{State, Found, with_segment_bytes}

@@ -10,10 +10,10 @@ use Rattle.std.proofs.lemmas.Option.{none-some, same_Some}
 use mathlib.Core.Bool.{true≢false}
 use Rattle.histar_flat.specs.declared.calls.User.{User}
 use Rattle.histar_flat.specs.Words.{Name}
-use Rattle.histar_flat.specs.PathOrder.{same}
+use Rattle.histar_base.specs.Paths.{same}
+use Rattle.histar_level.specs.Levels.{Levels}
 use Rattle.histar_flat.specs.Accounts.{Accounts, user_named, user_number, groups_of}
 use Rattle.histar_flat.specs.FlatState.{Flat}
-use Rattle.histar_label.specs.Levels.{Levels}
 use Rattle.histar_object.specs.declared.objects.Entry.TheVariants.{Login}
 use Rattle.histar_object.specs.declared.objects.Kind.TheVariants.{Segment, Container, Gate}
 use Rattle.histar_object.specs.declared.objects.Object.{Object}

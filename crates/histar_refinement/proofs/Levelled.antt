@@ -4,11 +4,12 @@ use Rattle.std.specs.List.{list_all}
 use Rattle.std.proofs.lemmas.Bool.Decides.{nat_tests}
 use Rattle.std.proofs.lemmas.Bool.{and_from, or_left, or_right}
 use mathlib.Core.Bool.{true≢false}
-use Rattle.histar_label.specs.declared.levels.Level.{Level}
-use Rattle.histar_label.specs.declared.levels.Level.TheVariants.{Star, L0, L1, L2, L3}
-use Rattle.histar_label.specs.Level.{rank, raised}
-use Rattle.histar_label.specs.Levels.{Levels, constant, with_level, is_below, is_below_raised}
-use Rattle.histar_label.specs.Levels.{is_made, has_star, same_levels}
+use Rattle.histar_level.specs.declared.level.Level.{Level}
+use Rattle.histar_level.specs.declared.level.Level.TheVariants.{Star, L0, L1, L2, L3}
+use Rattle.histar_level.specs.Level.{rank, raised}
+use Rattle.histar_level.specs.Levels.{Levels}
+use Rattle.histar_level.proofs.Functions.{same_levels}
+use Rattle.histar_label.specs.Levels.{constant, with_level, is_below, is_below_raised, is_made, has_star}
 use Rattle.histar_label.proofs.Orders.{is_below-law, is_below_raised-law}
 use Rattle.histar_label.proofs.Made.{is_made-constant, is_made-with_level}
 use Rattle.histar_label.proofs.Stars.{has_star-none}

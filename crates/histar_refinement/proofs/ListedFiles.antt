@@ -9,7 +9,7 @@ use Rattle.std.proofs.lemmas.Bool.{or_left}
 use mathlib.Core.Bool.{true≢false}
 use Rattle.histar_flat.specs.Words.{Name, Path, ProcName}
 use Rattle.histar_flat.specs.Files.{Files, get}
-use Rattle.histar_label.specs.Levels.{Levels}
+use Rattle.histar_level.specs.Levels.{Levels}
 use Rattle.histar_layout.specs.Directory.{IsListable, spelling}
 use Rattle.histar_layout.specs.Status.{status_bytes}
 use Rattle.histar_layout.specs.declared.entry.Target.{Target}

@@ -5,8 +5,8 @@ use Rattle.std.proofs.Common.{ap, sym, ◌∙◌, subst, inl, inr}
 use Rattle.std.specs.FinMap.{find, is_sorted}
 use Rattle.std.specs.FinMap.Entries.{below_all}
 use Rattle.histar_flat.specs.Words.{Name, Path}
-use Rattle.histar_flat.specs.PathOrder.{path_cmp}
-use Rattle.histar_flat.specs.PathOrderLaws.{path_cmp_total, path_cmp_exact}
+use Rattle.histar_base.specs.Paths.{path_cmp}
+use Rattle.histar_base.proofs.PathLaws.{path_cmp_total, path_cmp_exact}
 use Rattle.histar_flat.specs.Files.{get}
 use Rattle.histar_flat.specs.FlatState.{Node, Content, Flat, is_dir, entry_in, entries_in}
 use Rattle.histar_flat.specs.FlatState.Content.{Dir, File}

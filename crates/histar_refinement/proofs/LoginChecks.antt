@@ -13,7 +13,8 @@ use Rattle.histar_flat.specs.Accounts.{Accounts, user_number, groups_of}
 use Rattle.histar_flat.specs.Classes.{Process, is_free}
 use Rattle.histar_flat.specs.FlatState.{Flat}
 use Rattle.histar_label.specs.Floors.{floor_of, join_of}
-use Rattle.histar_label.specs.Levels.{Levels, is_below, is_below_raised, is_below_join}
+use Rattle.histar_level.specs.Levels.{Levels}
+use Rattle.histar_label.specs.Levels.{is_below, is_below_raised, is_below_join}
 use Rattle.histar_label.proofs.Floors.{grades-join_of}
 use Rattle.histar_label.proofs.Orders.{is_below-law, is_below_join-law, is_below_join_raised-law, is_below-refl}
 use Rattle.histar_object.specs.declared.objects.Entry.TheVariants.{Login}

@@ -9,7 +9,7 @@ use Rattle.std.specs.Cmp.Lexicographic.{nat_list_cmp_total, texts_ties}
 use Rattle.std.proofs.lemmas.Option.{none-some, same_Some}
 use mathlib.Core.Bool.{true≢false}
 use Rattle.histar_flat.specs.Words.{Name, Path, ProcName, is_name}
-use Rattle.histar_flat.specs.PathOrder.{same as same_name}
+use Rattle.histar_base.specs.Paths.{same as same_name}
 use Rattle.histar_flat.specs.Files.{get}
 use Rattle.histar_flat.proofs.FileLemmas.{same_name_found, same_path_found, get_other, get_new}
 use Rattle.histar_layout.specs.Directory.{Entries, IsTarget, IsListable, entry_bytes, spelling}

@@ -11,7 +11,7 @@ use mathlib.Core.Bool.{true≢false}
 use Rattle.histar_flat.specs.declared.calls.Mode.{Mode}
 use Rattle.histar_flat.specs.declared.calls.Mode.TheVariants as modes
 use Rattle.histar_flat.specs.Words.{Name, ProcName}
-use Rattle.histar_flat.specs.PathOrder.{same}
+use Rattle.histar_base.specs.Paths.{same}
 use Rattle.histar_flat.specs.Accounts.{Accounts, has, is_member, user_number, group_number, groups_of}
 use Rattle.histar_flat.specs.Classes.{Class, Process, nobody, is_free, knows, free_class, class_made}
 use Rattle.histar_flat.specs.Classes.Class.{Private, Readable, Open, Scratch, Grouped}

@@ -4,9 +4,9 @@ use Rattle.std.proofs.Common.{subst}
 use Rattle.std.specs.Prelude.{map}
 use Rattle.std.proofs.lemmas.Bool.Decides.{eqb_tells}
 use Rattle.histar_flat.specs.Words.{ProcName}
-use Rattle.histar_label.specs.Level.{rank}
-use Rattle.histar_label.specs.declared.levels.Level.TheVariants.{L1, L3}
-use Rattle.histar_label.specs.Levels.{Levels, level_of}
+use Rattle.histar_level.specs.Level.{rank}
+use Rattle.histar_level.specs.Levels.{Levels, level_of}
+use Rattle.histar_level.specs.declared.level.Level.TheVariants.{L1, L3}
 use Rattle.histar_flat.specs.Accounts.{has}
 use Rattle.histar_flat.specs.Classes.{Process}
 use Rattle.histar_refinement.specs.Categories.{CategoryName, Categories, AreDifferent, split_category}

@@ -8,9 +8,9 @@ use Rattle.histar_flat.specs.Words.{Name, ProcName}
 use Rattle.histar_flat.specs.Accounts.{Accounts, user_number, group_number}
 use Rattle.histar_flat.specs.Classes.{Class}
 use Rattle.histar_flat.specs.Classes.Class.{Private, Readable, Open, Scratch, Grouped}
-use Rattle.histar_label.specs.Level.{rank}
-use Rattle.histar_label.specs.declared.levels.Level.TheVariants.{L0, L1, L3}
-use Rattle.histar_label.specs.Levels.{Levels, level_of}
+use Rattle.histar_level.specs.Level.{rank}
+use Rattle.histar_level.specs.Levels.{Levels, level_of}
+use Rattle.histar_level.specs.declared.level.Level.TheVariants.{L0, L1, L3}
 use Rattle.histar_refinement.specs.Categories.{CategoryName, Categories, AreDifferent, same_category, among}
 use Rattle.histar_refinement.specs.Categories.CategoryName.{OfBoot, ReadsUser, WritesUser, ReadsGroup, WritesGroup, ReadsProcess, WritesProcess}
 use Rattle.histar_refinement.specs.Categories.CategoryName.{OfJob}

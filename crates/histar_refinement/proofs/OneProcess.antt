@@ -4,9 +4,9 @@ use Rattle.std.specs.Prelude.{map, is_some, nat_eq}
 use Rattle.std.proofs.lemmas.Bool.Decides.{nat_tests}
 use mathlib.Core.Bool.{true≢false}
 use Rattle.histar_flat.specs.Words.{ProcName}
-use Rattle.histar_label.specs.Level.{rank}
-use Rattle.histar_label.specs.declared.levels.Level.TheVariants.{Star, L1}
-use Rattle.histar_label.specs.Levels.{Levels, level_of}
+use Rattle.histar_level.specs.Level.{rank}
+use Rattle.histar_level.specs.Levels.{Levels, level_of}
+use Rattle.histar_level.specs.declared.level.Level.TheVariants.{Star, L1}
 use Rattle.histar_flat.specs.Accounts.{Accounts, has, user_number}
 use Rattle.histar_flat.specs.Classes.{Process, nobody}
 use Rattle.histar_refinement.specs.Categories.{CategoryName, Categories, AreDifferent, among}

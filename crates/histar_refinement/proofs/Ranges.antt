@@ -5,9 +5,10 @@ use Rattle.std.specs.List.{list_all}
 use Rattle.std.proofs.lemmas.Bool.{and_from, or_left, or_right}
 use mathlib.Core.Bool.{true≢false}
 use Rattle.histar_flat.specs.Words.{Name, ProcName}
-use Rattle.histar_label.specs.declared.levels.Level.{Level}
-use Rattle.histar_label.specs.Level.{rank, raised, lowered, level_at}
-use Rattle.histar_label.specs.Levels.{same_levels, is_below, is_below_raised, is_below_join_raised}
+use Rattle.histar_level.specs.declared.level.Level.{Level}
+use Rattle.histar_level.specs.Level.{rank, raised, lowered, level_at}
+use Rattle.histar_level.proofs.Functions.{same_levels}
+use Rattle.histar_label.specs.Levels.{is_below, is_below_raised, is_below_join_raised}
 use Rattle.histar_label.specs.Floors.{floor_of, join_of}
 use Rattle.histar_label.proofs.Floors.{level_of-combined_of}
 use Rattle.histar_label.proofs.Orders.{is_below-law, is_below_join_raised-law}

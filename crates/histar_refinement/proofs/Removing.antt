@@ -10,8 +10,8 @@ use Rattle.std.proofs.lemmas.Option.{none-some}
 use Rattle.std.proofs.Math.Bool.{or-false}
 use mathlib.Core.Bool.{true≢false}
 use Rattle.histar_flat.specs.Words.{Name, Path, ProcName}
-use Rattle.histar_flat.specs.PathOrder.{path_cmp, same as same_name, same_path}
-use Rattle.histar_flat.specs.PathOrderLaws.{path_cmp_exact}
+use Rattle.histar_base.specs.Paths.{path_cmp, same as same_name, same_path}
+use Rattle.histar_base.proofs.PathLaws.{path_cmp_exact}
 use Rattle.histar_flat.specs.Files.{get}
 use Rattle.histar_flat.proofs.FileLemmas.{same_name_found, same_path_found}
 use Rattle.histar_layout.specs.Directory.{Entries, IsListable, spelling}

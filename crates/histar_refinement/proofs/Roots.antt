@@ -5,7 +5,7 @@ use Rattle.std.specs.List.{filter_map}
 use Rattle.std.specs.FinMap as map
 use Rattle.std.proofs.lemmas.Option.{none-some, same_Some}
 use Rattle.histar_flat.specs.Words.{Name, Path, ProcName}
-use Rattle.histar_flat.specs.PathOrder.{same_path}
+use Rattle.histar_base.specs.Paths.{same_path}
 use Rattle.histar_flat.specs.Files.{get}
 use Rattle.histar_container.specs.Tree.{Address}
 use Rattle.histar_layout.specs.declared.entry.Target.{Target}

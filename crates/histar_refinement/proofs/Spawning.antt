@@ -7,10 +7,10 @@ use Rattle.std.proofs.lemmas.Option.{none-some, same_Some}
 use Rattle.std.proofs.lemmas.Bool.{and_from, or_left, or_right, or_cases}
 use mathlib.Core.Bool.{true≢false}
 use Rattle.histar_flat.specs.Words.{Path, ProcName}
-use Rattle.histar_flat.specs.PathOrder.{same}
+use Rattle.histar_base.specs.Paths.{same}
+use Rattle.histar_level.specs.Levels.{Levels}
 use Rattle.histar_flat.specs.Files.{get}
 use Rattle.histar_flat.proofs.FileLemmas.{same_name_found}
-use Rattle.histar_label.specs.Levels.{Levels}
 use Rattle.histar_layout.specs.Directory.{Entries, IsListable, spelling}
 use Rattle.histar_object.specs.Objects.{holding, is_present, is_container}
 use Rattle.histar_object.specs.State.{State, Found}

@@ -10,10 +10,10 @@ use Rattle.std.proofs.lemmas.Option.{none-some, same_Some}
 use mathlib.Core.Bool.{true≢false}
 use Rattle.histar_flat.specs.declared.calls.User.{User}
 use Rattle.histar_flat.specs.Words.{Name, Path, ProcName}
-use Rattle.histar_flat.specs.PathOrder.{same}
+use Rattle.histar_base.specs.Paths.{same}
+use Rattle.histar_level.specs.Levels.{Levels}
 use Rattle.histar_flat.specs.Files.{empty, get}
 use Rattle.histar_flat.proofs.FileLemmas.{get_new, get_other, same_name_found}
-use Rattle.histar_label.specs.Levels.{Levels}
 use Rattle.histar_rules.specs.Rules.{greatest}
 use Rattle.histar_layout.specs.Directory.{entry_bytes, spelling}
 use Rattle.histar_layout.proofs.MapLemmas.{entries-empty, listable_empty}

@@ -7,8 +7,9 @@ use Rattle.std.specs.FinMap.Entries.{below_all}
 use Rattle.std.specs.Ordering.{eq_by_cmp}
 use mathlib.Core.Bool.{true≢false}
 use Rattle.histar_flat.specs.Words.{Name, Path, ProcName}
-use Rattle.histar_flat.specs.PathOrder.{path_cmp, same as same_name, same_path, under_path}
-use Rattle.histar_flat.specs.PathOrderLaws.{path_cmp_total, path_cmp_exact}
+use Rattle.histar_base.specs.Paths.{path_cmp, same as same_name, same_path}
+use Rattle.histar_base.proofs.PathLaws.{path_cmp_total, path_cmp_exact}
+use Rattle.histar_flat.specs.PathOrder.{under_path}
 use Rattle.histar_flat.specs.Files.{Files, get, from_list}
 use Rattle.histar_flat.proofs.FileLemmas.{same_name_found, same_path_found, get-insert, ties}
 use Rattle.histar_flat.proofs.Finding.{first, second, find_first, find_later}

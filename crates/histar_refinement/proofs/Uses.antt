@@ -7,13 +7,13 @@ use Rattle.std.proofs.lemmas.Option.{none-some, same_Some}
 use Rattle.std.proofs.lemmas.Bool.{or_left, or_right, or_cases}
 use mathlib.Core.Bool.{true≢false}
 use Rattle.histar_flat.specs.Words.{Name, Path, ProcName}
-use Rattle.histar_flat.specs.PathOrder.{same}
+use Rattle.histar_base.specs.Paths.{same}
+use Rattle.histar_level.specs.Levels.{Levels}
 use Rattle.histar_flat.specs.Files.{get}
 use Rattle.histar_object.specs.Objects.{thread_of}
 use Rattle.histar_object.specs.State.{Found}
 use Rattle.histar_object.specs.declared.objects.Kind.{Kind}
 use Rattle.histar_object.specs.declared.objects.Kind.TheVariants.{Segment}
-use Rattle.histar_label.specs.Levels.{Levels}
 use Rattle.histar_flat.specs.Accounts.{Group, Accounts, has, user_number, group_number, groups_of}
 use Rattle.histar_flat.specs.Classes.{Class, Process, is_free}
 use Rattle.histar_flat.specs.Classes.Class.{Private, Readable, Open, Scratch, Grouped}

@@ -9,8 +9,8 @@ use Rattle.std.proofs.lemmas.Bool.{and_from, or_left, or_right, or_cases}
 use Rattle.std.proofs.Math.Bool.{or-false, and-true}
 use mathlib.Core.Bool.{true≢false}
 use Rattle.histar_flat.specs.Words.{ProcName}
-use Rattle.histar_flat.specs.PathOrder.{same}
-use Rattle.histar_label.specs.Level.{rank, raised}
+use Rattle.histar_base.specs.Paths.{same}
+use Rattle.histar_level.specs.Level.{rank, raised}
 use Rattle.histar_label.specs.Levels.{is_below, is_below_raised, is_below_join_raised}
 use Rattle.histar_label.proofs.Orders.{is_below-law, is_below_raised-law, is_below_join_raised-law}
 use Rattle.histar_flat.specs.Accounts.{Accounts, has, user_number}

@@ -4,10 +4,10 @@ use Rattle.std.proofs.Common.{refl, sym, ap, ◌∙◌, subst}
 use Rattle.std.specs.Prelude.{IsTrue, is_some, option_map}
 use mathlib.Core.Bool.{true≢false}
 use Rattle.histar_flat.specs.Words.{Name, Path, ProcName, is_name}
-use Rattle.histar_flat.specs.PathOrder.{same}
+use Rattle.histar_base.specs.Paths.{same}
+use Rattle.histar_level.specs.Levels.{Levels}
 use Rattle.histar_flat.specs.Files.{get}
 use Rattle.histar_flat.proofs.FileLemmas.{same_name_found, same_path_found, get_new, get_other}
-use Rattle.histar_label.specs.Levels.{Levels}
 use Rattle.std.specs.FinMap as map
 use Rattle.std.specs.FinSet as set
 use Rattle.std.proofs.lemmas.Option.{none-some, same_Some}

@@ -6,7 +6,7 @@ use mathlib.Core.Bool.{true≢false}
 use Rattle.histar_flat.specs.Words.{Path}
 use Rattle.histar_flat.specs.Files.{get}
 use Rattle.histar_flat.proofs.FileLemmas.{same_path_found, get_other, get_new}
-use Rattle.histar_label.specs.Levels.{Levels}
+use Rattle.histar_level.specs.Levels.{Levels}
 use Rattle.histar_layout.specs.Directory.{IsListable, spelling}
 use Rattle.histar_object.specs.Objects.{Objects, changed_at, holding}
 use Rattle.histar_object.specs.State.{State, Found, with_segment_bytes}

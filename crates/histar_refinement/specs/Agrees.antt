@@ -1,7 +1,7 @@
 -- The objects of a state are, under a naming by addresses, those that are asked for.
 use Rattle.std.specs.Prelude.{◌≡◌, ◌↔◌, Bool, Some, is_some, option_map}
 use Rattle.std.specs.FinSet as set
-use Rattle.histar_label.specs.Levels.{Levels}
+use Rattle.histar_level.specs.Levels.{Levels}
 use Rattle.histar_object.specs.declared.objects.Kind.{Kind}
 use Rattle.histar_object.specs.declared.objects.Kind.TheVariants.{Container}
 use Rattle.histar_object.specs.declared.objects.Object.{Object}

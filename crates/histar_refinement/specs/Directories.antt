@@ -3,7 +3,7 @@ use Rattle.std.specs.Prelude.{ℕ, cond, [], ◌∷◌, Option, None, Some, opti
 use Rattle.std.specs.List.{filter_map}
 use Rattle.std.specs.FinMap as map
 use Rattle.histar_flat.specs.Words.{Name, Path}
-use Rattle.histar_flat.specs.PathOrder.{same_path}
+use Rattle.histar_base.specs.Paths.{same_path}
 use Rattle.histar_flat.specs.Files.{Files}
 use Rattle.histar_flat.specs.FlatState.{Node}
 use Rattle.histar_flat.specs.FlatState.Content.{Dir, File}

@@ -1,6 +1,6 @@
 -- The two kinds of labels that Unix calls make: those of guarded objects, and those of threads and gates with rights.
 use Rattle.std.specs.Prelude.{List, ◌++◌, map}
-use Rattle.histar_label.specs.Levels.{Levels}
+use Rattle.histar_level.specs.Levels.{Levels}
 use Rattle.histar_layout.specs.Labelling.{guarded_by, owner_label, cleared_at}
 use Rattle.histar_refinement.specs.Categories.{CategoryName, Categories}
 

@@ -6,7 +6,7 @@ use Rattle.std.proofs.lemmas.Bool.{true≢false, le-leb}
 use Rattle.histar_base.specs.Refusals.{unless}
 use Rattle.histar_flat.specs.declared.replies.Errno.TheVariants.{ENOENT, ENOTDIR, EISDIR, EACCES, EFBIG}
 use Rattle.histar_flat.specs.Words.{Name, Path, ProcName}
-use Rattle.histar_flat.specs.PathOrder.{same}
+use Rattle.histar_base.specs.Paths.{same}
 use Rattle.histar_flat.specs.Accounts.{Accounts, has, is_member}
 use Rattle.histar_flat.specs.Files.{get}
 use Rattle.histar_flat.specs.Classes.{Class, Process, is_free, knows, may_read, may_write}

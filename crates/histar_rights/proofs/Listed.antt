@@ -13,8 +13,8 @@ use Rattle.std.specs.Cmp.Lexicographic.{lists_total, slice_cmp}
 use Rattle.std.specs.FinMap.{IsAntisymmetric, find, is_sorted, nat_cmp-IsAntisymmetric, slice_cmp-IsAntisymmetric}
 use Rattle.std.specs.FinMap.Entries.{below_all}
 use Rattle.histar_flat.specs.Words.{ProcName, most_numbers}
-use Rattle.histar_flat.specs.PathOrder.{from_root, reverse_onto}
-use Rattle.histar_flat.specs.PathOrderLaws.{from_root_twice}
+use Rattle.histar_base.specs.Paths.{from_root, reverse_onto}
+use Rattle.histar_base.proofs.PathLaws.{from_root_twice}
 use Rattle.histar_flat.specs.Classes.{Process}
 use Rattle.histar_flat.specs.FlatState.{Flat, is_given, was_given}
 use Rattle.histar_flat.specs.FlatCalls.{if_running, running}

@@ -6,7 +6,7 @@ use Rattle.std.specs.Ordering.{nat_cmp}
 use Rattle.std.specs.Cmp.Lexicographic.{slice_cmp}
 use Rattle.std.specs.FinMap.{find, is_sorted}
 use Rattle.histar_flat.specs.Words.{ProcName, most_numbers}
-use Rattle.histar_flat.specs.PathOrder.{from_root}
+use Rattle.histar_base.specs.Paths.{from_root}
 use Rattle.histar_flat.specs.Classes.{Process}
 use Rattle.histar_flat.specs.FlatState.{Flat}
 use Rattle.histar_flat.specs.FlatCalls.{if_running, running}

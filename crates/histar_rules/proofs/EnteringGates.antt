@@ -2,7 +2,8 @@
 use Rattle.std.proofs.Common.{◌≡◌, ℕ, ◌<◌, Option, None, Some, Result, Ok, Err, OnOk, OnErr, true, refl, sym, ap, ◌∙◌, subst}
 use Rattle.std.specs.Prelude.{is_some}
 use Rattle.histar_base.specs.Refusals.{unless, ◌orelse◌}
-use Rattle.histar_label.specs.Levels.{Levels, is_below, is_made}
+use Rattle.histar_level.specs.Levels.{Levels}
+use Rattle.histar_label.specs.Levels.{is_below, is_made}
 use Rattle.histar_label.specs.Store.{label_at, Keeps}
 use Rattle.histar_label.proofs.Stands.{label_at-stands}
 use Rattle.histar_object.specs.declared.objects.Entry.{Entry}

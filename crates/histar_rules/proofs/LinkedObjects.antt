@@ -3,7 +3,8 @@ use Rattle.std.proofs.Common.{◌≡◌, ℕ, Bool, List, Option, None, Some, Is
 use mathlib.Core.Bool.{false≢true}
 use Rattle.std.specs.Prelude.{option_map, ◌&&◌, ◌+◌, not, length, min, nat_lt}
 use Rattle.histar_base.specs.Refusals.{unless, ◌orelse◌}
-use Rattle.histar_label.specs.Levels.{Levels, is_below, is_below_raised, is_made, has_star}
+use Rattle.histar_level.specs.Levels.{Levels}
+use Rattle.histar_label.specs.Levels.{is_below, is_below_raised, is_made, has_star}
 use Rattle.histar_label.specs.Store.{label_at}
 use Rattle.histar_object.specs.declared.objects.Entry.{Entry}
 use Rattle.histar_object.specs.declared.objects.Object.{Object}

@@ -4,8 +4,9 @@ use Rattle.std.proofs.Common.{refl, sym, ap, ◌∙◌, subst, arith}
 use Rattle.std.specs.Prelude.{is_some, option_map}
 use mathlib.Core.Bool.{false≢true}
 use Rattle.std.proofs.lemmas.Bool.{cases_lt}
-use Rattle.histar_label.specs.declared.levels.Level.TheVariants.{L1}
-use Rattle.histar_label.specs.Levels.{Levels, constant}
+use Rattle.histar_level.specs.declared.level.Level.TheVariants.{L1}
+use Rattle.histar_level.specs.Levels.{Levels}
+use Rattle.histar_label.specs.Levels.{constant}
 use Rattle.histar_label.specs.Store.{label_at, Keeps}
 use Rattle.histar_object.specs.declared.objects.Kind.{Kind}
 use Rattle.histar_object.specs.declared.objects.Kind.TheVariants.{Segment, Container, Thread, Gate}

@@ -5,7 +5,8 @@ use Rattle.std.specs.FinSet as set
 use Rattle.std.specs.Result.{IsErrAnd}
 use Rattle.std.proofs.Math.Bool.{and-true}
 use Rattle.histar_base.specs.Refusals.{unless, ◌orelse◌}
-use Rattle.histar_label.specs.Levels.{Levels, is_below, is_below_raised}
+use Rattle.histar_level.specs.Levels.{Levels}
+use Rattle.histar_label.specs.Levels.{is_below, is_below_raised}
 use Rattle.histar_label.specs.Store.{label_at}
 use Rattle.histar_object.specs.declared.objects.Entry.{Entry}
 use Rattle.histar_object.specs.declared.objects.Object.{Object}

@@ -3,7 +3,8 @@ use Rattle.std.proofs.Common.{◌≡◌, ℕ, false, Option, Some, Result, Ok, E
 use Rattle.std.specs.Prelude.{◌&&◌}
 use Rattle.std.specs.Result.{IsErrAnd}
 use Rattle.histar_base.specs.Refusals.{unless, ◌orelse◌}
-use Rattle.histar_label.specs.Levels.{Levels, is_below, is_below_join_raised, is_made}
+use Rattle.histar_level.specs.Levels.{Levels}
+use Rattle.histar_label.specs.Levels.{is_below, is_below_join_raised, is_made}
 use Rattle.histar_label.specs.Store.{label_at, Keeps}
 use Rattle.histar_label.proofs.Stands.{label_at-stands}
 use Rattle.histar_object.specs.Objects.{TableModel, Objects, objects_of, thread_of, is_thread}

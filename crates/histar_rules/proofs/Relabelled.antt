@@ -1,7 +1,7 @@
 -- What state a table represents after one of its objects gets another label or another clearance.
 use Rattle.std.proofs.Common.{◌≡◌, ℕ, Option, Some, None, refl, sym, ap, ◌∙◌, subst}
 use Rattle.std.specs.Prelude.{option_map, is_some}
-use Rattle.histar_label.specs.Levels.{Levels}
+use Rattle.histar_level.specs.Levels.{Levels}
 use Rattle.histar_label.specs.Store.{label_at, Keeps}
 use Rattle.histar_label.proofs.Stands.{label_at-stands}
 use Rattle.histar_object.specs.declared.objects.Kind.{Kind}

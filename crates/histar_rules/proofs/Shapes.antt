@@ -1,7 +1,7 @@
 -- Changes of threads leave all links as they are.
 use Rattle.std.proofs.Common.{◌≡◌, ℕ, true, None, Some, Option, refl}
 use Rattle.std.specs.FinSet as set
-use Rattle.histar_label.specs.Levels.{Levels}
+use Rattle.histar_level.specs.Levels.{Levels}
 use Rattle.histar_object.specs.declared.objects.Kind.{Kind}
 use Rattle.histar_object.specs.declared.objects.Kind.TheVariants.{Segment, Container, Thread, Gate}
 use Rattle.histar_object.specs.declared.objects.Object.{Object}

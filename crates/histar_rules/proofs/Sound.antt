@@ -6,8 +6,10 @@ use Rattle.std.specs.FinSet as set
 use Rattle.std.specs.Ordering.{nat_cmp}
 use Rattle.std.proofs.lemmas.Bool.{not-true}
 use Rattle.histar_base.specs.Refusals.{unless, ◌orelse◌}
-use Rattle.histar_label.specs.declared.levels.Level.TheVariants.{Star, L0, L1, L2, L3}
-use Rattle.histar_label.specs.Levels.{Levels, constant, with_level, level_of, level_of-constant, level_of-with_level, has_star}
+use Rattle.histar_level.specs.declared.level.Level.TheVariants.{Star, L0, L1, L2, L3}
+use Rattle.histar_level.specs.Levels.{Levels, level_of}
+use Rattle.histar_label.specs.Levels.{constant, with_level, has_star}
+use Rattle.histar_label.proofs.Readers.{level_of-constant, level_of-with_level}
 use Rattle.histar_label.proofs.Made.{is_made-constant, is_made-with_level}
 use Rattle.histar_label.proofs.Stars.{has_star-none}
 use Rattle.histar_object.specs.declared.objects.Kind.TheVariants.{Segment, Container}

@@ -5,10 +5,12 @@ use Rattle.std.specs.Prelude.{option_map, max}
 use Rattle.std.specs.FinSet as set
 use Rattle.std.proofs.lemmas.Bool.Decides.{eqb_tells}
 use Rattle.histar_base.specs.Refusals.{unless, ◌orelse◌}
-use Rattle.histar_label.specs.declared.levels.Level.{Level}
-use Rattle.histar_label.specs.declared.levels.Level.TheVariants.{Star, L0, L1, L2, L3}
-use Rattle.histar_label.specs.Level.{rank, raised, lowered}
-use Rattle.histar_label.specs.Levels.{Levels, level_of, with_level, level_of-with_level, is_below, is_below_join}
+use Rattle.histar_level.specs.declared.level.Level.{Level}
+use Rattle.histar_level.specs.declared.level.Level.TheVariants.{Star, L0, L1, L2, L3}
+use Rattle.histar_level.specs.Level.{rank, raised, lowered}
+use Rattle.histar_level.specs.Levels.{Levels, level_of}
+use Rattle.histar_label.specs.Levels.{with_level, is_below, is_below_join}
+use Rattle.histar_label.proofs.Readers.{level_of-with_level}
 use Rattle.histar_label.specs.Floors.{floor_of}
 use Rattle.histar_label.proofs.Floors.{grades-floor_of}
 use Rattle.histar_label.proofs.Orders.{is_below-law}

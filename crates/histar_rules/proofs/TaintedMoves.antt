@@ -1,8 +1,8 @@
 -- Changes of tainted objects alone leave what is visible as it was.
 use Rattle.std.proofs.Common.{◌≡◌, ◌≢◌, ℕ, true, [], ◌∷◌, None, Some, refl, sym, ap, ◌∙◌, subst, if◌then◌else◌}
 use Rattle.std.specs.FinSet as set
-use Rattle.histar_label.specs.declared.levels.Level.TheVariants.{Star, L3}
-use Rattle.histar_label.specs.Levels.{Levels, level_of}
+use Rattle.histar_level.specs.declared.level.Level.TheVariants.{Star, L3}
+use Rattle.histar_level.specs.Levels.{Levels, level_of}
 use Rattle.histar_object.specs.declared.objects.Object.{Object}
 use Rattle.histar_object.specs.Objects.{Objects, links_in, kind_is_gate}
 use Rattle.histar_object.specs.State.{State, Found}

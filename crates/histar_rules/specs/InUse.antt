@@ -1,6 +1,6 @@
 -- The labels that objects use, in another store than that of their Ids.
 use Rattle.std.specs.Prelude.{◌≡◌, ℕ, ◌<◌, Option, Some, option_map}
-use Rattle.histar_label.specs.Levels.{Levels}
+use Rattle.histar_level.specs.Levels.{Levels}
 use Rattle.histar_label.specs.Store.{label_at}
 use Rattle.histar_object.specs.declared.objects.Object.{Object}
 use Rattle.histar_object.specs.Objects.{Objects, kind_clearance}

@@ -1,6 +1,6 @@
 -- What a raw call answers where it is granted, stated once: each call has its own type of answers.
 use Rattle.std.specs.Prelude.{◌≡◌, ℕ, List, Some}
-use Rattle.histar_label.specs.Levels.{Levels}
+use Rattle.histar_level.specs.Levels.{Levels}
 use Rattle.histar_object.specs.declared.objects.Entry.{Entry}
 use Rattle.histar_object.specs.Objects.{bytes_in, label_there, clearance_there, entry_there}
 use Rattle.histar_object.specs.State.{State}

@@ -2,7 +2,8 @@
 use Rattle.std.specs.Prelude.{◌≡◌, ℕ, ◌+◌, Bool, not, List, ◌++◌, Option, None, Some, length, take, min, nat_lt, nat_le, Result, Ok, Err, ⊤}
 use Rattle.std.specs.FinSet as set
 use Rattle.histar_base.specs.Refusals.{unless, ◌orelse◌}
-use Rattle.histar_label.specs.Levels.{Levels, is_made, has_star}
+use Rattle.histar_level.specs.Levels.{Levels}
+use Rattle.histar_label.specs.Levels.{is_made, has_star}
 use Rattle.histar_object.specs.Objects.{is_present, is_segment, is_container, is_thread, is_gate, thread_of, links_in, bytes_in}
 use Rattle.histar_object.specs.declared.objects.Kind.TheVariants.{Segment, Container}
 use Rattle.histar_object.specs.declared.objects.Kind.TheVariants as gates

@@ -1,6 +1,7 @@
 -- What holds in every state that the kernel reaches.
 use Rattle.std.specs.Prelude.{◌≡◌, ℕ, ◌<◌, true, false, ◌||◌, Some}
-use Rattle.histar_label.specs.Levels.{Levels, is_made, has_star}
+use Rattle.histar_level.specs.Levels.{Levels}
+use Rattle.histar_label.specs.Levels.{is_made, has_star}
 use Rattle.histar_object.specs.declared.objects.Object.{Object}
 use Rattle.histar_object.specs.Objects.{kind_is_segment, kind_is_container, kind_clearance}
 use Rattle.histar_object.specs.State.{State}

@@ -2,9 +2,9 @@
 use Rattle.std.specs.Prelude.{◌≡◌, ◌≢◌, ℕ, ◌<◌, true, List, [], ◌∷◌, None, Some, if◌then◌else◌, nat_lt}
 use Rattle.std.specs.List.{All}
 use Rattle.std.specs.FinSet as set
-use Rattle.histar_label.specs.declared.levels.Level.TheVariants.{Star, L3}
-use Rattle.histar_label.specs.Level.{rank}
-use Rattle.histar_label.specs.Levels.{Levels, level_of}
+use Rattle.histar_level.specs.declared.level.Level.TheVariants.{Star, L3}
+use Rattle.histar_level.specs.Level.{rank}
+use Rattle.histar_level.specs.Levels.{Levels, level_of}
 use Rattle.histar_object.specs.declared.objects.Object.{Object}
 use Rattle.histar_object.specs.Objects.{Objects, links_in, kind_is_thread, kind_is_gate}
 use Rattle.histar_object.specs.State.{State, Found}

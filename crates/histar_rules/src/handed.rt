@@ -13,7 +13,8 @@ pub struct HandedLabel {
 }
 
 impl Model for HandedLabel {
-    ghost use Rattle.histar_label.specs.Levels.{Levels, coded_levels};
+    ghost use Rattle.histar_level.specs.Levels.{Levels};
+    ghost use Rattle.histar_label.specs.Levels.{coded_levels};
 
     ghost Value = { Levels };
 

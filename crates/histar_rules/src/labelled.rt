@@ -2,7 +2,7 @@
 ghost use Rattle.std.specs.Prelude.{◌≡◌, ◌+◌, ◌++◌, ◌<◌, ℕ, List, None, Some, IsTrue, IsSome, IfOk, OnOk, OnErr, take};
 ghost use Rattle.std.specs.Option.{option_copied};
 ghost use Rattle.std.specs.FinSet as set;
-ghost use Rattle.histar_label.specs.Levels.{Levels};
+ghost use Rattle.histar_level.specs.Levels.{Levels};
 ghost use Rattle.histar_label.specs.Store.{label_at, Keeps};
 ghost use Rattle.histar_object.specs.Objects.{objects_of, put, changed_at, with_new, holding, no_objects, thread_of};
 ghost use Rattle.histar_object.specs.Objects.{is_container, is_thread, links_in, bytes_there, bytes_in, label_there};

@@ -7,7 +7,7 @@ use Rattle.histar_flat.specs.declared.calls.UnixCall.TheVariants.{Create, Mkdir,
 use Rattle.histar_flat.specs.declared.replies.Reply.TheVariants as replies
 use Rattle.histar_flat.specs.Accounts.{Accounts}
 use Rattle.histar_flat.specs.Words.{Name, Path, ProcName}
-use Rattle.histar_label.specs.Levels.{Levels}
+use Rattle.histar_level.specs.Levels.{Levels}
 use Rattle.histar_layout.specs.declared.entry.Target.TheVariants.{File, Directory}
 use Rattle.histar_rules.specs.declared.raw.RawCall.TheVariants.{LabelOf, MakeCategory, MakeContainer, MakeSegment, OwnLabel, SetClearance, SetLabel}
 use Rattle.histar_layout.specs.declared.shown.ShownClass.{ShownClass}

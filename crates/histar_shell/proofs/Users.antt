@@ -13,7 +13,7 @@ use Rattle.histar_flat.specs.declared.calls.User.{User}
 use Rattle.histar_flat.specs.declared.calls.UnixCall.{UnixCall}
 use Rattle.histar_flat.specs.Words.{Name, is_name, is_user_name, begins_with_letter}
 use Rattle.histar_flat.specs.Accounts.{Group, Accounts, is_member, user_number}
-use Rattle.histar_flat.specs.PathOrder.{same}
+use Rattle.histar_base.specs.Paths.{same}
 use Rattle.histar_flat.specs.Classes.{nobody}
 use Rattle.histar_flat.specs.declared.calls.CallLine.{CallLine}
 use Rattle.histar_script.specs.declared.items.Item.{Item}

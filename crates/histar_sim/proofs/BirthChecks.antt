@@ -4,7 +4,8 @@ use Rattle.std.specs.Prelude.{not, min, nat_lt}
 use Rattle.std.specs.FinSet as set
 use Rattle.std.proofs.lemmas.Bool.{and_from}
 use Rattle.histar_base.specs.Refusals.{◌orelse◌, unless}
-use Rattle.histar_label.specs.Levels.{Levels, is_below, is_below_raised, is_below_join_raised, is_made, has_star}
+use Rattle.histar_level.specs.Levels.{Levels}
+use Rattle.histar_label.specs.Levels.{is_below, is_below_raised, is_below_join_raised, is_made, has_star}
 use Rattle.histar_object.specs.declared.objects.Kind.TheVariants.{Segment, Container, Thread}
 use Rattle.histar_object.specs.declared.objects.Object.{Object}
 use Rattle.histar_object.specs.Objects.{thread_of, is_thread}

@@ -10,8 +10,9 @@ use Rattle.histar_flat.specs.Words.{ProcName}
 use Rattle.histar_flat.specs.Accounts.{Accounts}
 use Rattle.histar_flat.specs.FlatState.{Flat}
 use Rattle.histar_base.specs.Refusals.{unless}
-use Rattle.histar_label.specs.declared.levels.Level.TheVariants.{Star, L3}
-use Rattle.histar_label.specs.Levels.{Levels, with_level, is_below, is_below_raised}
+use Rattle.histar_level.specs.declared.level.Level.TheVariants.{Star, L3}
+use Rattle.histar_level.specs.Levels.{Levels}
+use Rattle.histar_label.specs.Levels.{with_level, is_below, is_below_raised}
 use Rattle.histar_object.specs.declared.objects.Kind.TheVariants.{Segment, Container, Thread}
 use Rattle.histar_object.specs.Objects.{thread_of}
 use Rattle.histar_container.proofs.TableMoves.{changed_here}

@@ -15,7 +15,8 @@ use Rattle.histar_flat.specs.Classes.{Process}
 use Rattle.histar_flat.specs.FlatState.{Flat}
 use Rattle.histar_flat.specs.FlatCalls.{refused}
 use Rattle.histar_flat.proofs.CommonNeeds.{no_child}
-use Rattle.histar_label.specs.Levels.{Levels, is_below_raised}
+use Rattle.histar_level.specs.Levels.{Levels}
+use Rattle.histar_label.specs.Levels.{is_below_raised}
 use Rattle.histar_object.specs.Objects.{bytes_in, is_thread, label_there, clearance_there}
 use Rattle.histar_object.specs.State.{State}
 use Rattle.histar_rules.specs.declared.raw.Denied.TheVariants.{NoThread, Observe}

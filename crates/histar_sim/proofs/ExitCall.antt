@@ -11,7 +11,8 @@ use Rattle.histar_flat.specs.Accounts.{Accounts}
 use Rattle.histar_flat.specs.Classes.{Process, sees}
 use Rattle.histar_flat.specs.FlatState.{Flat}
 use Rattle.histar_flat.specs.FlatCalls.{changed}
-use Rattle.histar_label.specs.Levels.{Levels, is_below, is_below_raised}
+use Rattle.histar_level.specs.Levels.{Levels}
+use Rattle.histar_label.specs.Levels.{is_below, is_below_raised}
 use Rattle.histar_object.specs.declared.objects.Kind.TheVariants.{Segment, Container, Thread}
 use Rattle.histar_object.specs.Objects.{Numbers as Links, holding}
 use Rattle.histar_object.specs.State.{State, with_segment_bytes}

@@ -5,13 +5,14 @@ use Rattle.std.specs.FinSet as set
 use mathlib.Core.Bool.{true≢false}
 use Rattle.histar_base.specs.Refusals.{◌orelse◌, unless}
 use Rattle.histar_flat.specs.Words.{Name, Path, ProcName}
-use Rattle.histar_flat.specs.PathOrder.{same}
+use Rattle.histar_base.specs.Paths.{same}
+use Rattle.histar_level.specs.Levels.{Levels}
 use Rattle.histar_flat.specs.Accounts.{Accounts, user_number}
 use Rattle.histar_flat.specs.Files.{get}
 use Rattle.histar_flat.specs.Classes.{Class, Process, nobody, may_read, may_write}
 use Rattle.histar_flat.specs.FlatState.{Flat, Node, is_some_and, is_dir_at, bytes_of, bytes_at, reads, writes, into}
 use Rattle.histar_flat.specs.FlatState.Content.{Dir, File}
-use Rattle.histar_label.specs.Levels.{Levels, is_below, is_below_raised}
+use Rattle.histar_label.specs.Levels.{is_below, is_below_raised}
 use Rattle.histar_object.specs.declared.objects.Kind.TheVariants.{Container, Thread}
 use Rattle.histar_object.specs.declared.objects.Object.{Object}
 use Rattle.histar_object.specs.Objects.{links_in, bytes_in}

@@ -8,8 +8,9 @@ use Rattle.histar_flat.specs.Accounts.{Accounts, has, user_number}
 use Rattle.histar_flat.specs.Classes.{Process}
 use Rattle.histar_flat.specs.FlatState.{Flat}
 use Rattle.histar_flat.proofs.GivenNames.{longer_has}
-use Rattle.histar_label.specs.declared.levels.Level.TheVariants.{Star, L3}
-use Rattle.histar_label.specs.Levels.{Levels, with_level, is_below, is_below_raised, is_made}
+use Rattle.histar_level.specs.declared.level.Level.TheVariants.{Star, L3}
+use Rattle.histar_level.specs.Levels.{Levels}
+use Rattle.histar_label.specs.Levels.{with_level, is_below, is_below_raised, is_made}
 use Rattle.histar_object.specs.declared.objects.Kind.TheVariants.{Thread}
 use Rattle.histar_object.specs.Objects.{Objects}
 use Rattle.histar_rules.specs.Rights.{with_category}

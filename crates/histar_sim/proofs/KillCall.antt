@@ -12,14 +12,15 @@ use Rattle.histar_flat.specs.declared.replies.Errno.{Errno}
 use Rattle.histar_flat.specs.declared.replies.Errno.TheVariants.{EACCES}
 use Rattle.histar_flat.specs.declared.replies.Reply.{Reply}
 use Rattle.histar_flat.specs.declared.replies.Reply.TheVariants.{Done}
-use Rattle.histar_flat.specs.PathOrder.{same}
+use Rattle.histar_base.specs.Paths.{same}
+use Rattle.histar_level.specs.Levels.{Levels}
 use Rattle.histar_flat.specs.Words.{ProcName}
 use Rattle.histar_flat.specs.Accounts.{Accounts, user_number, groups_of}
 use Rattle.histar_flat.specs.Classes.{Process, is_free, sees}
 use Rattle.histar_flat.specs.FlatState.{Flat, without_process}
 use Rattle.histar_flat.specs.FlatCalls.{not_found, refused}
 use Rattle.histar_flat.proofs.FileLemmas.{same_name_found}
-use Rattle.histar_label.specs.Levels.{Levels, is_below, is_below_raised}
+use Rattle.histar_label.specs.Levels.{is_below, is_below_raised}
 use Rattle.histar_object.specs.declared.objects.Kind.TheVariants.{Container}
 use Rattle.histar_object.specs.Objects.{Numbers as Links, links_in}
 use Rattle.histar_object.specs.State.{State, Found, with_segment_bytes}

@@ -12,7 +12,7 @@ use Rattle.histar_flat.specs.Classes.{Process}
 use Rattle.histar_flat.specs.FlatState.{Flat, without_process}
 use Rattle.histar_flat.proofs.FileLemmas.{same_name_found}
 use Rattle.histar_flat.proofs.Under.{under_itself, above_is_not_under}
-use Rattle.histar_label.specs.Levels.{Levels}
+use Rattle.histar_level.specs.Levels.{Levels}
 use Rattle.histar_layout.specs.declared.status.Child.{Child as Listed}
 use Rattle.histar_layout.specs.Status.{status_bytes, without_child}
 use Rattle.histar_object.specs.declared.objects.Kind.TheVariants.{Segment, Container, Thread}

@@ -13,12 +13,12 @@ use Rattle.histar_flat.specs.declared.replies.Errno.TheVariants.{ENOENT, EACCES,
 use Rattle.histar_flat.specs.declared.replies.Reply.{Reply}
 use Rattle.histar_flat.specs.declared.replies.Reply.TheVariants.{Done, Refused}
 use Rattle.histar_flat.specs.Words.{Name, Password, ProcName}
-use Rattle.histar_flat.specs.PathOrder.{same}
+use Rattle.histar_base.specs.Paths.{same}
+use Rattle.histar_level.specs.Levels.{Levels}
 use Rattle.histar_flat.specs.Accounts.{Accounts, user_named, user_number}
 use Rattle.histar_flat.specs.Classes.{Process, is_free}
 use Rattle.histar_flat.specs.FlatState.{Flat, is_some_and, with_process}
 use Rattle.histar_flat.specs.FlatCalls.{refused}
-use Rattle.histar_label.specs.Levels.{Levels}
 use Rattle.histar_label.specs.Floors.{join_of, floor_of}
 use Rattle.histar_object.specs.Objects.{thread_of, is_thread, label_there, clearance_there, bytes_in}
 use Rattle.histar_rules.specs.Rights.{with_label, with_clearance, with_changed}

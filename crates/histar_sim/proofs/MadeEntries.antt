@@ -20,7 +20,7 @@ use Rattle.histar_flat.specs.Classes.{Class, Process, class_made, may_write}
 use Rattle.histar_flat.specs.FlatState.{Flat, Content, entries_in, with_node, into}
 use Rattle.histar_flat.specs.FlatCalls as flat
 use Rattle.histar_flat.specs.FlatCalls.{refused, changed, most_entries, class_or_open}
-use Rattle.histar_label.specs.Levels.{Levels}
+use Rattle.histar_level.specs.Levels.{Levels}
 use Rattle.histar_object.specs.Objects.{label_there}
 use Rattle.histar_object.specs.State.{State, with_segment_bytes}
 use Rattle.histar_rules.specs.declared.raw.Denied.{Denied}

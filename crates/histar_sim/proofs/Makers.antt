@@ -11,7 +11,7 @@ use Rattle.histar_flat.specs.Accounts.{Accounts, group_number, is_member, user_n
 use Rattle.histar_flat.specs.Classes.{Class, Process, is_free, free_class, class_made, may_read, may_write}
 use Rattle.histar_flat.specs.Classes.Class.{Private, Readable, Open, Scratch, Grouped}
 use Rattle.histar_flat.specs.FlatState.{Flat}
-use Rattle.histar_label.specs.Levels.{Levels}
+use Rattle.histar_level.specs.Levels.{Levels}
 use Rattle.histar_object.specs.State.{State}
 use Rattle.histar_layout.specs.Jobs.{jobs_in}
 use Rattle.histar_layout.specs.Categories.{read_category, write_category, group_owner, user_of, file_label, scratch_label, label_made}

@@ -17,7 +17,7 @@ use Rattle.histar_flat.specs.Classes.{Process, may_write}
 use Rattle.histar_flat.specs.FlatState.{Flat, entries_in, into}
 use Rattle.histar_flat.specs.FlatState.Content.{Dir}
 use Rattle.histar_flat.specs.FlatCalls.{most_entries}
-use Rattle.histar_label.specs.Levels.{Levels}
+use Rattle.histar_level.specs.Levels.{Levels}
 use Rattle.histar_object.specs.declared.objects.Kind.TheVariants.{Segment, Container}
 use Rattle.histar_object.specs.declared.objects.Object.{Object}
 use Rattle.histar_object.specs.State.{State, Found, with_object, in_range}

@@ -9,8 +9,9 @@ use Rattle.histar_flat.specs.Accounts.{Accounts, has, user_number}
 use Rattle.histar_flat.specs.Classes.{Process, may_write}
 use Rattle.histar_flat.specs.FlatState.{Flat, into}
 use Rattle.histar_flat.specs.FlatState.Content.{Dir}
-use Rattle.histar_label.specs.declared.levels.Level.TheVariants.{Star, L3}
-use Rattle.histar_label.specs.Levels.{Levels, with_level, is_below, is_below_raised}
+use Rattle.histar_level.specs.declared.level.Level.TheVariants.{Star, L3}
+use Rattle.histar_level.specs.Levels.{Levels}
+use Rattle.histar_label.specs.Levels.{with_level, is_below, is_below_raised}
 use Rattle.histar_layout.specs.Directory.{spelling}
 use Rattle.histar_object.specs.declared.objects.Kind.TheVariants.{Segment, Container, Thread}
 use Rattle.histar_object.specs.declared.objects.Object.{Object}

@@ -9,8 +9,9 @@ use Rattle.histar_flat.specs.Accounts.{Accounts, user_number}
 use Rattle.histar_flat.specs.Classes.{Class, Process, may_write}
 use Rattle.histar_flat.specs.FlatState.{Flat, into}
 use Rattle.histar_flat.specs.FlatState.Content.{Dir}
-use Rattle.histar_label.specs.declared.levels.Level.TheVariants.{Star, L3}
-use Rattle.histar_label.specs.Levels.{Levels, with_level}
+use Rattle.histar_level.specs.declared.level.Level.TheVariants.{Star, L3}
+use Rattle.histar_level.specs.Levels.{Levels}
+use Rattle.histar_label.specs.Levels.{with_level}
 use Rattle.histar_object.specs.declared.objects.Kind.TheVariants.{Container, Thread}
 use Rattle.histar_object.specs.Objects.{Numbers as Links, is_container}
 use Rattle.histar_rules.specs.Rights.{with_star_at, with_label, with_changed, with_category}

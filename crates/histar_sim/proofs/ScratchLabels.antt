@@ -11,8 +11,9 @@ use Rattle.histar_flat.specs.Files.{get}
 use Rattle.histar_flat.specs.Classes.{Process, may_write}
 use Rattle.histar_flat.specs.FlatState.{Flat, Node}
 use Rattle.histar_flat.proofs.GivenNames.{longer_has}
-use Rattle.histar_label.specs.declared.levels.Level.TheVariants.{Star, L3}
-use Rattle.histar_label.specs.Levels.{Levels, with_level, is_below, is_below_raised, is_made}
+use Rattle.histar_level.specs.declared.level.Level.TheVariants.{Star, L3}
+use Rattle.histar_level.specs.Levels.{Levels}
+use Rattle.histar_label.specs.Levels.{with_level, is_below, is_below_raised, is_made}
 use Rattle.histar_object.specs.State.{State}
 use Rattle.histar_layout.specs.Categories.{read_category, scratch_label}
 use Rattle.histar_layout.specs.Jobs.{jobs_in}

@@ -17,7 +17,7 @@ use Rattle.histar_flat.specs.Classes.{Class, Process}
 use Rattle.histar_flat.specs.FlatState.{Flat, Node, Content, is_some_and, is_dir, is_dir_at, into}
 use Rattle.histar_flat.specs.FlatState.Content.{Dir, File}
 use Rattle.histar_flat.specs.FlatCalls.{refused, stat_reply}
-use Rattle.histar_label.specs.Levels.{Levels}
+use Rattle.histar_level.specs.Levels.{Levels}
 use Rattle.histar_object.specs.Objects.{label_there}
 use Rattle.histar_object.specs.State.{State}
 use Rattle.histar_rules.specs.declared.raw.RawCall.{RawCall}

@@ -18,7 +18,8 @@ use Rattle.histar_flat.specs.FlatState.{Flat, Node, Content, is_some_and, is_dir
 use Rattle.histar_flat.specs.FlatState.Content.{Dir}
 use Rattle.histar_flat.specs.FlatCalls as flat
 use Rattle.histar_flat.specs.FlatCalls.{refused, changed}
-use Rattle.histar_label.specs.Levels.{Levels, is_below, is_below_raised}
+use Rattle.histar_level.specs.Levels.{Levels}
+use Rattle.histar_label.specs.Levels.{is_below, is_below_raised}
 use Rattle.histar_object.specs.declared.objects.Kind.TheVariants.{Segment, Container, Thread}
 use Rattle.histar_object.specs.Objects.{Numbers as Links, is_container, links_in, unlinking}
 use Rattle.histar_object.specs.State.{State, Found, with_segment_bytes}

@@ -9,14 +9,14 @@ use Rattle.histar_flat.specs.declared.replies.Errno.TheVariants.{EACCES, EPERM, 
 use Rattle.histar_flat.specs.declared.replies.Reply.{Reply}
 use Rattle.histar_flat.specs.declared.replies.Reply.TheVariants.{Child, Refused}
 use Rattle.histar_flat.specs.Words.{Name, Path, ProcName, is_name, is_path, most_children, most_numbers}
-use Rattle.histar_flat.specs.PathOrder.{same}
+use Rattle.histar_base.specs.Paths.{same}
+use Rattle.histar_level.specs.Levels.{Levels}
 use Rattle.histar_flat.specs.Accounts.{Accounts, user_number}
 use Rattle.histar_flat.specs.Classes.{Process, nobody, may_write}
 use Rattle.histar_flat.specs.Files.{get}
 use Rattle.histar_flat.specs.FlatState.{Flat, entries_in, into}
 use Rattle.histar_flat.specs.FlatCalls.{most_entries, refused}
 use Rattle.histar_flat.proofs.CommonNeeds.{no_room}
-use Rattle.histar_label.specs.Levels.{Levels}
 use Rattle.histar_rules.specs.Rights.{with_category, with_label, with_changed}
 use Rattle.histar_object.specs.State.{State, with_object}
 use Rattle.histar_rules.specs.declared.raw.Denied.{Denied}

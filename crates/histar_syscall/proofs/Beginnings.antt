@@ -2,8 +2,9 @@
 use Rattle.std.proofs.Common.{◌≡◌, ◌==◌, Bool, true, false, None, Some, refl, ◌∙◌, if◌then◌else◌}
 use Rattle.std.specs.Prelude.{option_map}
 use Rattle.std.specs.FinSet as set
-use Rattle.histar_label.specs.declared.levels.Level.TheVariants.{L0, L1}
-use Rattle.histar_label.specs.Levels.{Levels, constant, with_level}
+use Rattle.histar_level.specs.declared.level.Level.TheVariants.{L0, L1}
+use Rattle.histar_level.specs.Levels.{Levels}
+use Rattle.histar_label.specs.Levels.{constant, with_level}
 use Rattle.histar_object.specs.declared.objects.Kind.TheVariants.{Container}
 use Rattle.histar_object.specs.declared.objects.Object.{Object}
 use Rattle.histar_object.specs.Objects.{no_objects, linking}

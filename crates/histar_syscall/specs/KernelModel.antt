@@ -4,7 +4,7 @@ use Rattle.std.specs.FinSet as set
 use Rattle.std.specs.Borrow.{RattleType, Bor, MutBor, Fml, follows_so}
 use mathlib.Core.Option.{none}
 use Rattle.std.specs.Coded.{Coded, code_by, coded×, coded_ℕ, coded_list}
-use Rattle.histar_label.specs.Levels.{Levels}
+use Rattle.histar_level.specs.Levels.{Levels}
 use Rattle.histar_container.specs.ObjectsModel.{ObjectsModel, coded_objects_model, state_of}
 use Rattle.histar_object.specs.Objects.{links_in, bytes_in}
 use Rattle.histar_object.specs.State.{State}

@@ -1,7 +1,7 @@
 //! The objects of the empty kernel.
 ghost use Rattle.std.specs.Prelude.{◌≡◌, ◌+◌, ◌<◌, IfOk, OnOk};
 ghost use Rattle.std.specs.FinSet as set;
-ghost use Rattle.histar_label.specs.declared.levels.Level.TheVariants.{L0, L1};
+ghost use Rattle.histar_level.specs.declared.level.Level.TheVariants.{L0, L1};
 ghost use Rattle.histar_label.specs.Levels.{constant, with_level};
 ghost use Rattle.histar_object.specs.declared.objects.Kind.TheVariants as kinds;
 ghost use Rattle.histar_object.specs.State.{boot_thread, empty_state, with_next, with_object};

@@ -1,6 +1,6 @@
 //! The kernel and its raw calls.
 ghost use Rattle.std.specs.Prelude.{◌≡◌, [], Some, IfOk, length};
-ghost use Rattle.histar_label.specs.Levels.{Levels};
+ghost use Rattle.histar_level.specs.Levels.{Levels};
 ghost use Rattle.std.specs.Option.{option_copied};
 ghost use Rattle.histar_object.specs.Objects.{objects_of, bytes_in, clearance_there, is_container, is_thread, label_there};
 ghost use Rattle.histar_object.specs.State.{empty_state};

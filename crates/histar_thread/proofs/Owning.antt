@@ -1,7 +1,8 @@
 -- The categories that a thread owns after it made one.
 use Rattle.std.proofs.Common.{◌≡◌, ℕ, ◌+◌, None, Some, true, refl, sym, ap, ◌∙◌}
-use Rattle.histar_label.specs.declared.levels.Level.TheVariants.{Star, L3}
-use Rattle.histar_label.specs.Levels.{Levels, with_level}
+use Rattle.histar_level.specs.declared.level.Level.TheVariants.{Star, L3}
+use Rattle.histar_level.specs.Levels.{Levels}
+use Rattle.histar_label.specs.Levels.{with_level}
 use Rattle.histar_object.specs.declared.objects.Kind.{Kind}
 use Rattle.histar_object.specs.declared.objects.Kind.TheVariants.{Segment, Container, Thread, Gate}
 use Rattle.histar_object.specs.Objects.{Objects, put, changed_at, thread_of, label_there, clearance_there, is_thread, kind_is_thread, kind_clearance}

@@ -1,6 +1,6 @@
 //! The calls of a thread on itself, and the call that makes a thread.
 ghost use Rattle.std.specs.Prelude.{◌≡◌, ◌<◌, IfOk, Some};
-ghost use Rattle.histar_label.specs.Levels.{Levels};
+ghost use Rattle.histar_level.specs.Levels.{Levels};
 ghost use Rattle.histar_object.specs.Objects.{objects_of, thread_of};
 ghost use Rattle.histar_container.specs.ObjectsModel.{state_of};
 ghost use Rattle.histar_rules.specs.Rules.{check, FailsAt, Decides, DecidesAs};

@@ -4,8 +4,9 @@ use Rattle.std.specs.Prelude.{◌==◌, option_map}
 use denote.Enum.Bare.{sameb}
 use Rattle.std.specs.Cmp.Lexicographic.{pointwise}
 use Rattle.std.proofs.lemmas.Option.{get_or_from_slice_get, slice_get-map, slice_get_within}
-use Rattle.histar_label.specs.contracts.levels.Level.{the_type}
-use Rattle.histar_label.specs.Same.{same_label}
+use Rattle.histar_level.specs.contracts.level.Level.{the_type}
+use Rattle.histar_level.specs.Levels.{Levels, default_of, exceptions_of}
+use Rattle.histar_level.proofs.Equality.{same_label}
 use Rattle.histar_label.proofs.Canonical.{exceptions_of-from_exceptions}
 use Rattle.histar_label.proofs.Equal.{is_same-from_exceptions}
 use Rattle.histar_label.proofs.Listed.{IsRising-exceptions_of, ListsExceptions-exceptions_of}
@@ -13,9 +14,10 @@ use Rattle.std.proofs.lemmas.List.Elements.{Contains-get_or}
 use Rattle.std.specs.List.{All, slice_get, slice_range}
 use Rattle.std.proofs.lemmas.List.{drop-append-le, drop_at, length-append, length-drop, map-append, take-append-le, take_all}
 use Rattle.std.proofs.lemmas.List.Elements.{All-append, All-cons, All-head, All-tail, All-weaker}
-use Rattle.histar_label.specs.declared.levels.Level.{Level}
+use Rattle.histar_level.specs.declared.level.Level.{Level}
 use Rattle.histar_label.specs.Exceptions.{Exceptions, IsCanonical}
-use Rattle.histar_label.specs.Levels.{Levels, default_of, default_of-from_exceptions, exceptions_of, from_exceptions}
+use Rattle.histar_label.proofs.Readers.{default_of-from_exceptions}
+use Rattle.histar_label.specs.Levels.{from_exceptions}
 use Rattle.histar_label.specs.Store.{Keeps}
 use Rattle.histar_label.proofs.Floors.{from_exceptions-of}
 use Rattle.histar_trace.specs.declared.labels.KeptLabel.{KeptLabel}

@@ -4,7 +4,7 @@ use Rattle.std.specs.Prelude.{is_some, option_map}
 use Rattle.std.proofs.lemmas.Option.{slice_get-map}
 use Rattle.std.specs.List.{All, slice_get}
 use Rattle.std.proofs.lemmas.List.Elements.{All-head, All-tail, All-weaker}
-use Rattle.histar_label.specs.Levels.{Levels}
+use Rattle.histar_level.specs.Levels.{Levels}
 use Rattle.histar_label.specs.Store.{Keeps}
 use Rattle.histar_label.proofs.Stands.{label_at-Keeps}
 use Rattle.histar_rules.specs.declared.raw.RawCall.{RawCall}

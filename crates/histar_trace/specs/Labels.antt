@@ -1,7 +1,8 @@
 -- Labels as a trace keeps them: with the exceptions of all labels in one list.
 use Rattle.std.specs.Prelude.{◌≤◌, length, slice_range}
 use Rattle.histar_label.specs.Exceptions.{Exceptions, IsCanonical}
-use Rattle.histar_label.specs.Levels.{Levels, from_exceptions}
+use Rattle.histar_level.specs.Levels.{Levels}
+use Rattle.histar_label.specs.Levels.{from_exceptions}
 use Rattle.histar_trace.specs.declared.labels.KeptLabel.{KeptLabel}
 
 -- the exceptions of a kept label, in the list of those of all labels

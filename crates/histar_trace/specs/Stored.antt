@@ -1,6 +1,6 @@
 -- Raw calls as a trace keeps them, and the raw calls that they stand for.
 use Rattle.std.specs.Prelude.{ℕ, List, [], IsSome, slice_get, unwrap_or}
-use Rattle.histar_label.specs.Levels.{Levels}
+use Rattle.histar_level.specs.Levels.{Levels}
 use Rattle.histar_label.specs.Store.{label_at}
 use Rattle.histar_rules.specs.declared.raw.RawCall.{RawCall}
 use Rattle.histar_rules.specs.declared.raw.RawCall.TheVariants as calls

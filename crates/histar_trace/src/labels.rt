@@ -48,7 +48,8 @@ pub(crate) struct TraceLabels {
 impl Model for TraceLabels {
     ghost use Rattle.std.specs.Prelude.{List, All, map};
     ghost use Rattle.std.specs.Coded.{coded_list};
-    ghost use Rattle.histar_label.specs.Levels.{Levels, coded_levels};
+    ghost use Rattle.histar_level.specs.Levels.{Levels};
+    ghost use Rattle.histar_label.specs.Levels.{coded_levels};
     ghost use Rattle.histar_trace.specs.Labels.{HasExceptions, label_kept};
 
     ghost Value = { List Levels };

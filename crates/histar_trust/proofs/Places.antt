@@ -4,7 +4,7 @@ use Rattle.std.proofs.Common.{ap, sym, ◌∙◌, subst, inl, inr}
 use Rattle.std.specs.FinMap.{find}
 use Rattle.std.specs.Ordering.{eq_by_cmp}
 use Rattle.histar_flat.specs.Words.{Path, ProcName}
-use Rattle.histar_flat.specs.PathOrder.{path_cmp, same_path}
+use Rattle.histar_base.specs.Paths.{path_cmp, same_path}
 use Rattle.histar_flat.specs.Accounts.{Accounts}
 use Rattle.histar_flat.specs.Files.{get}
 use Rattle.histar_flat.specs.Classes.{Class as FlatClass}

@@ -2,8 +2,9 @@
 use Rattle.std.proofs.Common.{◌≡◌, ℕ, [], Result, Ok, Err, subst}
 use Rattle.std.specs.FinMap as map
 use Rattle.std.specs.Result.{IsErrAnd}
-use Rattle.histar_label.specs.declared.levels.Level.TheVariants.{Star, L3}
-use Rattle.histar_label.specs.Levels.{Levels, with_level}
+use Rattle.histar_level.specs.declared.level.Level.TheVariants.{Star, L3}
+use Rattle.histar_level.specs.Levels.{Levels}
+use Rattle.histar_label.specs.Levels.{with_level}
 use Rattle.histar_rules.specs.declared.raw.RawCall.TheVariants.{MakeContainer, MakeSegment, SetLabel, SetClearance, Write}
 use Rattle.histar_syscall.specs.KernelModel.{KernelModel}
 use Rattle.histar_layout.specs.Directory.{Entries, spelling}

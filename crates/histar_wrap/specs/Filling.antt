@@ -2,7 +2,7 @@
 use Rattle.std.specs.Prelude.{◌≡◌, ℕ, List, Some, Result}
 use Rattle.histar_flat.specs.Accounts.{Accounts}
 use Rattle.histar_flat.specs.Words.{Path}
-use Rattle.histar_label.specs.Levels.{Levels}
+use Rattle.histar_level.specs.Levels.{Levels}
 use Rattle.histar_rules.specs.declared.raw.RawCall.TheVariants.{MakeCategory, OwnLabel}
 use Rattle.histar_syscall.specs.KernelModel.{KernelModel}
 use Rattle.histar_layout.specs.Status.{ProcessStatus, status_in}

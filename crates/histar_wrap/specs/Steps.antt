@@ -1,6 +1,6 @@
 -- How a wrap gives its category up, in the steps of its code.
 use Rattle.std.specs.Prelude.{Result, Ok, Err}
-use Rattle.histar_label.specs.Levels.{Levels}
+use Rattle.histar_level.specs.Levels.{Levels}
 use Rattle.histar_rules.specs.declared.raw.RawCall.{RawCall}
 use Rattle.histar_rules.specs.declared.raw.RawCall.TheVariants.{SetLabel, SetClearance}
 use Rattle.histar_rules.specs.declared.raw.Refusal.{Refusal}

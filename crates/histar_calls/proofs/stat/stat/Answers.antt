@@ -3,7 +3,7 @@ use Rattle.std.proofs.Common.{ℕ, None, Some, Ok, Err, sym, ap, ◌∙◌}
 use Rattle.histar_flat.specs.Accounts.{Accounts}
 use Rattle.histar_flat.specs.Words.{Path}
 use Rattle.histar_flat.specs.declared.replies.Reply.TheVariants.{Stats}
-use Rattle.histar_label.specs.Levels.{Levels}
+use Rattle.histar_level.specs.Levels.{Levels}
 use Rattle.histar_rules.specs.declared.raw.RawCall.{RawCall}
 use Rattle.histar_rules.specs.declared.raw.RawCall.TheVariants.{LabelOf}
 use Rattle.histar_syscall.specs.KernelModel.{KernelModel}

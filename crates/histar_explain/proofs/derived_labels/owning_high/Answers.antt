@@ -1,8 +1,9 @@
 -- Proves the goals of `owning_high` of src/derived_labels.rt that the search leaves open.
 use Rattle.std.proofs.Common.{◌≡◌, ℕ, ◌+◌, ◌<◌, List, [], ◌∷◌, ◌++◌, length, get_or, take, refl, sym, ap, ◌∙◌}
 use Rattle.std.proofs.lemmas.List.{take_more, take_all}
-use Rattle.histar_label.specs.declared.levels.Level.{Level}
-use Rattle.histar_label.specs.Levels.{Levels, level_of, default_of, constant, with_level, refilled}
+use Rattle.histar_level.specs.declared.level.Level.{Level}
+use Rattle.histar_level.specs.Levels.{Levels, level_of, default_of}
+use Rattle.histar_label.specs.Levels.{constant, with_level, refilled}
 use Rattle.histar_explain.specs.Tests.{high, owning_high}
 use Rattle.histar_explain.proofs.derived_labels.owning_high.Goals as goal
 

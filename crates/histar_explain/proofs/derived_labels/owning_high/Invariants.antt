@@ -1,6 +1,7 @@
 -- The invariants and measures of `owning_high` of src/derived_labels.rt.
 use Rattle.std.proofs.Common.{◌≡◌, take}
-use Rattle.histar_label.specs.Levels.{level_of, default_of, constant, refilled}
+use Rattle.histar_level.specs.Levels.{level_of, default_of}
+use Rattle.histar_label.specs.Levels.{constant, refilled}
 use Rattle.histar_explain.specs.Tests.{high}
 use Rattle.histar_explain.proofs.derived_labels.owning_high.Given as goal
 

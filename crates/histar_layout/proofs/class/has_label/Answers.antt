@@ -1,7 +1,7 @@
 -- Proves the goals of `has_label` of src/class.rt that the search leaves open.
 use Rattle.std.proofs.Common.{◌≡◌, Some, sym, ap, ◌∙◌}
 use Rattle.std.proofs.lemmas.Option.{same_Some}
-use Rattle.histar_label.specs.Same.{same_label, own_label}
+use Rattle.histar_level.proofs.Equality.{same_label, own_label}
 use Rattle.histar_layout.specs.ClassLabels.{class_label}
 use Rattle.histar_layout.proofs.class.has_label.Goals as goal
 

@@ -1,5 +1,5 @@
 -- Proves the goals of `guarded_by` of src/labels.rt that the search leaves open.
-use Rattle.histar_label.specs.declared.levels.Level.TheVariants.{L1, L0, L3}
+use Rattle.histar_level.specs.declared.level.Level.TheVariants.{L1, L0, L3}
 use Rattle.histar_layout.specs.Labelling.{each_at}
 use Rattle.histar_layout.proofs.LabellingLemmas.{made_by_both}
 use Rattle.histar_layout.proofs.labels.guarded_by.Goals as goal

@@ -1,6 +1,7 @@
 -- Proves the goals of `label_of` of src/labels.rt that the search leaves open.
 use Rattle.std.proofs.Common.{ap, sym, ◌∙◌}
-use Rattle.histar_label.specs.Levels.{Levels, with_level}
+use Rattle.histar_level.specs.Levels.{Levels}
+use Rattle.histar_label.specs.Levels.{with_level}
 use Rattle.histar_layout.proofs.LabellingLemmas.{labelled_next}
 use Rattle.histar_layout.proofs.labels.label_of.Goals as goal
 

@@ -1,7 +1,7 @@
 -- Proves the goals of `user_of` of src/labels.rt that the search leaves open.
 use Rattle.std.proofs.Common.{arith, sym, ap, ◌∙◌}
-use Rattle.histar_label.specs.Level.{is_star}
-use Rattle.histar_label.specs.Levels.{level_of}
+use Rattle.histar_level.specs.Level.{is_star}
+use Rattle.histar_level.specs.Levels.{level_of}
 use Rattle.histar_layout.proofs.OneUser.{earlier}
 use Rattle.histar_layout.proofs.labels.user_of.Goals as goal
 

@@ -1,7 +1,7 @@
 -- Proves the goals of `is_before` of src/lookup.rt that the search leaves open.
 use Rattle.std.proofs.Common.{◌≡◌, ℕ, ◌+◌, ◌-◌, ◌≤◌, List, Bool, length, get_or, sym, ap, ◌∙◌, arith}
 use Rattle.std.specs.Prelude.{slice_range}
-use Rattle.histar_flat.specs.PathOrder.{same}
+use Rattle.histar_base.specs.Paths.{same}
 use Rattle.histar_layout.proofs.LookingUp.{other_bytes, same_bytes}
 use Rattle.histar_layout.proofs.lookup.is_before.Goals as goal
 

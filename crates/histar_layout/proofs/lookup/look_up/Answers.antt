@@ -2,7 +2,7 @@
 use Rattle.std.proofs.Common.{◌≡◌, ℕ, ◌+◌, ◌-◌, ◌<◌, List, Bool, Some, length, get_or, sym, ap, ◌∙◌, arith}
 use Rattle.std.specs.Prelude.{slice_get, slice_range}
 use Rattle.std.proofs.lemmas.Option.{slice_get-get_or}
-use Rattle.histar_flat.specs.PathOrder.{same}
+use Rattle.histar_base.specs.Paths.{same}
 use Rattle.histar_layout.proofs.LookingUp.{all_left, found_there, left_over}
 use Rattle.histar_layout.proofs.LookingUp.{stepped_over, out_of_reach, found_in_directory, has_bytes}
 use Rattle.histar_layout.proofs.lookup.look_up.Goals as goal

@@ -2,7 +2,7 @@
 use Rattle.std.proofs.Common.{◌≡◌, ℕ, ◌+◌, ◌<◌, ◌≤◌, length, get_or, [], arith, sym, ap, ◌∙◌, subst}
 use Rattle.std.specs.Prelude.{◌&&◌}
 use Rattle.std.proofs.lemmas.Option.{get_or_from_slice_get, slice_get-get_or}
-use Rattle.histar_label.specs.Levels.{level_of}
+use Rattle.histar_level.specs.Levels.{level_of}
 use Rattle.histar_layout.specs.Categories.{read_category, write_category}
 use Rattle.histar_layout.specs.ShownClass.{class_at, class_shown, group_class_from, is_plain_level, is_unnamed}
 use Rattle.histar_layout.specs.UserTable.{called}

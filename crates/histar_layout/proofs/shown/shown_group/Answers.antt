@@ -2,7 +2,7 @@
 use Rattle.std.proofs.Common.{◌≡◌, ℕ, ◌+◌, ◌<◌, ◌≤◌, length, get_or, drop, List, true, false, arith, sym, ap, ◌∙◌, subst}
 use Rattle.std.specs.Prelude.{◌&&◌}
 use Rattle.histar_flat.specs.Accounts.{Group}
-use Rattle.histar_label.specs.Levels.{level_of}
+use Rattle.histar_level.specs.Levels.{level_of}
 use Rattle.histar_layout.specs.Categories.{read_category, write_category}
 use Rattle.histar_layout.specs.ShownClass.{group_class_at, group_class_from, is_plain_level, is_unnamed}
 use Rattle.histar_layout.proofs.ShownSteps.{behind, group_passed_over, group_revealed_here, group_revealed_last}

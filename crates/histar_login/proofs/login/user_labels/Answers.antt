@@ -1,7 +1,8 @@
 -- Proves the goals of `user_labels` of src/login.rt that the search leaves open.
 use Rattle.std.proofs.Common.{sym, ap, ◌∙◌}
-use Rattle.histar_label.specs.declared.levels.Level.TheVariants.{Star, L3}
-use Rattle.histar_label.specs.Levels.{Levels, with_level}
+use Rattle.histar_level.specs.declared.level.Level.TheVariants.{Star, L3}
+use Rattle.histar_level.specs.Levels.{Levels}
+use Rattle.histar_label.specs.Levels.{with_level}
 use Rattle.histar_login.proofs.UserLabels.{user_label-own_last, user_clearance-own_last}
 use Rattle.histar_login.proofs.login.user_labels.Goals as goal
 

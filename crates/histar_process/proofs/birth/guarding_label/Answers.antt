@@ -1,6 +1,6 @@
 -- Proves the goals of `guarding_label` of src/birth.rt that the search leaves open.
 use Rattle.std.proofs.Common.{◌∙◌}
-use Rattle.histar_label.specs.declared.levels.Level.TheVariants.{L0, L1, L3}
+use Rattle.histar_level.specs.declared.level.Level.TheVariants.{L0, L1, L3}
 use Rattle.histar_layout.proofs.LabellingLemmas.{guarding}
 use Rattle.histar_process.proofs.birth.guarding_label.Goals as goal
 

@@ -1,7 +1,8 @@
 -- Proves the goals of `label_at` of src/birth.rt that the search leaves open.
 use Rattle.std.proofs.Common.{ap, ◌∙◌}
-use Rattle.histar_label.specs.declared.levels.Level.TheVariants.{L3}
-use Rattle.histar_label.specs.Levels.{Levels, with_level}
+use Rattle.histar_level.specs.declared.level.Level.TheVariants.{L3}
+use Rattle.histar_level.specs.Levels.{Levels}
+use Rattle.histar_label.specs.Levels.{with_level}
 use Rattle.histar_layout.specs.Labelling.{each_at, with_levels}
 use Rattle.histar_layout.proofs.LabellingLemmas.{owning}
 use Rattle.histar_process.proofs.birth.label_at.Goals as goal

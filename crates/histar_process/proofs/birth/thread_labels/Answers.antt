@@ -1,7 +1,7 @@
 -- Proves the goals of `thread_labels` of src/birth.rt that the search leaves open.
 use Rattle.std.proofs.Common.{ℕ, List, ◌∷◌, sym, ap, ◌∙◌}
-use Rattle.histar_label.specs.declared.levels.Level.{Level}
-use Rattle.histar_label.specs.declared.levels.Level.TheVariants.{L2, L3}
+use Rattle.histar_level.specs.declared.level.Level.{Level}
+use Rattle.histar_level.specs.declared.level.Level.TheVariants.{L2, L3}
 use Rattle.histar_layout.specs.Labelling.{labelled}
 use Rattle.histar_layout.proofs.LabellingLemmas.{each_at-append}
 use Rattle.histar_process.proofs.birth.thread_labels.Goals as goal

@@ -2,7 +2,7 @@
 use Rattle.std.proofs.Common.{◌≡◌, Result, length, not, sym, ap, subst, ◌∙◌}
 use Rattle.std.specs.Borrow.{Bor}
 use Rattle.histar_flat.specs.declared.replies.Reply.TheVariants.{User}
-use Rattle.histar_label.specs.Levels.{Levels}
+use Rattle.histar_level.specs.Levels.{Levels}
 use Rattle.histar_rules.specs.declared.raw.RawCall.TheVariants.{OwnLabel}
 use Rattle.histar_rules.specs.declared.raw.Refusal.{Refusal}
 use Rattle.histar_syscall.specs.KernelModel.{OwnLent}

@@ -1,6 +1,6 @@
 -- The invariants and measures of `read_category_in` of src/caller.rt.
 use Rattle.std.proofs.Common.{◌≡◌, ◌&&◌, not, drop}
-use Rattle.histar_label.specs.Levels.{level_of}
+use Rattle.histar_level.specs.Levels.{level_of}
 use Rattle.histar_programs.specs.Caller.{read_category_in}
 use Rattle.histar_layout.specs.Jobs.{is_three}
 use Rattle.histar_programs.proofs.Scanning.{first_passed}

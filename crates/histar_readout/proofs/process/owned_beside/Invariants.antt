@@ -2,7 +2,7 @@
 use Rattle.std.proofs.Common.{◌≡◌, ◌&&◌, ◌++◌, drop}
 use Rattle.std.specs.Prelude.{nat_eq, not}
 use Rattle.std.specs.Set.{is_member}
-use Rattle.histar_label.specs.Level.{is_star}
+use Rattle.histar_level.specs.Level.{is_star}
 use Rattle.histar_layout.proofs.Scanning.{passed}
 use Rattle.histar_readout.specs.Process.{owned_beside}
 use Rattle.histar_readout.proofs.process.owned_beside.Given as goal

@@ -1,6 +1,6 @@
 -- Proves the goals of `check_enter_in` of src/entering.rt that the search leaves open.
 use Rattle.std.proofs.Common.{Option, IsSome, sym, ap, ◌∙◌, subst}
-use Rattle.histar_label.specs.Levels.{Levels}
+use Rattle.histar_level.specs.Levels.{Levels}
 use Rattle.histar_object.specs.Objects.{is_thread, entry_there}
 use Rattle.histar_rules.specs.declared.entering.Opening.{Opening}
 use Rattle.histar_rules.specs.Finds.{no_opening}

@@ -1,7 +1,7 @@
 -- Proves the goals of `enter_in` of src/entering.rt that the search leaves open.
 use Rattle.std.proofs.Common.{Option, ap, ◌∙◌}
 use Rattle.std.specs.Prelude.{is_some}
-use Rattle.histar_label.specs.Levels.{Levels}
+use Rattle.histar_level.specs.Levels.{Levels}
 use Rattle.histar_label.specs.Store.{Keeps}
 use Rattle.histar_object.specs.Objects.{Objects, entry_there}
 use Rattle.histar_container.proofs.Keeping.{trans, all_on, shown_on, on_err}

@@ -1,7 +1,8 @@
 -- Proves the goals of `read_in` of src/linked.rt that the search leaves open.
 use Rattle.std.proofs.Common.{Option, IsSome, sym, ap, ◌∙◌, subst}
 use Rattle.histar_base.specs.Refusals.{unless}
-use Rattle.histar_label.specs.Levels.{Levels, is_below_raised}
+use Rattle.histar_level.specs.Levels.{Levels}
+use Rattle.histar_label.specs.Levels.{is_below_raised}
 use Rattle.histar_label.specs.Store.{label_at}
 use Rattle.histar_rules.specs.declared.raw.Denied.TheVariants.{Observe}
 use Rattle.histar_rules.proofs.Observed.{fails_at_denial, label_stands}

@@ -1,7 +1,8 @@
 -- Proves the goals of `unlink_in` of src/linked.rt that the search leaves open.
 use Rattle.std.proofs.Common.{Option, IsSome, sym, ap, ◌∙◌, subst}
 use Rattle.histar_base.specs.Refusals.{unless}
-use Rattle.histar_label.specs.Levels.{Levels, is_below}
+use Rattle.histar_level.specs.Levels.{Levels}
+use Rattle.histar_label.specs.Levels.{is_below}
 use Rattle.histar_label.specs.Store.{label_at}
 use Rattle.histar_rules.specs.declared.raw.Denied.TheVariants.{Modify}
 use Rattle.histar_rules.proofs.Observed.{label_stands}

@@ -1,6 +1,7 @@
 -- Proves the goals of `write_in` of src/linked.rt that the search leaves open.
 use Rattle.std.proofs.Common.{Option, IsSome, sym, ap, ◌∙◌, ◌&&◌, subst}
-use Rattle.histar_label.specs.Levels.{Levels, is_below, is_below_raised}
+use Rattle.histar_level.specs.Levels.{Levels}
+use Rattle.histar_label.specs.Levels.{is_below, is_below_raised}
 use Rattle.histar_label.specs.Store.{label_at}
 use Rattle.histar_rules.specs.declared.raw.Denied.{Denied}
 use Rattle.histar_rules.specs.Rules.{FailsAt}

@@ -1,6 +1,6 @@
 -- Proves the goals of `set_label_in` of src/own.rt that the search leaves open.
 use Rattle.std.proofs.Common.{Option, ap, ◌∙◌}
-use Rattle.histar_label.specs.Levels.{Levels}
+use Rattle.histar_level.specs.Levels.{Levels}
 use Rattle.histar_container.proofs.Keeping.{all_on, shown_on, on_err}
 use Rattle.histar_rules.specs.declared.raw.RawCall.TheVariants as calls
 use Rattle.histar_rules.proofs.OwnLabels.{refused_at_denial, keeps_same, check_put}

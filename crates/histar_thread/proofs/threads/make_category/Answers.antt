@@ -1,6 +1,6 @@
 -- Proves the goals of `make_category` of src/threads.rt that the search leaves open.
 use Rattle.std.proofs.Common.{ℕ, ap, sym, ◌∙◌}
-use Rattle.histar_label.specs.declared.levels.Level.TheVariants.{Star, L3}
+use Rattle.histar_level.specs.declared.level.Level.TheVariants.{Star, L3}
 use Rattle.histar_label.specs.Levels.{with_level}
 use Rattle.histar_object.specs.Objects.{is_thread, label_there, clearance_there}
 use Rattle.histar_object.specs.State.{with_next_category, with_own}

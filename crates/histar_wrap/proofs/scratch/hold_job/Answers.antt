@@ -1,6 +1,6 @@
 -- Proves the goals of `hold_job` of src/scratch.rt that the search leaves open.
 use Rattle.std.proofs.Common.{Ok}
-use Rattle.histar_label.specs.declared.levels.Level.TheVariants.{Star, L3}
+use Rattle.histar_level.specs.declared.level.Level.TheVariants.{Star, L3}
 use Rattle.histar_label.specs.Levels.{with_level}
 use Rattle.histar_rules.specs.declared.raw.RawCall.TheVariants.{SetLabel, SetClearance}
 use Rattle.histar_programs.specs.Parts.{ask}

@@ -1,7 +1,7 @@
 -- Proves the goals of `LabelledObjects::add` of src/labelled.rt that the search leaves open.
 use Rattle.std.proofs.Common.{ℕ, ◌+◌, subst}
 use Rattle.histar_object.specs.declared.objects.Object.{Object}
-use Rattle.histar_label.specs.Levels.{Levels}
+use Rattle.histar_level.specs.Levels.{Levels}
 use Rattle.histar_object.specs.Objects.{objects_of}
 use Rattle.histar_container.specs.Shown.{shown, IsUnusedFrom, IsKept}
 use Rattle.histar_container.proofs.Keeping.{kept_new}

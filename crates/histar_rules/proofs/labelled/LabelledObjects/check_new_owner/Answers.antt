@@ -1,6 +1,6 @@
 -- Proves the goals of `LabelledObjects::check_new_owner` of src/labelled.rt that the search leaves open.
 use Rattle.std.proofs.Common.{◌≡◌, Option, IsSome, sym, ap, ◌∙◌, subst}
-use Rattle.histar_label.specs.Levels.{Levels}
+use Rattle.histar_level.specs.Levels.{Levels}
 use Rattle.histar_label.specs.Store.{label_at}
 use Rattle.histar_object.specs.Objects.{objects_of}
 use Rattle.histar_object.specs.State.{State}

@@ -1,6 +1,6 @@
 -- Proves the goals of `LabelledObjects::label_of` of src/labelled.rt that the search leaves open.
 use Rattle.std.proofs.Common.{Option, IsSome, sym, ◌∙◌, subst}
-use Rattle.histar_label.specs.Levels.{Levels}
+use Rattle.histar_level.specs.Levels.{Levels}
 use Rattle.histar_object.specs.Objects.{objects_of}
 use Rattle.histar_container.specs.ObjectsModel.{ObjectsModel}
 use Rattle.histar_container.specs.Tree.{AreTree}

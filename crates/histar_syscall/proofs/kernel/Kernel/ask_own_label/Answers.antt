@@ -1,6 +1,6 @@
 -- Proves the goals of `Kernel::ask_own_label` of src/kernel.rt that the search finds slowly.
 use Rattle.std.proofs.Common.{refl}
-use Rattle.histar_label.specs.Levels.{Levels}
+use Rattle.histar_level.specs.Levels.{Levels}
 use Rattle.histar_rules.proofs.Sound.{sound_decided}
 use Rattle.histar_rules.specs.declared.raw.RawCall.TheVariants.{OwnLabel}
 use Rattle.histar_rules.specs.RawAnswers.{IsAnswer}

@@ -2,7 +2,7 @@
 use Rattle.std.proofs.Common.{rules, ◌≡◌, map, ◌++◌, ◌∷◌, [], List, sym, ap, subst, length, ◌∙◌}
 use Rattle.std.specs.List.{slice_get}
 use Rattle.std.proofs.lemmas.List.{length-map}
-use Rattle.histar_label.specs.Levels.{Levels}
+use Rattle.histar_level.specs.Levels.{Levels}
 use Rattle.histar_label.specs.Store.{Keeps}
 use Rattle.histar_trace.specs.Labels.{label_kept}
 use Rattle.histar_trace.proofs.KeptLabels.{Adds, keeps_others, last_there, one_more, still_have}
