@@ -1,38 +1,20 @@
 //! The program: `histar run FILE` runs a script and prints the replies; `histar --help` lists subcommands.
 #![tactic(auto)]
 
-mod files;
-mod status;
 mod tasks;
 
-use crate::status::{Outcome, outcome_status, status};
 use crate::tasks::{
     access_file, check_each_job, check_file, diff_files, lint_file, report_file, run_file,
     run_raw_file, test_files, trust_file,
 };
 use histar_command_line::{CheckFlags, Task, read_words};
+use histar_console::{Outcome, REFUSED, command_line, outcome_status, refuse, report};
 use histar_flat::{ProcName, read_path, read_process};
 use histar_script::Fault;
 use std::alloc::Global;
+use std::io;
 use std::process::ExitCode;
 use std::rt::{Env, Files};
-use std::{env, io};
-
-/// The status of a refused command line.
-const REFUSED: u8 = 2;
-
-/// Writes a fault to standard error, and returns its status.
-fn report<R: Eprint>(rt: &R, fault: &Fault) -> u8 {
-    let _ = eprintln!(rt; "histar: {fault}");
-    status(fault)
-}
-
-/// Returns the words of the command line, the program's own name first.
-fn command_line<R: Env + AllocGlobal>(rt: &R) -> io::Result<Vec<String>> {
-    let words = env::args(rt)?;
-    let words = words.collect::<Vec<String>>(rt.alloc())?;
-    Ok(words)
-}
 
 /// A word of the command line that can't be read.
 #[derive(Drop)]
@@ -160,17 +142,6 @@ fn obey<R: Files + Input + Print + Eprint>(rt: &R, alloc: Global, words: &[&str]
             Ok(Err(fault)) => report(rt, &fault),
         },
     }
-}
-
-/// Reports why the command line can't be read, and returns its status. A word has to be UTF-8.
-fn refuse<R: Eprint>(rt: &R, error: &io::Error) -> u8 {
-    let why = if error.kind() == io::ErrorKind::InvalidData {
-        "an argument is not UTF-8"
-    } else {
-        "out of memory"
-    };
-    let _ = eprintln!(rt; "histar: {why}");
-    REFUSED
 }
 
 /// Reads the command line and obeys it. A command line that can't be read is refused.

@@ -4,11 +4,10 @@ ghost use Rattle.std.specs.List.{flat_map, list_all};
 ghost use Rattle.histar_comparison.specs.Jobs.{job_text};
 ghost use Rattle.histar_cli.specs.Checks.{is_same_without};
 
-use crate::files::{finish, open, output};
-use crate::status::Outcome;
 use histar_access::{access, diff};
 use histar_command_line::{CheckFlags, RunFlags, VERSION};
 use histar_comparison::{JobVerdict, Verdict, compare, compare_all, explain_comparison};
+use histar_console::{Outcome, finish, open, output, run_plain};
 use histar_flat::{Path, ProcName};
 use histar_io::read_input;
 use histar_lint::lint;
@@ -18,13 +17,12 @@ use histar_raw_session::run_raw_script;
 use histar_report::report;
 use histar_run_explain::explain_script;
 use histar_script::Fault;
-use histar_shell::{Options, run};
+use histar_shell::Options;
 use histar_test::{TestFile, test};
 use histar_transcript::transcribe;
 use histar_trust::trust;
 use std::alloc::{AllocError, Global};
 use std::io::{self, Write};
-use std::mem::forget;
 use std::rt::Files;
 
 /// Runs the script in a file, and prints the replies and what else is asked for.
@@ -38,15 +36,15 @@ pub fn run_file<R: Files + Input + Print>(
         tree: flags.tree,
         trace: flags.trace,
     };
+    if !flags.calls && !flags.explain {
+        return run_plain(rt, alloc, path, options);
+    }
     let mut reader = open(rt, path)?;
     let mut writer = output(rt, alloc)?;
     let done = if flags.calls {
         transcribe(alloc, &mut reader, &mut writer, options, flags.explain)
-    } else if flags.explain {
-        explain_script(alloc, &mut reader, &mut writer, options)
     } else {
-        // The program ends soon; it takes no time to free the trace.
-        run(alloc, &mut reader, &mut writer, options).map(|trace| forget(trace))
+        explain_script(alloc, &mut reader, &mut writer, options)
     };
     finish(done.map(|_| Outcome::Done), writer)
 }

@@ -1,7 +1,7 @@
 //! Files and standard output: where FILE is read from, and where a task writes.
 
+use histar_io::Counted;
 use histar_script::Fault;
-use histar_shell::Counted;
 use std::alloc::Global;
 use std::fs;
 use std::io::{self, BufWriter, Printer, Read, Write};

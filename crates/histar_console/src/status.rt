@@ -1,8 +1,11 @@
-//! The exit statuses of the program.
+//! The exit statuses of the programs.
 ghost use Rattle.std.specs.Prelude.{◌≡◌};
-ghost use Rattle.histar_cli.specs.Status.{outcome_status, status_of};
+ghost use Rattle.histar_console.specs.Status.{outcome_status, status_of};
 
 use histar_script::Fault;
+
+/// The status of a refused command line.
+pub const REFUSED: u8 = 2;
 
 /// The outcome of a task that was done.
 #[derive(Clone, Copy)]
@@ -35,4 +38,12 @@ pub fn status(fault: &Fault) -> u8
         Fault::OutOfMemory => 3,
         Fault::ReadFailed | Fault::WriteFailed => 4,
     }
+}
+
+/// Writes a fault to standard error, and returns its status.
+pub fn report<R: Eprint>(rt: &R, fault: &Fault) -> u8
+    ensures { result ≡ status_of fault.now }
+{
+    let _ = eprintln!(rt; "histar: {fault}");
+    status(fault)
 }

@@ -1,8 +1,8 @@
--- The exit statuses of the program.
+-- The exit statuses of the programs.
 use Rattle.std.specs.Prelude.{ℕ}
-use Rattle.histar_cli.specs.declared.status.Outcome.{Outcome}
-use Rattle.histar_cli.specs.declared.status.Outcome.TheVariants.{Done, NotSo}
-use Rattle.histar_cli.specs.declared.status.Outcome.TheVariants as outcomes
+use Rattle.histar_console.specs.declared.status.Outcome.{Outcome}
+use Rattle.histar_console.specs.declared.status.Outcome.TheVariants.{Done, NotSo}
+use Rattle.histar_console.specs.declared.status.Outcome.TheVariants as outcomes
 use Rattle.histar_script.specs.declared.fault.Fault.{Fault}
 use Rattle.histar_script.specs.declared.fault.Fault.TheVariants.{BadScript, TooLong, OutOfMemory, ReadFailed, WriteFailed}
 
