@@ -16,8 +16,9 @@ use Rattle.histar_rules.specs.declared.raw.RawCall.TheVariants.{MakeCategory, Un
 use Rattle.histar_rules.specs.declared.raw.Refusal.{Refusal}
 use Rattle.histar_rules.specs.declared.raw.Refusal.TheVariants as refusals
 use Rattle.histar_rules.specs.Rules.{check}
+use Rattle.histar_rules.specs.RawAnswers.{AnswerOf}
 use Rattle.histar_rules.specs.Sound.{root_number}
-use Rattle.histar_syscall.specs.KernelModel.{KernelModel, state, Called, AnsweredAs}
+use Rattle.histar_syscall.specs.KernelModel.{KernelModel, state, Called, Answered, AnsweredAs}
 use Rattle.histar_syscall.proofs.Runs.{granted_none, granted_more}
 use Rattle.histar_container.specs.ObjectsModel.{CutsOff}
 use Rattle.histar_layout.specs.Labelling.{written_by}
@@ -43,21 +44,12 @@ undenied_as old new t call revealed r P answered allowed is same =
     no_denial old new t call r P answered ((λ i. check (state old) (is i) (same i)) ∙ allowed)
 
 -- a raw call that was answered was granted, or memory ran out
-grants : {A E : Type 0} (old new : KernelModel) (call : RawCall) (r : Result A Refusal) (out : Result A E)
-    (P : A → Type 0) → AnsweredAs old new boot_thread_number call r P → Passes r out → Grants old new call out P
-grants {A = A} old new call r (Ok a) P answered passes =
-    subst (λ (x : Result A Refusal). AnsweredAs old new boot_thread_number call x P) passes answered
-grants {A = A} old new call r (Err stopped) P answered passes =
-    subst (λ (x : Result A Refusal). AnsweredAs old new boot_thread_number call x P) passes answered
-
--- a raw call that was answered was granted, or memory ran out, under equal texts
-pub grants_as : {A E : Type 0} (old new : KernelModel) (t : ℕ) (call revealed : RawCall) (r : Result A Refusal)
-    (out : Result A E) (P : A → Type 0) → AnsweredAs old new t call r P → Passes r out → t ≡ boot_thread_number
-    → call ≡ revealed
-    → Grants old new revealed out P
-grants_as {A = A} old new t call revealed r out P answered passes is same =
-    grants old new revealed r out P (subst (λ (x : RawCall). AnsweredAs old new boot_thread_number x r P) same
-    (subst (λ (n : ℕ). AnsweredAs old new n call r P) is answered)) passes
+pub grants : {E : Type 0} (old new : KernelModel) (call : RawCall) (r : Result (AnswerOf call) Refusal) (out : Result (AnswerOf call) E)
+    → Answered old new boot_thread_number call r → Passes r out → Grants old new call out
+grants old new call r (Ok a) answered passes =
+    subst (λ (x : Result (AnswerOf call) Refusal). Answered old new boot_thread_number call x) passes answered
+grants old new call r (Err stopped) answered passes =
+    subst (λ (x : Result (AnswerOf call) Refusal). Answered old new boot_thread_number call x) passes answered
 
 -- a container that links one number more
 pub links_more : (label : Levels) (numbers : List ℕ) (n : ℕ)

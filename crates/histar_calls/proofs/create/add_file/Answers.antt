@@ -24,7 +24,7 @@ entering : (g : given.Over) (c : In_ok-file g)
     (after_segment c.args.room c.in_ok-file.file) c.make_segment.new.self
 entering g c =
     further_in _ (after_segment _) (whole_part _ _ _) _ _ (makes _ _ _ _ _ _ _ refl c.new-empty.ensures _ (grants _ _ _ _
-    _ c.in_ok-file.ensures.0 c.in_ok-file.ensures.1.0))
+    _ c.in_ok-file.ensures.0 c.in_ok-file.ensures.1))
 
 pub returns-in_err-insert : goal.returns-in_err-insert
 returns-in_err-insert g c =

@@ -40,52 +40,52 @@ returns-in_err-outer-clause-err g c =
 pub make_internal-requires : goal.make_internal-requires
 make_internal-requires g c =
     inner_allowed c.requires.0 _ c.requires.1 c.requires.3 _ _ c.in_ok-read.ensures.0 c.in_ok-read.ensures.1
-    _ _ c.in_ok-write.ensures.0 c.in_ok-write.ensures.1 _ _ c.in_ok-outer.ensures.0 c.in_ok-outer.ensures.1.0 c.requires.2
+    _ _ c.in_ok-write.ensures.0 c.in_ok-write.ensures.1 _ _ c.in_ok-outer.ensures.0 c.in_ok-outer.ensures.1 c.requires.2
 
 pub returns-in_err-internal-clause-err : goal.returns-in_err-internal-clause-err
 returns-in_err-internal-clause-err g c =
     let begun : BeginsProcess c.args.kernel.now c.make_internal.new.kernel = λ n owners first p at b. process_begun_three first _ p b
     _ _ c.in_ok-read.ensures.0 c.in_ok-read.ensures.1 _ _ c.in_ok-write.ensures.0 c.in_ok-write.ensures.1
-    _ _ c.in_ok-outer.ensures.0 c.in_ok-outer.ensures.1.0 n owners at c.make_internal.new.kernel c.in_err-internal.ensures in
+    _ _ c.in_ok-outer.ensures.0 c.in_ok-outer.ensures.1 n owners at c.make_internal.new.kernel c.in_err-internal.ensures in
     on_err _ _ begun
 
 pub make_first_thread-requires : goal.make_first_thread-requires
 make_first_thread-requires g c =
     birth_allowed c.requires.0 _ c.requires.1 c.requires.3 _ _ c.in_ok-read.ensures.0 c.in_ok-read.ensures.1
-    _ _ c.in_ok-write.ensures.0 c.in_ok-write.ensures.1 _ _ c.in_ok-outer.ensures.0 c.in_ok-outer.ensures.1.0
-    _ _ c.in_ok-internal.ensures.0 c.in_ok-internal.ensures.1.0 c.requires.2
+    _ _ c.in_ok-write.ensures.0 c.in_ok-write.ensures.1 _ _ c.in_ok-outer.ensures.0 c.in_ok-outer.ensures.1
+    _ _ c.in_ok-internal.ensures.0 c.in_ok-internal.ensures.1 c.requires.2
 
 pub returns-in_err-thread-clause-err : goal.returns-in_err-thread-clause-err
 returns-in_err-thread-clause-err g c =
     let begun : BeginsProcess c.args.kernel.now c.make_first_thread.new.kernel = λ n owners first p at b. process_begun_four first _ p b
     _ _ c.in_ok-read.ensures.0 c.in_ok-read.ensures.1 _ _ c.in_ok-write.ensures.0 c.in_ok-write.ensures.1
-    _ _ c.in_ok-outer.ensures.0 c.in_ok-outer.ensures.1.0 _ _ c.in_ok-internal.ensures.0 c.in_ok-internal.ensures.1.0
+    _ _ c.in_ok-outer.ensures.0 c.in_ok-outer.ensures.1 _ _ c.in_ok-internal.ensures.0 c.in_ok-internal.ensures.1
     n owners at c.make_first_thread.new.kernel c.in_err-thread.ensures in
     on_err _ _ begun
 
 pub make_status-requires : goal.make_status-requires
 make_status-requires g c =
     status_allowed c.requires.0 _ c.requires.1 c.requires.3 _ _ c.in_ok-read.ensures.0 c.in_ok-read.ensures.1
-    _ _ c.in_ok-write.ensures.0 c.in_ok-write.ensures.1 _ _ c.in_ok-outer.ensures.0 c.in_ok-outer.ensures.1.0
-    _ _ c.in_ok-internal.ensures.0 c.in_ok-internal.ensures.1.0 _ _ c.in_ok-thread.ensures.0 c.in_ok-thread.ensures.1.0 c.requires.2
+    _ _ c.in_ok-write.ensures.0 c.in_ok-write.ensures.1 _ _ c.in_ok-outer.ensures.0 c.in_ok-outer.ensures.1
+    _ _ c.in_ok-internal.ensures.0 c.in_ok-internal.ensures.1 _ _ c.in_ok-thread.ensures.0 c.in_ok-thread.ensures.1 c.requires.2
 
 pub returns-in_err-segment-clause-err : goal.returns-in_err-segment-clause-err
 returns-in_err-segment-clause-err g c =
     let begun : BeginsProcess c.args.kernel.now c.make_status.new.kernel = λ n owners first p at b. process_begun_five first _ p b
     _ _ c.in_ok-read.ensures.0 c.in_ok-read.ensures.1 _ _ c.in_ok-write.ensures.0 c.in_ok-write.ensures.1
-    _ _ c.in_ok-outer.ensures.0 c.in_ok-outer.ensures.1.0 _ _ c.in_ok-internal.ensures.0 c.in_ok-internal.ensures.1.0
-    _ _ c.in_ok-thread.ensures.0 c.in_ok-thread.ensures.1.0 n owners at c.make_status.new.kernel c.in_err-segment.ensures in
+    _ _ c.in_ok-outer.ensures.0 c.in_ok-outer.ensures.1 _ _ c.in_ok-internal.ensures.0 c.in_ok-internal.ensures.1
+    _ _ c.in_ok-thread.ensures.0 c.in_ok-thread.ensures.1 n owners at c.make_status.new.kernel c.in_err-segment.ensures in
     on_err _ _ begun
 
 pub returns-clause-boots : goal.returns-clause-boots
 returns-clause-boots g c = λ n owners first p at b.
     (process_stage first _ p b _ _ c.in_ok-read.ensures.0 c.in_ok-read.ensures.1 _ _ c.in_ok-write.ensures.0 c.in_ok-write.ensures.1
-    _ _ c.in_ok-outer.ensures.0 c.in_ok-outer.ensures.1.0 _ _ c.in_ok-internal.ensures.0 c.in_ok-internal.ensures.1.0
-    _ _ c.in_ok-thread.ensures.0 c.in_ok-thread.ensures.1.0 _ _ c.in_ok-segment.ensures.0 c.in_ok-segment.ensures.1.0 n owners at).0
+    _ _ c.in_ok-outer.ensures.0 c.in_ok-outer.ensures.1 _ _ c.in_ok-internal.ensures.0 c.in_ok-internal.ensures.1
+    _ _ c.in_ok-thread.ensures.0 c.in_ok-thread.ensures.1 _ _ c.in_ok-segment.ensures.0 c.in_ok-segment.ensures.1 n owners at).0
 
 pub returns-clause-home : goal.returns-clause-home
 returns-clause-home g c = λ n owners first p at b.
     let s = process_stage first _ p b _ _ c.in_ok-read.ensures.0 c.in_ok-read.ensures.1 _ _ c.in_ok-write.ensures.0 c.in_ok-write.ensures.1
-    _ _ c.in_ok-outer.ensures.0 c.in_ok-outer.ensures.1.0 _ _ c.in_ok-internal.ensures.0 c.in_ok-internal.ensures.1.0
-    _ _ c.in_ok-thread.ensures.0 c.in_ok-thread.ensures.1.0 _ _ c.in_ok-segment.ensures.0 c.in_ok-segment.ensures.1.0 n owners at in
+    _ _ c.in_ok-outer.ensures.0 c.in_ok-outer.ensures.1 _ _ c.in_ok-internal.ensures.0 c.in_ok-internal.ensures.1
+    _ _ c.in_ok-thread.ensures.0 c.in_ok-thread.ensures.1 _ _ c.in_ok-segment.ensures.0 c.in_ok-segment.ensures.1 n owners at in
     λ j. record { container = s.1 j; segment = s.2 j }

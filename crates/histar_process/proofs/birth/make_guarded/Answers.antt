@@ -19,4 +19,4 @@ returns-in_err-made g c =
 
 pub returns : goal.returns
 returns g c =
-    container_so _ _ _ _ _ _ c.in_ok-label.ensures _ (grants _ _ _ _ _ c.in_ok-made.ensures.0 c.in_ok-made.ensures.1.0)
+    container_so _ _ _ _ _ _ c.in_ok-label.ensures _ (grants _ _ _ _ _ c.in_ok-made.ensures.0 c.in_ok-made.ensures.1)

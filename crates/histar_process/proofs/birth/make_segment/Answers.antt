@@ -19,4 +19,4 @@ returns-in_err-made g c =
 
 pub returns : goal.returns
 returns g c =
-    segment_so _ _ _ _ _ _ _ _ c.in_ok-label.ensures c.in_ok-bytes.ensures _ (grants _ _ _ _ _ c.in_ok-made.ensures.0 c.in_ok-made.ensures.1.0)
+    segment_so _ _ _ _ _ _ _ _ c.in_ok-label.ensures c.in_ok-bytes.ensures _ (grants _ _ _ _ _ c.in_ok-made.ensures.0 c.in_ok-made.ensures.1)

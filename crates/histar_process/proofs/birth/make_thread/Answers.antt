@@ -21,4 +21,4 @@ returns-in_err-made g c =
 pub returns : goal.returns
 returns g c =
     thread_so _ _ _ _ _ _ _ _ c.in_ok-label.ensures.label c.in_ok-label.ensures.clearance _
-    (grants _ _ _ _ _ c.in_ok-made.ensures.0 c.in_ok-made.ensures.1.0)
+    (grants _ _ _ _ _ c.in_ok-made.ensures.0 c.in_ok-made.ensures.1)

@@ -6,7 +6,7 @@ use Rattle.histar_wrap.proofs.scratch.make_or_give_back.Goals as goal
 
 pub returns-in-Ok-clause-runs : goal.returns-in-Ok-clause-runs
 returns-in-Ok-clause-runs g c =
-    goes_on _ _ _ _ (own_of c.args.wrapper.now) _ c.in-Ok.ensures.0 c.in-Ok.ensures.1.0
+    goes_on _ _ _ _ (own_of c.args.wrapper.now) _ c.in-Ok.ensures.0 c.in-Ok.ensures.1
 
 pub returns-in_default-clause-runs : goal.returns-in_default-clause-runs
 returns-in_default-clause-runs g c =
