@@ -1,7 +1,11 @@
 -- The kernel after a raw call.
-use Rattle.std.proofs.Common.{◌≡◌, ℕ, refl, sym, ap, ◌∙◌, subst, Result, Ok, Err, List}
+use Rattle.std.proofs.Common.{◌≡◌, ◌<◌, ℕ, Bool, true, false, refl, sym, ap, ◌∙◌, subst, arith, Result, Ok, Err, List, [], None, Some}
+use Rattle.std.specs.Prelude.{IfOk, nat_lt}
+use Rattle.std.proofs.lemmas.Bool.Decides.{nat_tests}
 use Rattle.std.specs.Result.{IsErrAnd}
+use Rattle.histar_object.specs.State.{State}
 use Rattle.histar_container.specs.ObjectsModel.{ObjectsModel}
+use Rattle.histar_rules.specs.Sound.{IsSound, root_number}
 use Rattle.histar_rules.specs.declared.raw.RawCall.{RawCall}
 use Rattle.histar_rules.specs.declared.raw.Refusal.{Refusal}
 use Rattle.histar_rules.specs.declared.raw.Refusal.TheVariants as refusals
@@ -54,3 +58,23 @@ unstored old inside trace t call r P same entries h =
     subst (λ (k : KernelModel). AnsweredAs k (record { kept = inside.kept; line = inside.line; trace = trace }) t call r P) same
     (exits inside (record { kept = inside.kept; line = inside.line; trace = trace }) t call r P h
     (record { state = refl; trace = entries; line = refl }))
+
+-- in a sound state the next object's number is not 0: the root container has a number below it
+next_numbered : (s : State) → IsSound s → 0 < s.next_object
+next_numbered s sound = by (nat_lt 0 s.next_object) refl
+  where
+    by : (b : Bool) → nat_lt 0 s.next_object ≡ b → 0 < s.next_object
+    by true e = grind (arith, nat_tests)
+    by false e =
+        let none : sound.tree.naming.address root_number ≡ None = sound.tree.matched.unused root_number (grind (arith, nat_tests)) in
+        let clash : None ≡ Some [] = sym none ∙ sound.tree.rooted in
+        cc
+
+-- the number of an object that was made in a sound state is not 0
+pub made_numbered : (inside : KernelModel) (kept : ObjectsModel) (t : ℕ) (call : RawCall) (decided answer : Result ℕ Refusal)
+    → IsSound (state inside) → DecidesAs inside.kept kept t call decided (λ n. n ≡ inside.kept.next_object)
+    → answer ≡ decided → IfOk answer (λ n. 0 < n)
+made_numbered inside kept t call (Ok n) answer sound is said =
+    subst (λ (r : Result ℕ Refusal). IfOk r (λ m. 0 < m)) (sym said) (subst (λ (m : ℕ). 0 < m) (sym is.2) (next_numbered (state inside) sound))
+made_numbered inside kept t call (Err refusal) answer sound is said =
+    subst (λ (r : Result ℕ Refusal). IfOk r (λ m. 0 < m)) (sym said) tt

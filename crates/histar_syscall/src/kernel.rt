@@ -1,5 +1,5 @@
 //! The kernel and its raw calls.
-ghost use Rattle.std.specs.Prelude.{◌≡◌, [], Some, IfOk, length};
+ghost use Rattle.std.specs.Prelude.{◌≡◌, ◌<◌, [], Some, IfOk, length};
 ghost use Rattle.histar_level.specs.Levels.{Levels};
 ghost use Rattle.std.specs.Option.{option_copied};
 ghost use Rattle.histar_object.specs.Objects.{objects_of, bytes_in, clearance_there, is_container, is_thread, label_there};
@@ -196,7 +196,10 @@ impl<S: LabelStore + Drop> Kernel<S> {
         label: Label,
         bytes: Bytes,
     ) -> Result<ObjId, Refusal>
-        ensures { Answered self.old self.new thread (calls.MakeSegment container label bytes) result }
+        ensures answered { Answered self.old self.new thread (calls.MakeSegment container label bytes) result }
+
+        // No object has the number 0.
+        ensures numbered { IfOk result (λ number. 0 < number) }
     {
         let (call, bytes) = self.trace.store_make_segment(container, &label, bytes)?;
         let bytes = self.trace.bytes(bytes);
@@ -213,7 +216,8 @@ impl<S: LabelStore + Drop> Kernel<S> {
         container: ObjId,
         label: Label,
     ) -> Result<ObjId, Refusal>
-        ensures { Answered self.old self.new thread (calls.MakeContainer container label) result }
+        ensures answered { Answered self.old self.new thread (calls.MakeContainer container label) result }
+        ensures numbered { IfOk result (λ number. 0 < number) }
     {
         let call = self.trace.store_make_container(container, &label)?;
         let maker = Maker::new(thread, container);

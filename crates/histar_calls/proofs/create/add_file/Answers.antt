@@ -16,7 +16,7 @@ use Rattle.histar_calls.proofs.create.add_file.Goals.{In_ok-file}
 pub returns-in_err-file : goal.returns-in_err-file
 returns-in_err-file g c =
     ends_in_so _ (after_segment _) (whole_part _ _ _) _ _ _ c.from_residual.ensures.1 (makes _ _ _ _ _ _ _ refl c.new-empty.ensures _
-    (refuses _ _ _ _ _ _ c.in_err-file.ensures))
+    (refuses _ _ _ _ _ _ c.in_err-file.ensures.answered))
 
 -- once the segment was made, the entry is left
 entering : (g : given.Over) (c : In_ok-file g)
@@ -24,7 +24,7 @@ entering : (g : given.Over) (c : In_ok-file g)
     (after_segment c.args.room c.in_ok-file.file) c.make_segment.new.self
 entering g c =
     further_in _ (after_segment _) (whole_part _ _ _) _ _ (makes _ _ _ _ _ _ _ refl c.new-empty.ensures _ (grants _ _ _ _
-    _ c.in_ok-file.ensures.0 c.in_ok-file.ensures.1))
+    _ c.in_ok-file.ensures.answered.0 c.in_ok-file.ensures.answered.1))
 
 pub returns-in_err-insert : goal.returns-in_err-insert
 returns-in_err-insert g c =

@@ -15,8 +15,8 @@ returns-in_err-label g c =
 pub returns-in_err-made : goal.returns-in_err-made
 returns-in_err-made g c =
     fails_so _ _ _ _ _ _ c.from_residual-in_err-made.ensures.1
-    (container_so _ _ _ _ _ _ c.in_ok-label.ensures _ (refuses _ _ _ _ _ _ c.in_err-made.ensures))
+    (container_so _ _ _ _ _ _ c.in_ok-label.ensures _ (refuses _ _ _ _ _ _ c.in_err-made.ensures.answered))
 
 pub returns : goal.returns
 returns g c =
-    container_so _ _ _ _ _ _ c.in_ok-label.ensures _ (grants _ _ _ _ _ c.in_ok-made.ensures.0 c.in_ok-made.ensures.1)
+    container_so _ _ _ _ _ _ c.in_ok-label.ensures _ (grants _ _ _ _ _ c.in_ok-made.ensures.answered.0 c.in_ok-made.ensures.answered.1)

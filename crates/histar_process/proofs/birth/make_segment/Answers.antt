@@ -15,8 +15,8 @@ returns-in_err-bytes g c =
 pub returns-in_err-made : goal.returns-in_err-made
 returns-in_err-made g c =
     fails_so _ _ _ _ _ _ c.from_residual-in_err-made.ensures.1 (segment_so _ _ _ _ _ _ _ _ c.in_ok-label.ensures c.in_ok-bytes.ensures _
-    (refuses _ _ _ _ _ _ c.in_err-made.ensures))
+    (refuses _ _ _ _ _ _ c.in_err-made.ensures.answered))
 
 pub returns : goal.returns
 returns g c =
-    segment_so _ _ _ _ _ _ _ _ c.in_ok-label.ensures c.in_ok-bytes.ensures _ (grants _ _ _ _ _ c.in_ok-made.ensures.0 c.in_ok-made.ensures.1)
+    segment_so _ _ _ _ _ _ _ _ c.in_ok-label.ensures c.in_ok-bytes.ensures _ (grants _ _ _ _ _ c.in_ok-made.ensures.answered.0 c.in_ok-made.ensures.answered.1)

@@ -44,16 +44,16 @@ returns-in_err-container g c =
 pub returns-in_err-listing : goal.returns-in_err-listing
 returns-in_err-listing g c =
     without_listing _ (own_of c.args.wrapper.now) _ _ _ _ _ c.in_ok-container.ensures.runs _ _ _ c.from_residual-in_err-listing.ensures.1
-    (listed g (goal.at.returns-in_err-listing g c).After-make_segment _ (refuses _ _ _ _ _ _ c.in_err-listing.ensures))
+    (listed g (goal.at.returns-in_err-listing g c).After-make_segment _ (refuses _ _ _ _ _ _ c.in_err-listing.ensures.answered))
 
 pub returns-in_err-insert : goal.returns-in_err-insert
 returns-in_err-insert g c =
     fails_so _ _ _ _ _ _ c.from_residual-in_err-insert.ensures.1
     ((left g (goal.at.returns-in_err-insert g c).After-make_segment c.in_ok-listing.listing
-    (grants _ _ _ _ _ c.in_ok-listing.ensures.0 c.in_ok-listing.ensures.1)).leads _ _ (before_entries _ _ (grown c.args.room _ _) _))
+    (grants _ _ _ _ _ c.in_ok-listing.ensures.answered.0 c.in_ok-listing.ensures.answered.1)).leads _ _ (before_entries _ _ (grown c.args.room _ _) _))
 
 pub returns : goal.returns
 returns g c =
     (left g (goal.at.returns g c).After-make_segment c.in_ok-listing.listing
-    (grants _ _ _ _ _ c.in_ok-listing.ensures.0 c.in_ok-listing.ensures.1)).leads _ _
+    (grants _ _ _ _ _ c.in_ok-listing.ensures.answered.0 c.in_ok-listing.ensures.answered.1)).leads _ _
     (part_as _ _ _ _ _ (ap (write_entries c.args.room.place) (sym c.in_ok-insert.ensures.ok)) _ c.write_entries.ensures)
