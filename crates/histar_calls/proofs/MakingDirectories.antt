@@ -1,5 +1,5 @@
 -- How the code of `mkdir` runs its program, from one part to the next.
-use Rattle.std.proofs.Common.{◌≡◌, ℕ, [], Result, Err, subst, ap}
+use Rattle.std.proofs.Common.{◌≡◌, ℕ, [], Result, Err, subst}
 use Rattle.std.specs.FinMap as map
 use Rattle.histar_flat.specs.Words.{Path}
 use Rattle.histar_flat.specs.declared.calls.Mode.{Mode}
@@ -21,13 +21,6 @@ use Rattle.histar_programs.specs.Parts.{ask, find_room, write_entries}
 use Rattle.histar_calls.specs.Mkdir.{add_directory, mkdir_program, make_directory}
 use Rattle.histar_programs.proofs.Exits.{Leaves}
 use Rattle.histar_programs.proofs.Running.{before_ask, part_fails}
-
--- a container is made with the expected label
-pub makes_container : (t : ℕ) (old new : KernelModel) (d : ℕ) (label due : Levels) → label ≡ due → (result : Result ℕ CallError)
-    → RunsPart {A = ℕ} (ask (MakeContainer d label)) old new t result → RunsPart {A = ℕ} (ask (MakeContainer d due)) old new t result
-makes_container t old new d label due same result runs =
-    subst (λ (part : Part ℕ). RunsPart {A = ℕ} part old new t result)
-    (ap (λ (x : Levels). ask (MakeContainer d x)) same) runs
 
 -- the entries of the directory above, with the new directory
 abbrev pub grown : Room → ℕ → ℕ → Entries

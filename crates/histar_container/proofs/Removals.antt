@@ -11,7 +11,6 @@ use Rattle.std.specs.FinSet as set
 use mathlib.Core.Bool.{true≢false}
 use Rattle.std.proofs.lemmas.Bool.Decides.{eqb_tells}
 use Rattle.std.proofs.lemmas.Bool.{false_from_ne_true}
-use Rattle.histar_object.specs.declared.objects.Object.{Object}
 use Rattle.histar_object.specs.Objects.{TableModel, Objects, AppendsAll, objects_of, without, changed_at, unlinking, links_in, is_present}
 use Rattle.histar_container.specs.Tree.{Reached, AreTree, IsCut}
 use Rattle.histar_container.proofs.TableMoves.{changed_here, changed_other}

@@ -70,7 +70,8 @@ module _ (t : ℕ) (old new : KernelModel) (home : Home) (result : Result (Bor (
   pub not_lent : (refusal : Refusal) → result ≡ Err refusal
       → RunsPart (ask (Read home.container home.segment)) old new t (Err (call_error_of (errno_for (Read home.container home.segment)) refusal))
   not_lent refusal is =
-      refuses t (Read home.container home.segment) old new (λ (bytes : Bor (List ℕ)). IsAnswer (state old) t (Read home.container home.segment) bytes.now) refusal
+      refuses t (Read home.container home.segment) old new
+      (λ (bytes : Bor (List ℕ)). IsAnswer (state old) t (Read home.container home.segment) bytes.now) refusal
       (subst (λ (r : Result (Bor (List ℕ)) Refusal). ReadsLent old t home.container home.segment r new) is lent)
 
 -- what comes after the bytes of a process segment

@@ -88,7 +88,8 @@ module _ {Id : Type 0} (old new : Id → Option Levels) (keeps : Keeps old new) 
         (record { label = label_at-stands new label L is i; kind = Thread (label_at-stands new clearance C limits i) }))
 
 -- a call that lets a thread enter a gate keeps what holds of a table, whether it succeeded or not
-module _ {Id A : Type 0} (old new : Id → Option Levels) (es fs : TableModel Id) (next : Next) (number t d o : ℕ) (wanted clearance verify : Levels) where
+module _ {Id A : Type 0} (old new : Id → Option Levels) (es fs : TableModel Id) (next : Next) (number t d o : ℕ)
+    (wanted clearance verify : Levels) where
   pub kept_entered : (r : Result A Refusal) → AllStand new (objects_of fs) → IsUnusedFrom (objects_of (shown old es)) number → 0 < number
       → FailsAtUnlessExhausted (check (state_with old es next) t (Enter d o wanted clearance verify)) r
       → OnOk r (objects_of (shown new fs) ≡ put (objects_of (shown old es)) t (thread_of wanted clearance))

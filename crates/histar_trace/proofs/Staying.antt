@@ -48,7 +48,8 @@ entry_at labels bytes es at e call there is =
     ∙ ap (option_map (entry_of labels bytes)) there
     ∙ (λ i. Some (record { line = e.line; thread = e.thread; call = sym is i; denied = e.denied }))
 
-module _ (labels : List Levels) (bytes : List (List ℕ)) (labels' : List Levels) (bytes' : List (List ℕ)) (k : IsKeptIn labels bytes labels' bytes') where
+module _ (labels : List Levels) (bytes : List (List ℕ)) (labels' : List Levels) (bytes' : List (List ℕ))
+    (k : IsKeptIn labels bytes labels' bytes') where
   some_label : (x y : Option Levels) → ((L : Levels) → x ≡ Some L → y ≡ Some L) → IsSome x → IsSome y
   some_label None y keeps s = cc
   some_label (Some L) y keeps s = ap is_some (keeps L refl)

@@ -149,7 +149,8 @@ module _ (t : ℕ) (old new : KernelModel) where
     gives_back_not A part mid errno first Stopped second = λ rest. (first rest).begins new (second (λ _. Answers (replies.Refused errno)))
 
 module _ (t : ℕ) (call : RawCall) (old mid : KernelModel) (own : Levels × Levels) {A : Type 0} (P : A → Type 0) (refusal : Refusal) (errno : Errno)
-    (denied : AnsweredAs {A = A} old mid t call (Err refusal) P) (is : Refused errno ≡ call_error_of (errno_for call) refusal) (new : KernelModel) where
+    (denied : AnsweredAs {A = A} old mid t call (Err refusal) P) (is : Refused errno ≡ call_error_of (errno_for call) refusal)
+    (new : KernelModel) where
   -- the raw call was denied, and what was taken is given back
   pub given_back : RunsPart (restore own) mid new t (Ok tt) → RunsPart (ask_or_give_back own call) old new t (Err (Refused errno))
   given_back second =

@@ -27,7 +27,8 @@ listing_it : (g : given.Over) (c : In_ok-container g)
     → LeavesPart (Unit {0}) c.args.thread (add_directory c.args.label c.args.room) c.args.kernel.now
     (after_container c.args.label c.args.room c.in_ok-container.container) c.make_container.new.self
 listing_it g c =
-    further_in _ (after_container _ _) (whole_part _ _ _) _ _ (grants _ _ _ _ _ c.in_ok-container.ensures.answered.0 c.in_ok-container.ensures.answered.1)
+    further_in _ (after_container _ _) (whole_part _ _ _) _ _
+    (grants _ _ _ _ _ c.in_ok-container.ensures.answered.0 c.in_ok-container.ensures.answered.1)
 
 pub returns-in_err-listing : goal.returns-in_err-listing
 returns-in_err-listing g c =

@@ -19,4 +19,5 @@ returns-in_err-made g c =
 
 pub returns : goal.returns
 returns g c =
-    segment_so _ _ _ _ _ _ _ _ c.in_ok-label.ensures c.in_ok-bytes.ensures _ (grants _ _ _ _ _ c.in_ok-made.ensures.answered.0 c.in_ok-made.ensures.answered.1)
+    segment_so _ _ _ _ _ _ _ _ c.in_ok-label.ensures c.in_ok-bytes.ensures _
+    (grants _ _ _ _ _ c.in_ok-made.ensures.answered.0 c.in_ok-made.ensures.answered.1)

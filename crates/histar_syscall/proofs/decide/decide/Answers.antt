@@ -1,5 +1,5 @@
 -- Proves the goals of `decide` of src/decide.rt that the search leaves open: a call whose answer is a number, labels, an entry or bytes.
-use Rattle.std.proofs.Common.{◌≡◌, refl}
+use Rattle.std.proofs.Common.{refl}
 use Rattle.histar_rules.specs.declared.raw.RawCall.TheVariants.{MakeCategory, OwnLabel, MakeSegment, MakeContainer, MakeThread, MakeGate}
 use Rattle.histar_rules.specs.declared.raw.RawCall.TheVariants.{Enter, Read, Write, Unlink, LabelOf}
 use Rattle.histar_syscall.specs.declared.answers.Answer.TheVariants as answers

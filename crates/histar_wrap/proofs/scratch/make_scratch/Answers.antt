@@ -50,7 +50,8 @@ pub returns-in_err-insert : goal.returns-in_err-insert
 returns-in_err-insert g c =
     fails_so _ _ _ _ _ _ c.from_residual-in_err-insert.ensures.1
     ((left g (goal.at.returns-in_err-insert g c).After-make_segment c.in_ok-listing.listing
-    (grants _ _ _ _ _ c.in_ok-listing.ensures.answered.0 c.in_ok-listing.ensures.answered.1)).leads _ _ (before_entries _ _ (grown c.args.room _ _) _))
+    (grants _ _ _ _ _ c.in_ok-listing.ensures.answered.0 c.in_ok-listing.ensures.answered.1)).leads _ _
+    (before_entries _ _ (grown c.args.room _ _) _))
 
 pub returns : goal.returns
 returns g c =

@@ -1,5 +1,5 @@
 -- Proves the goals of `Links::insert` of src/links.rt that the search leaves open.
-use Rattle.std.proofs.Common.{◌≤◌, sym, subst, arith}
+use Rattle.std.proofs.Common.{sym, subst, arith}
 use Rattle.histar_object.specs.Links.{AreUpTo}
 use Rattle.histar_object.proofs.LinkLemmas.{inserted, up_to_inserted}
 use Rattle.histar_object.proofs.links.Links.insert.Goals as goal

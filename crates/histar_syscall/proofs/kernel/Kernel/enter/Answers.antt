@@ -20,6 +20,7 @@ pub returns : goal.returns
 returns g c =
     let before : KernelModel = record { kept = c.self.inside.objects; line = c.self.inside.line; trace = c.self.inside.trace.entries } in
     recorded_answer _ before _ _ c.record.new.self.entries _
-    (Enter c.args.container c.args.gate c.args.labels.wanted.now c.args.labels.clearance.now c.args.labels.verify.now) _ c.record.result c.self.view_is c.store_enter.ensures.entries (rw c.new-access.ensures at
-    c.enter-answer.ensures) c.record.ensures.outcome (c.record.ensures.entries (Enter c.args.container c.args.gate c.args.labels.wanted.now
+    (Enter c.args.container c.args.gate c.args.labels.wanted.now c.args.labels.clearance.now c.args.labels.verify.now) _
+    c.record.result c.self.view_is c.store_enter.ensures.entries (rw c.new-access.ensures at c.enter-answer.ensures)
+    c.record.ensures.outcome (c.record.ensures.entries (Enter c.args.container c.args.gate c.args.labels.wanted.now
     c.args.labels.clearance.now c.args.labels.verify.now) c.in_ok-call.ensures.stands)

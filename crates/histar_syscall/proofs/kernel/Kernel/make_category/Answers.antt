@@ -1,5 +1,5 @@
 -- Proves the goals of `Kernel::make_category` of src/kernel.rt that the search finds slowly.
-use Rattle.std.proofs.Common.{◌≡◌, refl}
+use Rattle.std.proofs.Common.{refl}
 use Rattle.histar_rules.proofs.Sound.{sound_decided}
 use Rattle.histar_rules.specs.declared.raw.RawCall.TheVariants.{MakeCategory}
 use Rattle.histar_syscall.specs.KernelModel.{KernelModel}

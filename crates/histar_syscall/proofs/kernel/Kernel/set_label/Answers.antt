@@ -12,7 +12,8 @@ returns-in_err-call g c =
 
 pub invariant_of-self-2 : goal.invariant_of-self-2
 invariant_of-self-2 g c =
-    sound_decided c.self.inside.objects c.set_label-answer.new.objects c.args.thread (SetLabel c.args.label) _ _ c.self.invariant c.set_label-answer.ensures
+    sound_decided c.self.inside.objects c.set_label-answer.new.objects c.args.thread (SetLabel c.args.label) _ _
+    c.self.invariant c.set_label-answer.ensures
 
 pub returns : goal.returns
 returns g c =

@@ -13,7 +13,8 @@ returns-in_err-make_room g c =
 
 pub invariant_of-self-2 : goal.invariant_of-self-2
 invariant_of-self-2 g c =
-    sound_decided c.self.inside.objects c.unlink-answer.new.objects c.args.thread (Unlink c.args.container c.args.object) _ _ c.self.invariant (rw c.new-access.ensures at c.unlink-answer.ensures)
+    sound_decided c.self.inside.objects c.unlink-answer.new.objects c.args.thread (Unlink c.args.container c.args.object) _ _
+    c.self.invariant (rw c.new-access.ensures at c.unlink-answer.ensures)
 
 pub returns : goal.returns
 returns g c =
