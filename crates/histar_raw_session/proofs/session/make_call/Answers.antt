@@ -1,5 +1,5 @@
 -- Proves the goals of `make_call` of src/session.rt that the search leaves open.
-use Rattle.std.proofs.Common.{◌≡◌, None, Some, Err, ap, subst}
+use Rattle.std.proofs.Common.{None, Some, Err, ap, subst}
 use Rattle.histar_rules.specs.declared.raw.Refusal.{Refusal}
 use Rattle.histar_syscall.specs.Answers.{IsAnswerValue}
 use Rattle.histar_syscall.specs.KernelModel.{state, AnsweredAs}
