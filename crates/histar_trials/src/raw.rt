@@ -50,12 +50,13 @@ fn shows(alloc: Global, text: &[u8], trace: &Trace) -> Result<bool, Fault> {
 }
 
 /// Checks that all calls of a session, made at once, are granted and denied as these answers say, over every
-/// store of labels.
+/// store of labels: the one that remembers comparisons, with many places and with one, and the plain one.
 fn is_so_at_once(alloc: Global, session: &[u8], text: &[u8]) -> Result<bool, Fault> {
     let calls = read_calls(alloc, session)?;
-    let interned = is_so_over(alloc, InternStore::new(alloc, 256)?, calls.as_slice(), text)?;
+    let many = is_so_over(alloc, InternStore::new(alloc, 256)?, calls.as_slice(), text)?;
+    let one = is_so_over(alloc, InternStore::new(alloc, 1)?, calls.as_slice(), text)?;
     let plain = is_so_over(alloc, PlainStore::new(alloc), calls.as_slice(), text)?;
-    Ok(interned && plain)
+    Ok(many && one && plain)
 }
 
 /// Checks that these calls, made at once over a store of labels, are granted and denied as these answers say.
