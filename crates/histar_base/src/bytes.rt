@@ -75,21 +75,3 @@ impl Bytes {
         self.content
     }
 }
-
-#[cfg(test)]
-mod tests {
-    use super::*;
-    use std::test::Fail;
-
-    #[test]
-    fn copies_bytes(rt: HostRuntime) -> Result<(), Fail> {
-        let first = Bytes::copy_of(rt.alloc(), b"a b".as_slice())?;
-        let second = first.copy(rt.alloc())?;
-        assert_eq!(rt; second.len(), 3);
-        assert!(rt; !second.is_empty());
-        assert!(rt; Bytes::new(rt.alloc()).is_empty());
-        let moved = Bytes::from_vec(second.into_vec());
-        assert_eq!(rt; moved.as_slice(), first.as_slice());
-        Ok(())
-    }
-}

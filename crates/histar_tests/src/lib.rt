@@ -5,6 +5,8 @@
 #[cfg(test)]
 mod classes;
 #[cfg(test)]
+mod directories;
+#[cfg(test)]
 mod processes;
 #[cfg(test)]
 mod raw_confined;

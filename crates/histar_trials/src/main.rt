@@ -1,11 +1,13 @@
 //! Runs the scripts and raw sessions of standard input, and prints the replies of each: each script over all
 //! stores of labels and through devices that move one byte a call, each raw session line by line and at once.
+//! It asks scripts the questions of the other subcommands too.
 //!
 //! The gate runs it on the scripts and raw sessions of `examples/`, whose replies were written by hand. It
 //! shows that each public call that may answer out of memory answers otherwise where memory is ample.
 #![tactic(auto)]
 
 mod devices;
+mod questions;
 mod raw;
 mod script;
 mod trial;
@@ -23,8 +25,17 @@ use std::process::ExitCode;
 fn run_trial(alloc: Global, trial: &Trial<'_>) -> Result<Vec<u8>, Fault> {
     match trial.kind {
         Kind::Run(options) => script::replies(alloc, trial.body, options),
+        Kind::Explain(options) => questions::explained(alloc, trial.body, options),
+        Kind::Calls(options) => questions::with_calls(alloc, trial.body, options),
         Kind::Check(job) => script::verdict(alloc, trial.body, &job),
+        Kind::CheckWhy(job) => questions::reason(alloc, trial.body, &job),
+        Kind::CheckAll => questions::verdicts(alloc, trial.body),
+        Kind::Access(at) => questions::rights(alloc, trial.body, at),
+        Kind::Diff(at) => questions::changes(alloc, trial.body, at),
+        Kind::Trust(path, at) => questions::trusted(alloc, trial.body, &path, at),
+        Kind::File(kind) => questions::of_file(alloc, kind, trial.title, trial.body),
         Kind::Raw => raw::answers(alloc, trial.body),
+        Kind::ExplainRaw => raw::explained(alloc, trial.body),
     }
 }
 

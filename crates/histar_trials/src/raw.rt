@@ -3,6 +3,7 @@ use crate::devices::{ByteReader, ByteWriter};
 use crate::script::{DIFFERS, with_fault};
 use histar_label::{InternStore, LabelStore, PlainStore};
 use histar_object::ObjId;
+use histar_raw_explain::explain_raw_script;
 use histar_raw_session::run_raw_script;
 use histar_rawtext::{denial_name, read_raw};
 use histar_rules::RawCall;
@@ -96,4 +97,12 @@ pub fn answers(alloc: Global, session: &[u8]) -> Result<Vec<u8>, Fault> {
     } else {
         Ok(DIFFERS.to_vec(alloc)?)
     }
+}
+
+/// Returns what a raw session writes, with the explanations of its denials.
+pub fn explained(alloc: Global, session: &[u8]) -> Result<Vec<u8>, Fault> {
+    let mut reader = Counted::new(session);
+    let mut writer = Counted::new(Vec::new(alloc));
+    let done = explain_raw_script(alloc, &mut reader, &mut writer);
+    with_fault(alloc, done, writer.into_inner())
 }

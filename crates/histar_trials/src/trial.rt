@@ -1,5 +1,5 @@
 //! The trials that a text lists.
-use histar_flat::{ProcName, read_process, split_at_first};
+use histar_flat::{Path, ProcName, read_number, read_path, read_process, split_at_first};
 use histar_shell::Options;
 use memchr::memmem;
 
@@ -8,10 +8,41 @@ use memchr::memmem;
 pub enum Kind {
     /// A script, with what is printed beside the replies.
     Run(Options),
+    /// The same, with the explanations of denials.
+    Explain(Options),
+    /// The same, with each reply behind its call.
+    Calls(Options),
     /// A script, compared with the one without this job.
     Check(ProcName),
+    /// The same, with what each of the two prints where they differ.
+    CheckWhy(ProcName),
+    /// A script, compared with the one without each of its jobs.
+    CheckAll,
+    /// The rights in a script, before a line or at its end.
+    Access(Option<u32>),
+    /// The rights that differ between two scripts.
+    Diff(Option<u32>),
+    /// On whom it depends what is at a path.
+    Trust(Path, Option<u32>),
+    /// A script or a raw session whose name is in the title.
+    File(FileKind),
     /// A session of raw calls.
     Raw,
+    /// The same, with the explanations of denials.
+    ExplainRaw,
+}
+
+/// What is made of a script or a raw session that has a name.
+#[derive(Clone, Copy)]
+pub enum FileKind {
+    /// The sentence on the first bad line of a script.
+    Lint,
+    /// The sentence on the first bad line of a raw session.
+    LintRaw,
+    /// The page of a session.
+    Report,
+    /// The results of what a script expects.
+    Test,
 }
 
 /// A title, and the script or the raw session below it.
@@ -24,6 +55,9 @@ pub struct Trial<'a> {
 
 /// The beginning of a title.
 const MARK: &[u8] = b"== ";
+
+/// The greatest number of a line.
+const MOST_LINES: u64 = 1_048_576;
 
 /// Reads the options of a run.
 fn read_options(words: Option<&[u8]>) -> Option<Options> {
@@ -43,15 +77,71 @@ fn options(tree: bool, trace: bool) -> Options {
     Options { tree, trace }
 }
 
-/// Reads what a title asks for: `run`, with its flags, `check`, with its job, or `raw`.
-fn read_kind(title: &[u8]) -> Option<Kind> {
-    let (word, rest) = split_at_first(title, b' ');
+/// Reads the number of a line, if there is one.
+fn read_line(word: Option<&[u8]>) -> Option<Option<u32>> {
+    let Some(word) = word else {
+        return Some(None);
+    };
+    let number = read_number(word, MOST_LINES)?;
+    Some(Some(number as u32))
+}
+
+/// Reads a path, and behind it the number of a line, if there is one.
+fn read_place(words: &[u8]) -> Option<Kind> {
+    let (path, line) = split_at_first(words, b' ');
+    Some(Kind::Trust(read_path(path)?, read_line(line)?))
+}
+
+/// Reads which run a title asks for, by its first word and the flags behind it.
+fn read_run(word: &[u8], rest: Option<&[u8]>) -> Option<Kind> {
     match word {
         b"run" => Some(Kind::Run(read_options(rest)?)),
-        b"check" => Some(Kind::Check(read_process(rest?)?)),
-        b"raw" => Some(Kind::Raw),
+        b"explain" => Some(Kind::Explain(read_options(rest)?)),
+        b"calls" => Some(Kind::Calls(read_options(rest)?)),
         _ => None,
     }
+}
+
+/// Reads which comparison a title asks for, by its first word and the job behind it.
+fn read_check(word: &[u8], rest: Option<&[u8]>) -> Option<Kind> {
+    match word {
+        b"check" => Some(Kind::Check(read_process(rest?)?)),
+        b"check_why" => Some(Kind::CheckWhy(read_process(rest?)?)),
+        b"check_all" => Some(Kind::CheckAll),
+        _ => None,
+    }
+}
+
+/// Reads what a title asks of a script, by its first word and the line or the path behind it.
+fn read_question(word: &[u8], rest: Option<&[u8]>) -> Option<Kind> {
+    match word {
+        b"access" => Some(Kind::Access(read_line(rest)?)),
+        b"diff" => Some(Kind::Diff(read_line(rest)?)),
+        b"trust" => read_place(rest?),
+        _ => None,
+    }
+}
+
+/// Reads what a title asks for of a raw session or a file, by its first word.
+fn read_session(word: &[u8]) -> Option<Kind> {
+    match word {
+        b"raw" => Some(Kind::Raw),
+        b"explain_raw" => Some(Kind::ExplainRaw),
+        b"lint" => Some(Kind::File(FileKind::Lint)),
+        b"lint_raw" => Some(Kind::File(FileKind::LintRaw)),
+        b"report" => Some(Kind::File(FileKind::Report)),
+        b"test" => Some(Kind::File(FileKind::Test)),
+        _ => None,
+    }
+}
+
+/// Reads what a title asks for: the first that it is of a run, a comparison, a question and a session.
+fn read_kind(title: &[u8]) -> Option<Kind> {
+    let (word, rest) = split_at_first(title, b' ');
+    read_run(word, rest)
+        .or(read_check(word, rest))
+        .or(read_question(word, rest))
+        .or(read_session(word))
 }
 
 /// Splits a text into the lines before the next title and the rest.

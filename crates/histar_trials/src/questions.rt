@@ -1,0 +1,138 @@
+//! Questions to scripts: why, who may, what changes, on whom it depends, and what is wrong.
+use crate::script::with_fault;
+use crate::trial::FileKind;
+use histar_access::{access, diff};
+use histar_comparison::{compare_all, explain_comparison};
+use histar_flat::{Path, ProcName, split_at_first};
+use histar_lint::lint;
+use histar_raw_lint::lint_raw;
+use histar_report::report;
+use histar_run_explain::explain_script;
+use histar_script::Fault;
+use histar_shell::{Counted, Options};
+use histar_test::{TestFile, test};
+use histar_transcript::transcribe;
+use histar_trust::trust;
+use memchr::memmem;
+use std::alloc::Global;
+
+/// The line between two scripts.
+const BETWEEN: &[u8] = b"# and\n";
+
+/// Returns what a script writes, with the explanations of its denials.
+pub fn explained(alloc: Global, script: &[u8], options: Options) -> Result<Vec<u8>, Fault> {
+    let mut reader = Counted::new(script);
+    let mut writer = Counted::new(Vec::new(alloc));
+    let done = explain_script(alloc, &mut reader, &mut writer, options);
+    with_fault(alloc, done, writer.into_inner())
+}
+
+/// Returns what a script writes, with each reply behind its call.
+pub fn with_calls(alloc: Global, script: &[u8], options: Options) -> Result<Vec<u8>, Fault> {
+    let mut reader = Counted::new(script);
+    let mut writer = Counted::new(Vec::new(alloc));
+    let done = transcribe(alloc, &mut reader, &mut writer, options, false);
+    with_fault(alloc, done, writer.into_inner())
+}
+
+/// Returns the line of the comparison of a script with the one without a job, and what differs.
+pub fn reason(alloc: Global, script: &[u8], job: &ProcName) -> Result<Vec<u8>, Fault> {
+    let found = explain_comparison(alloc, script, job)?;
+    Ok(found.line(alloc, true)?)
+}
+
+/// Returns the lines of the comparisons of a script with the one without each of its jobs.
+pub fn verdicts(alloc: Global, script: &[u8]) -> Result<Vec<u8>, Fault> {
+    let found = compare_all(alloc, script)?;
+    let mut text = Vec::new(alloc);
+    for verdict in found.as_slice() {
+        let line = verdict.line(alloc, false)?;
+        text.extend_from_slice(line.as_slice())?;
+    }
+    Ok(text)
+}
+
+/// Returns the table of the rights in a script, before a line or at its end.
+pub fn rights(alloc: Global, script: &[u8], at: Option<u32>) -> Result<Vec<u8>, Fault> {
+    let mut reader = Counted::new(script);
+    let mut writer = Counted::new(Vec::new(alloc));
+    let done = access(alloc, &mut reader, &mut writer, at);
+    with_fault(alloc, done, writer.into_inner())
+}
+
+/// Returns the rights that differ between two scripts, before a line of both or at their ends.
+pub fn changes(alloc: Global, scripts: &[u8], at: Option<u32>) -> Result<Vec<u8>, Fault> {
+    let (old, new) = split_scripts(scripts).ok_or(Fault::BadScript(0))?;
+    let (mut old, mut new) = (Counted::new(old), Counted::new(new));
+    let mut writer = Counted::new(Vec::new(alloc));
+    let done = diff(alloc, &mut old, &mut new, &mut writer, at);
+    with_fault(alloc, done.map(|_| ()), writer.into_inner())
+}
+
+/// Splits a text into two scripts, at the line between them.
+fn split_scripts(scripts: &[u8]) -> Option<(&[u8], &[u8])> {
+    let (old, rest) = scripts.split_at(memmem::find(scripts, BETWEEN)?);
+    let new = rest.strip_prefix(BETWEEN)?;
+    Some((old, new))
+}
+
+/// Returns on whom it depends what is at a path, before a line of a script or at its end.
+pub fn trusted(
+    alloc: Global,
+    script: &[u8],
+    path: &Path,
+    at: Option<u32>,
+) -> Result<Vec<u8>, Fault> {
+    let mut reader = Counted::new(script);
+    let mut writer = Counted::new(Vec::new(alloc));
+    let done = trust(alloc, path, &mut reader, &mut writer, at);
+    with_fault(alloc, done, writer.into_inner())
+}
+
+/// Returns what is made of a script or a raw session, whose name is behind the first word of a title.
+pub fn of_file(alloc: Global, kind: FileKind, title: &[u8], text: &[u8]) -> Result<Vec<u8>, Fault> {
+    let (_, name) = split_at_first(title, b' ');
+    let name = name.ok_or(Fault::BadScript(0))?;
+    match kind {
+        FileKind::Lint => sentence(alloc, name, text),
+        FileKind::LintRaw => raw_sentence(alloc, name, text),
+        FileKind::Report => page(alloc, name, text),
+        FileKind::Test => results(alloc, name, text),
+    }
+}
+
+/// Returns the sentence on the first bad line of a script.
+fn sentence(alloc: Global, name: &[u8], script: &[u8]) -> Result<Vec<u8>, Fault> {
+    let mut reader = Counted::new(script);
+    let mut writer = Counted::new(Vec::new(alloc));
+    let done = lint(alloc, name, &mut reader, &mut writer);
+    with_fault(alloc, done.map(|_| ()), writer.into_inner())
+}
+
+/// Returns the sentence on the first bad line of a raw session.
+fn raw_sentence(alloc: Global, name: &[u8], session: &[u8]) -> Result<Vec<u8>, Fault> {
+    let mut reader = Counted::new(session);
+    let mut writer = Counted::new(Vec::new(alloc));
+    let done = lint_raw(alloc, name, &mut reader, &mut writer);
+    with_fault(alloc, done.map(|_| ()), writer.into_inner())
+}
+
+/// Returns the page of a session, whose name has the version of the program before it.
+fn page(alloc: Global, words: &[u8], script: &[u8]) -> Result<Vec<u8>, Fault> {
+    let (version, name) = split_at_first(words, b' ');
+    let name = name.ok_or(Fault::BadScript(0))?;
+    let mut reader = Counted::new(script);
+    let mut writer = Counted::new(Vec::new(alloc));
+    let done = report(alloc, &mut reader, &mut writer, name, version);
+    with_fault(alloc, done, writer.into_inner())
+}
+
+/// Returns the results of what a script expects.
+fn results(alloc: Global, name: &[u8], script: &[u8]) -> Result<Vec<u8>, Fault> {
+    let name = Vec::from_slice(alloc, name)?;
+    let text = Vec::from_slice(alloc, script)?;
+    let files = [TestFile { name, text }];
+    let mut writer = Counted::new(Vec::new(alloc));
+    let done = test(alloc, &files, &mut writer);
+    with_fault(alloc, done.map(|_| ()), writer.into_inner())
+}
