@@ -1,14 +1,13 @@
 -- The lines that are computed from a machine are the table of the flat state that it represents.
-use Rattle.std.specs.Prelude.{◌≡◌, ℕ, suc, ◌≤◌, true, List, [], ◌∷◌, length, map, Option, None, Some, refl}
+use Rattle.std.specs.Prelude.{◌≡◌, suc, ◌≤◌, true, List, [], ◌∷◌, length, map, Option, None, Some, refl}
 use Rattle.std.specs.List.{filter_map}
-use Rattle.std.proofs.Common.{ap, sym, ◌∙◌, subst, arith}
-use Rattle.histar_flat.specs.Words.{Name, Path, ProcName, most_names}
+use Rattle.std.proofs.Common.{ap, sym, ◌∙◌, subst}
+use Rattle.histar_flat.specs.Words.{Path, ProcName, most_names}
 use Rattle.histar_flat.specs.Accounts.{Accounts}
 use Rattle.histar_flat.specs.Files.{get}
-use Rattle.histar_flat.specs.Classes.{Class, may_read, may_write}
-use Rattle.histar_flat.specs.FlatState.{Content, Flat, IsTree, Node, bytes_of, is_dir, is_dir_at, is_some_and, is_there}
-use Rattle.histar_flat.specs.FlatState.Content.{Dir, File}
-use Rattle.histar_flat.specs.FlatCalls.{most_bytes}
+use Rattle.histar_flat.specs.Classes.{may_read, may_write}
+use Rattle.histar_flat.specs.FlatState.{Flat, Node, is_there}
+use Rattle.histar_flat.specs.FlatState.Content.{Dir}
 use Rattle.histar_object.specs.State.{State}
 use Rattle.histar_syscall.specs.KernelModel.{state}
 use Rattle.histar_layout.specs.declared.entry.Target.TheVariants.{Directory}
@@ -16,7 +15,7 @@ use Rattle.histar_programs.specs.declared.roots.Roots.{Roots}
 use Rattle.histar_programs.specs.Start.{roots_of}
 use Rattle.histar_refinement.specs.Represents.{ObjectsMatch}
 use Rattle.histar_refinement.specs.Accounts.{AreAccounts}
-use Rattle.histar_refinement.proofs.Agreeing.{parent_is_dir, root_is_dir}
+use Rattle.histar_refinement.proofs.Agreeing.{root_is_dir}
 use Rattle.histar_rights.specs.Rights.{rights_below}
 use Rattle.histar_rights.specs.Running.{HaveShownNames, Named, running_in}
 use Rattle.histar_rights.specs.Table.{access_table, line_of}

@@ -1,14 +1,10 @@
 -- The rights of all running processes at the paths of a state, by the labels of its objects.
-use Rattle.std.specs.Prelude.{ℕ, List, [], ◌∷◌, ◌++◌, length, map, take, Option, option_map}
+use Rattle.std.specs.Prelude.{ℕ, List, [], ◌∷◌, ◌++◌, length, map, take, Option}
 use Rattle.std.specs.List.{filter_map}
-use Rattle.histar_flat.specs.Words.{ProcName}
-use Rattle.histar_object.specs.State.{State, observes, modifies}
+use Rattle.histar_object.specs.State.{State}
 use Rattle.histar_layout.specs.Listing.{object_of}
 use Rattle.histar_programs.specs.declared.roots.Roots.{Roots}
-use Rattle.histar_programs.specs.declared.caller.Caller.{Caller}
-use Rattle.histar_programs.specs.Caller.{caller_at}
 use Rattle.histar_rights.specs.declared.rights.Rights.{Rights}
-use Rattle.histar_rights.specs.Rights.{above_root, rights_below}
 use Rattle.histar_rights.specs.Table.{AccessLine, Cell as NamedRights, access_line_text, cell_text}
 use Rattle.histar_readout.specs.declared.process.ProcessNode.{ProcessNode}
 use Rattle.histar_readout.specs.declared.tree.TreeNode.{TreeNode}

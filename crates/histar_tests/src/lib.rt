@@ -1,5 +1,5 @@
-//! Tests that cross crates: lists of raw calls on a kernel, call by call, and whole runs between a
-//! source and a sink. There is nothing to run here but tests.
+//! Tests that cross crates: what is found in a kernel's own objects, machines that stop where memory runs out,
+//! and what labels, their stores and the table of objects are then. There is nothing to run here but tests.
 #![tactic(auto)]
 
 #[cfg(test)]
@@ -7,14 +7,10 @@ mod classes;
 #[cfg(test)]
 mod directories;
 #[cfg(test)]
+mod labels;
+#[cfg(test)]
 mod processes;
 #[cfg(test)]
-mod raw_confined;
-#[cfg(test)]
-mod raw_segments;
-#[cfg(test)]
-mod raw_sessions;
-#[cfg(test)]
-mod runs;
-#[cfg(test)]
 mod stops;
+#[cfg(test)]
+mod tables;

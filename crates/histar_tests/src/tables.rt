@@ -1,27 +1,8 @@
-//! Tables of objects and sets of links, whose slots are used again, and what want of memory leaves.
-use histar_object::{Kind, Links, ObjId, Object, Table};
+//! A table of objects: a slot that is used again, and what want of memory leaves.
+use histar_object::{Kind, ObjId, Object, Table};
 use std::alloc::AllocError;
 use std::process::Abort;
 use std::test::Fail;
-
-/// Checks whether there is a link to the object of this number.
-fn has_link(rt: &impl Abort, links: &Links, number: u64, wanted: bool) {
-    assert_eq!(rt; links.contains(ObjId::new(number)), wanted);
-}
-
-#[test]
-fn links_are_what_was_inserted_and_not_removed(rt: HostRuntime) -> Result<(), Fail> {
-    let mut links = Links::new(rt.alloc());
-    has_link(&rt, &links, 7, false);
-    links.insert(ObjId::new(7))?;
-    links.insert(ObjId::new(9))?;
-    links.insert(ObjId::new(7))?;
-    has_link(&rt, &links, 7, true);
-    links.remove(ObjId::new(7));
-    has_link(&rt, &links, 7, false);
-    has_link(&rt, &links, 9, true);
-    Ok(())
-}
 
 /// Adds a thread with this label under a number that has no object.
 fn add(table: &mut Table<u8>, number: u64, label: u8) -> Result<(), AllocError> {
@@ -46,27 +27,6 @@ fn has_label(rt: &impl Abort, table: &Table<u8>, number: u64, wanted: Option<u8>
 /// Checks which slot the object of this number has.
 fn has_slot(rt: &impl Abort, table: &Table<u8>, number: u64, wanted: Option<usize>) {
     assert_eq!(rt; table.slot(ObjId::new(number)), wanted);
-}
-
-/// Adds objects 5 and 3, changes the label of 3, and checks what is found.
-fn add_and_find(rt: &impl Abort, table: &mut Table<u8>) -> Result<(), AllocError> {
-    add(table, 5, 1)?;
-    add(table, 3, 3)?;
-    if let Some(object) = table.get_mut(ObjId::new(3)) {
-        object.label = 9;
-    }
-    has_label(rt, table, 5, Some(1));
-    has_label(rt, table, 3, Some(9));
-    has_label(rt, table, 4, None);
-    assert!(rt; table.bytes(ObjId::new(3)).is_none());
-    Ok(())
-}
-
-#[test]
-fn objects_are_found_by_their_numbers(rt: HostRuntime) -> Result<(), Fail> {
-    let mut table = Table::new(rt.alloc());
-    add_and_find(&rt, &mut table)?;
-    Ok(())
 }
 
 /// Adds object 3 after object 1 is removed, and checks that it has the slot of that one, and object 2 its own.
