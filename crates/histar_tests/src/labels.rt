@@ -1,4 +1,4 @@
-//! Labels and stores of labels where memory runs out in the midst of a call.
+//! Labels and stores of labels where memory runs out in the midst of a call; joins and floors that a store puts.
 use histar_label::{Category, InternStore, Label, LabelStore, Level, OutOfMemory, PlainStore};
 use std::alloc::Global;
 use std::process::Abort;
@@ -85,5 +85,31 @@ fn stores_stay_without_memory(rt: HostRuntime) -> Result<(), Fail> {
     stays_without_memory(&rt, rt.alloc(), &mut plain)?;
     let mut interned = InternStore::new(rt.alloc(), 1)?;
     stays_without_memory(&rt, rt.alloc(), &mut interned)?;
+    Ok(())
+}
+
+/// Checks the join and the floor of two labels that a store puts, and that these two stay.
+fn puts_bounds<S: LabelStore>(
+    rt: &impl Abort,
+    alloc: Global,
+    store: &mut S,
+) -> Result<(), OutOfMemory> {
+    let first = store.put(at_seven(alloc, Level::L2)?)?;
+    let second = store.put(at_seven(alloc, Level::Star)?)?;
+    let joined = store.join(first, second)?;
+    let floored = store.floor(first, second)?;
+    has_level(rt, store, joined, Level::L2);
+    has_level(rt, store, floored, Level::Star);
+    has_level(rt, store, first, Level::L2);
+    has_level(rt, store, second, Level::Star);
+    Ok(())
+}
+
+#[test]
+fn joins_and_floors_are_put(rt: HostRuntime) -> Result<(), Fail> {
+    let mut plain = PlainStore::new(rt.alloc());
+    puts_bounds(&rt, rt.alloc(), &mut plain)?;
+    let mut interned = InternStore::new(rt.alloc(), 1)?;
+    puts_bounds(&rt, rt.alloc(), &mut interned)?;
     Ok(())
 }
