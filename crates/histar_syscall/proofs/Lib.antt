@@ -6,3 +6,5 @@ pub mod Beginnings
 pub mod Confined
 pub mod OneEnd
 pub mod Deciding
+pub mod Reached
+pub mod Worked

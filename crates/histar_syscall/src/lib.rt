@@ -2,6 +2,7 @@
 #![tactic(auto)]
 
 mod answers;
+pub mod confinement_laws;
 mod containers;
 mod copied;
 mod decide;

@@ -13,7 +13,7 @@ use Rattle.histar_container.specs.Tree.{Address, Reached, here, there}
 use Rattle.histar_rules.specs.Sound.{root_number}
 use Rattle.histar_syscall.specs.KernelModel.{state}
 use Rattle.histar_rules.specs.Visible.{untainted, visible, end_of, untainted_objects, IsVisible}
-use Rattle.histar_confinement.specs.Laws.{VisibleIsReached, SameNumbersAreVisible}
+use Rattle.histar_syscall.specs.Laws.{VisibleIsReached, SameNumbersAreVisible}
 use Rattle.histar_rules.proofs.Tainted.{tainted_none, if_some, untainted_is, linker, visible_is}
 use Rattle.histar_syscall.proofs.Confined.{confinement}
 

@@ -1,5 +1,5 @@
 //! Laws about what is visible. Each law is the contract of a function that does nothing.
-ghost use Rattle.histar_confinement.specs.Laws.{VisibleIsReached, SameNumbersAreVisible};
+ghost use Rattle.histar_syscall.specs.Laws.{VisibleIsReached, SameNumbersAreVisible};
 
 /// Proves that an object is visible at the end of a path exactly where links lead to it from the root
 /// container through untainted objects alone.
