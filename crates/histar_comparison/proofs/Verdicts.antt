@@ -18,7 +18,7 @@ use Rattle.histar_noninterference.specs.declared.verdict.Verdict.{Verdict}
 use Rattle.histar_noninterference.specs.declared.verdict.Verdict.TheVariants.{NoJob, Same}
 use Rattle.histar_noninterference.specs.Comparison.{is_outsider, is_wrap_reply, line_verdict, outsiders, starts, tree_verdict, verdict}
 use Rattle.histar_noninterference.specs.Following.{directory_of}
-use Rattle.histar_noninterference.specs.Isolation.{IsolatesJobs}
+use Rattle.histar_noninterference.specs.Isolation.{OnlyReleasesDiffer}
 use Rattle.histar_noninterference.specs.Trees.{FindsFirstPath, first_difference, is_below_either, tree_lines}
 use Rattle.histar_noninterference.specs.Replies.{first_shown, shown}
 use Rattle.histar_noninterference.proofs.ShownReplies.{finds_first_line}
@@ -128,7 +128,7 @@ module _ (job : ProcName) where
         ∙ found finds script (sym (ap (λ (o : ObservationModel). o.replies.is_started) is) ∙ some)))
 
   -- the verdict of a quiet script is that nothing differs
-  pub quiet_is_same : IsolatesJobs → (text : List ℕ) (v : Verdict) → IsQuietScript job text → comparison job text ≡ Ok v → v ≡ Same
+  pub quiet_is_same : OnlyReleasesDiffer → (text : List ℕ) (v : Verdict) → IsQuietScript job text → comparison job text ≡ Ok v → v ≡ Same
   quiet_is_same isolates text v quiet e =
       let same : Ok v ≡ Ok (verdict quiet.script.accounts quiet.script.calls job) = sym e ∙ ap (verdict_of job) quiet.is_read in
       ok_inner same ∙ isolates quiet.script.accounts quiet.script.calls job quiet.starts quiet.quiet

@@ -1,5 +1,5 @@
 -- The verdict of a comparison of two runs.
-use Rattle.std.specs.Prelude.{◌≡◌, ℕ, true, List, Result, Ok, Err}
+use Rattle.std.specs.Prelude.{◌≡◌, ℕ, true, List, None, Result, Ok, Err}
 use Rattle.histar_flat.specs.Words.{ProcName}
 use Rattle.histar_flat.specs.Meaning.{meaning}
 use Rattle.histar_script.specs.declared.fault.Fault.{Fault}
@@ -7,7 +7,7 @@ use Rattle.histar_script.specs.Script.{ScriptModel}
 use Rattle.histar_script.specs.Reading.{script_of}
 use Rattle.histar_noninterference.specs.declared.verdict.Verdict.{Verdict}
 use Rattle.histar_noninterference.specs.Comparison.{line_verdict, starts, tree_verdict, verdict}
-use Rattle.histar_noninterference.specs.Isolation.{after_start, is_quiet}
+use Rattle.histar_noninterference.specs.Isolation.{first_release}
 use Rattle.histar_noninterference.specs.Trees.{first_difference, is_below_either}
 use Rattle.histar_noninterference.specs.Replies.{first_shown}
 use Rattle.histar_comparison.specs.Observation.{ObservationModel}
@@ -26,9 +26,10 @@ verdict_of job (Err fault) = Err fault
 abbrev pub comparison : ProcName → List ℕ → Result Verdict Fault
 comparison job text = verdict_of job (script_of text)
 
--- the text is a script in which a `wrap` starts the job, and the caller of that `wrap` has no later line that is a `rmdir` or a `wrap`
+-- the text is a script in which a `wrap` starts the job, and each later `rmdir` and `wrap` of the caller of that `wrap` is answered alike
+-- without the lines of the job
 pub record IsQuietScript (job : ProcName) (text : List ℕ) : Type 0 where
   pub script : ScriptModel
   pub is_read : script_of text ≡ Ok script
   pub starts : starts job (meaning script.accounts script.calls) ≡ true
-  pub quiet : is_quiet job (after_start job (meaning script.accounts script.calls)) ≡ true
+  pub quiet : first_release script.accounts script.calls job ≡ None

@@ -38,7 +38,7 @@ use Rattle.histar_noninterference.proofs.TestLemmas.{failed, is_same, left_holds
 use Rattle.histar_noninterference.proofs.Walks.{entries_alike, into_alike}
 
 -- a refused call changes nothing on either side
-both_refused : (job : ProcName) (f g f' g' : Flat) (e e' : Option Errno) → SameOutside job f g → is_some e ≡ true → is_some e' ≡ true
+pub both_refused : (job : ProcName) (f g f' g' : Flat) (e e' : Option Errno) → SameOutside job f g → is_some e ≡ true → is_some e' ≡ true
     → SameOutside job (flat_or e f f') (flat_or e' g g')
 both_refused job f g f' g' None e' r h h' = absurd (true≢false (sym h))
 both_refused job f g f' g' (Some x) None r h h' = absurd (true≢false (sym h'))
@@ -63,7 +63,7 @@ is_calm q _ = true
 module _ (m : ℕ) (w : ProcName) (accounts : Accounts) (f g : Flat) (r : SameOutside (m ∷ w) f g) (hf : IsStarted (m ∷ w) f)
     (hg : IsStarted (m ∷ w) g) (me : ProcName) (p : Process) (out : under_process (m ∷ w) me ≡ false) where
   -- two states look alike at a path that doesn't lie in the job
-  looks_alike : (q : Path) → lies_in_job (m ∷ w) f.files q ≡ false → LooksAlike false accounts f g p q
+  pub looks_alike : (q : Path) → lies_in_job (m ∷ w) f.files q ≡ false → LooksAlike false accounts f g p q
   looks_alike q u = record {
     way = way q u;
     here = λ walked. ap (option_map shown) (r.files.same q u);

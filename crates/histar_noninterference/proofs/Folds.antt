@@ -1,7 +1,7 @@
 -- Two runs, step by step, and the result of their comparison.
-use Rattle.std.specs.Prelude.{Bool, List, None, Some, [], cond, false, map, not, refl, true, ◌&&◌, ◌++◌, ◌||◌, ◌∷◌, ◌≡◌}
+use Rattle.std.specs.Prelude.{Bool, List, None, Some, [], cond, false, filter, map, not, refl, true, ◌&&◌, ◌++◌, ◌||◌, ◌∷◌, ◌≡◌}
 use Rattle.std.proofs.Common.{ap, inl, inr, subst, sym, ◌∙◌}
-use Rattle.std.proofs.lemmas.Bool.{and_parts, true≢false, cases_Bool}
+use Rattle.std.proofs.lemmas.Bool.{true≢false, cases_Bool}
 use Rattle.std.proofs.Math.Bool.{and-false}
 use Rattle.histar_flat.specs.declared.calls.CallLine.{CallLine}
 use Rattle.histar_flat.specs.declared.calls.UnixCall.{UnixCall}
@@ -17,7 +17,7 @@ use Rattle.histar_flat.specs.Words.{Path, ProcName}
 use Rattle.histar_flat.proofs.FileLemmas.{same_itself}
 use Rattle.histar_noninterference.specs.Comparison.{differs, first_line, first_path, first_that, is_left_out, is_outsider, lies_in_job, outsiders}
 use Rattle.histar_noninterference.specs.Comparison.{text_at}
-use Rattle.histar_noninterference.specs.Isolation.{is_quiet, is_rmdir_or_wrap}
+use Rattle.histar_noninterference.specs.Isolation.{is_rmdir_or_wrap, may_reveal}
 use Rattle.histar_noninterference.proofs.Relation.{IsStarted, SameOutside}
 use Rattle.histar_noninterference.proofs.TestLemmas.{is_same}
 
@@ -44,8 +44,11 @@ pub record Steps (job : ProcName) (accounts : Accounts) : Type 0 where
   pub keeps : (f : Flat) (me : ProcName) (call : UnixCall) → IsStarted job f → IsStarted job (flat_after accounts f me call)
   pub inside : (f g : Flat) (me : ProcName) (call : UnixCall) → SameOutside job f g → IsStarted job f → under_process job me ≡ true
       → SameOutside job (flat_after accounts f me call) g
-  pub wrapper : (f g : Flat) (call : UnixCall) → SameOutside job f g → IsStarted job f → IsStarted job g → is_rmdir_or_wrap call ≡ false
+  pub wrapper : (f g : Flat) (call : UnixCall) → SameOutside job f g → IsStarted job f → IsStarted job g
+      → (is_rmdir_or_wrap call ≡ true
+      → same (reply_text (reply_to accounts f (parent job) call)) (reply_text (reply_to accounts g (parent job) call)) ≡ true)
       → SameOutside job (flat_after accounts f (parent job) call) (flat_after accounts g (parent job) call)
+  pub apart : (me : ProcName) → under_process job me ≡ true → same (parent job) me ≡ false
   pub outsider : (f g : Flat) (me : ProcName) (call : UnixCall) → SameOutside job f g → IsStarted job f → IsStarted job g
       → is_outsider job me ≡ true → SameOutside job (flat_after accounts f me call) (flat_after accounts g me call)
   pub replies : (f g : Flat) (me : ProcName) (call : UnixCall) → SameOutside job f g → IsStarted job f → IsStarted job g
@@ -58,38 +61,40 @@ pub record RunAlike (job : ProcName) (as' bs : List RepliedCall) (f g : Flat) : 
 
 module _ (job : ProcName) (accounts : Accounts) (steps : Steps job accounts) where
   pub runs_alike : (calls : List CallLine) (f g : Flat) → SameOutside job f g → IsStarted job f → IsStarted job g
-      → is_quiet job (answered_from accounts f calls) ≡ true →
+      → first_line (filter (may_reveal job) (answered_from accounts f calls)) (filter (may_reveal job) (answered_from accounts g (without job calls)))
+      ≡ None →
       RunAlike job (answered_from accounts f calls) (answered_from accounts g (without job calls)) (flat_end accounts f calls)
       (flat_end accounts g (without job calls))
   runs_alike [] f g r hf hg quiet = record { lines = refl; ends = r }
-  runs_alike (c ∷ calls) f g r hf hg quiet =
-      let here = and_parts (not (same (parent job) c.process && is_rmdir_or_wrap c.call))
-      (is_quiet job (answered_from accounts f' calls)) quiet in
-      elim (cases_Bool (under_process job c.process)) [
-        | inl u ↦
-            let rest = runs_alike calls f' g (steps.inside f g c.process c.call r hf u) hf' hg here.1 in
-            record { lines = rw u rest.lines; ends = rw u rest.ends }
-        | inr u ↦ elim (cases_Bool (same (parent job) c.process)) [
-          | inl w ↦
-              let calm = is_calm (same (parent job) c.process) (is_rmdir_or_wrap c.call) here.0 w in
-              let state = subst (λ me. SameOutside job (flat_after accounts f me c.call) (flat_after accounts g me c.call))
-              (is_same (parent job) c.process w) (steps.wrapper f g c.call r hf hg calm) in
-              let rest = runs_alike calls f' g' state hf' hg' here.1 in
-              record { lines = rw (u, u, w) rest.lines; ends = rw u rest.ends }
-          | inr w ↦
-              let outside : is_outsider job c.process ≡ true = rw (u, w) refl in
-              let revealed = ap reply_text (steps.replies f g c.process c.call r hf hg outside) in
-              let rest = runs_alike calls f' g' (steps.outsider f g c.process c.call r hf hg outside) hf' hg' here.1 in
-              record {
-                lines = rw (u, u, w) (ap (λ b. cond b
-                    (first_line (outsiders job (answered_from accounts f' calls))
-                    (outsiders job (answered_from accounts g' (without job calls)))) (Some c.line))
-                    (ap (λ x. same x (reply_text (reply_to accounts g c.process c.call))) revealed ∙ same_itself
-                    (reply_text (reply_to accounts g c.process c.call))) ∙ rest.lines);
-                ends = rw u rest.ends;
-              }
-        ]
-      ]
+  runs_alike (c ∷ calls) f g r hf hg told = elim (cases_Bool (under_process job c.process)) [
+    | inl u ↦
+        let away : may_reveal job first ≡ false = ap (λ b. b && is_rmdir_or_wrap c.call) (steps.apart c.process u) in
+        let rest = runs_alike calls f' g (steps.inside f g c.process c.call r hf u) hf' hg (sym (drop_first away u) ∙ told) in
+        record { lines = rw u rest.lines; ends = rw u rest.ends }
+    | inr u ↦ elim (cases_Bool (same (parent job) c.process)) [
+      | inl w ↦
+          let split = holders u w told in
+          let state = subst (λ me. SameOutside job (flat_after accounts f me c.call) (flat_after accounts g me c.call))
+          (is_same (parent job) c.process w) (steps.wrapper f g c.call r hf hg
+          (λ h. subst (λ me. same (reply_text (reply_to accounts f me c.call)) (reply_text (reply_to accounts g me c.call)) ≡ true)
+          (sym (is_same (parent job) c.process w)) (split.0 h))) in
+          let rest = runs_alike calls f' g' state hf' hg' split.1 in
+          record { lines = rw (u, u, w) rest.lines; ends = rw u rest.ends }
+      | inr w ↦
+          let outside : is_outsider job c.process ≡ true = rw (u, w) refl in
+          let revealed = ap reply_text (steps.replies f g c.process c.call r hf hg outside) in
+          let rest = runs_alike calls f' g' (steps.outsider f g c.process c.call r hf hg outside) hf' hg'
+          (sym (both_first false u (ap (λ b. b && is_rmdir_or_wrap c.call) w)) ∙ told) in
+          record {
+            lines = rw (u, u, w) (ap (λ b. cond b
+                (first_line (outsiders job (answered_from accounts f' calls))
+                (outsiders job (answered_from accounts g' (without job calls)))) (Some c.line))
+                (ap (λ x. same x (reply_text (reply_to accounts g c.process c.call))) revealed ∙ same_itself
+                (reply_text (reply_to accounts g c.process c.call))) ∙ rest.lines);
+            ends = rw u rest.ends;
+          }
+    ]
+  ]
     where
       f' : Flat
       f' = flat_after accounts f c.process c.call
@@ -103,7 +108,53 @@ module _ (job : ProcName) (accounts : Accounts) (steps : Steps job accounts) whe
       hg' : IsStarted job g'
       hg' = steps.keeps g c.process c.call hg
 
-      is_calm : (a b : Bool) → not (a && b) ≡ true → a ≡ true → b ≡ false
-      is_calm true true h k = absurd (true≢false (sym h))
-      is_calm true false h k = refl
-      is_calm false b h k = absurd (true≢false (sym k))
+      first : RepliedCall
+      first = record { call = c; reply = reply_to accounts f c.process c.call }
+
+      other : RepliedCall
+      other = record { call = c; reply = reply_to accounts g c.process c.call }
+
+      -- a line of the job is in neither list
+      drop_first : may_reveal job first ≡ false → under_process job c.process ≡ true
+          → first_line (filter (may_reveal job) (answered_from accounts f (c ∷ calls)))
+          (filter (may_reveal job) (answered_from accounts g (without job (c ∷ calls))))
+          ≡ first_line (filter (may_reveal job) (answered_from accounts f' calls))
+          (filter (may_reveal job) (answered_from accounts g (without job calls)))
+      drop_first away u = rw (away, u) refl
+
+      -- another line is in both, or in neither
+      both_first : (b : Bool) → under_process job c.process ≡ false → may_reveal job first ≡ b
+          → first_line (filter (may_reveal job) (answered_from accounts f (c ∷ calls)))
+          (filter (may_reveal job) (answered_from accounts g (without job (c ∷ calls))))
+          ≡ first_line (cond b (first ∷ filter (may_reveal job) (answered_from accounts f' calls))
+          (filter (may_reveal job) (answered_from accounts f' calls)))
+          (cond b (other ∷ filter (may_reveal job) (answered_from accounts g' (without job calls)))
+          (filter (may_reveal job) (answered_from accounts g' (without job calls))))
+      both_first b u e = rw (u, e) refl
+
+      by_text : (b : Bool) → same (reply_text first.reply) (reply_text other.reply) ≡ b
+          → first_line (first ∷ filter (may_reveal job) (answered_from accounts f' calls))
+          (other ∷ filter (may_reveal job) (answered_from accounts g' (without job calls))) ≡ None
+          → (is_rmdir_or_wrap c.call ≡ true → same (reply_text first.reply) (reply_text other.reply) ≡ true)
+          × (first_line (filter (may_reveal job) (answered_from accounts f' calls))
+          (filter (may_reveal job) (answered_from accounts g' (without job calls))) ≡ None)
+      by_text true e h = (
+        λ l. e,
+        sym (ap (λ b. cond b (first_line (filter (may_reveal job) (answered_from accounts f' calls))
+            (filter (may_reveal job) (answered_from accounts g' (without job calls)))) (Some c.line)) e) ∙ h,
+      )
+      by_text false e h =
+          let never : Some c.line ≡ None = sym (ap (λ b. cond b (first_line (filter (may_reveal job) (answered_from accounts f' calls))
+          (filter (may_reveal job) (answered_from accounts g' (without job calls)))) (Some c.line)) e) ∙ h in absurd (cc)
+
+      -- what the premise says of a line of the process that started the job, and of the later ones
+      holders : under_process job c.process ≡ false → same (parent job) c.process ≡ true
+          → first_line (filter (may_reveal job) (answered_from accounts f (c ∷ calls)))
+          (filter (may_reveal job) (answered_from accounts g (without job (c ∷ calls)))) ≡ None
+          → (is_rmdir_or_wrap c.call ≡ true → same (reply_text first.reply) (reply_text other.reply) ≡ true)
+          × (first_line (filter (may_reveal job) (answered_from accounts f' calls))
+          (filter (may_reveal job) (answered_from accounts g' (without job calls))) ≡ None)
+      holders u w told = elim (cases_Bool (is_rmdir_or_wrap c.call)) [
+        | inl loud ↦ by_text (same (reply_text first.reply) (reply_text other.reply)) refl (sym (both_first true u (λ i. w i && loud i)) ∙ told)
+        | inr quiet ↦ (λ h. absurd (true≢false (sym h ∙ quiet)), sym (both_first false u (λ i. w i && quiet i)) ∙ told)
+      ]

@@ -1,7 +1,7 @@
 -- If a `wrap` started a job, and its caller calls no `rmdir` and no `wrap` after that, the job changes nothing outside.
-use Rattle.std.specs.Prelude.{List, None, Option, Some, [], cond, false, nat_eq, refl, true, ℕ, ◌++◌, ◌+◌, ◌||◌, ◌∷◌, ◌≡◌, ◌⊎◌}
+use Rattle.std.specs.Prelude.{Bool, List, None, Option, Some, [], cond, false, filter, not, nat_eq, refl, true, ℕ, ◌++◌, ◌+◌, ◌||◌, ◌∷◌, ◌≡◌, ◌⊎◌}
 use Rattle.std.proofs.Common.{ap, inl, inr, subst, sym, ◌∙◌}
-use Rattle.std.proofs.lemmas.Bool.{or_parts, true≢false, cases_Bool}
+use Rattle.std.proofs.lemmas.Bool.{and_parts, not-true, or_parts, true≢false, cases_Bool}
 use Rattle.histar_base.specs.Refusals.{◌orelse◌}
 use Rattle.histar_flat.specs.declared.calls.CallLine.{CallLine}
 use Rattle.histar_flat.specs.declared.calls.UnixCall.{UnixCall}
@@ -18,7 +18,7 @@ use Rattle.histar_flat.proofs.CommonNeeds.{no_child}
 use Rattle.histar_flat.specs.FlatState.{Flat, IsTree, Node, is_dir, is_given}
 use Rattle.histar_flat.specs.FlatState.Content.{Dir}
 use Rattle.histar_flat.specs.Laws.{NamesAreGiven}
-use Rattle.histar_flat.specs.Meaning.{answered_from, boot, flat_end, without}
+use Rattle.histar_flat.specs.Meaning.{RepliedCall, answered_from, boot, flat_end, meaning, without}
 use Rattle.histar_base.specs.Paths.{same}
 use Rattle.histar_flat.specs.PathOrder.{under_process}
 use Rattle.histar_flat.specs.Accounts.{Accounts, has}
@@ -31,7 +31,7 @@ use Rattle.histar_flat.proofs.Trees.{paths_are_a_tree, tree_after}
 use Rattle.histar_flat.proofs.Under.{above_is_not_under, under_itself}
 use Rattle.histar_flat.proofs.WrappedJobs.{given_above, has_last}
 use Rattle.histar_noninterference.specs.Comparison.{first_line, first_path, is_wrap_reply, outsiders, starts}
-use Rattle.histar_noninterference.specs.Isolation.{IsolatesJobs, after_start, is_quiet}
+use Rattle.histar_noninterference.specs.Isolation.{IsolatesJobs, OnlyReleasesDiffer, after_start, is_quiet, may_reveal, revealing}
 use Rattle.histar_noninterference.proofs.Folds.{RunAlike, no_path_differs, runs_alike}
 use Rattle.histar_noninterference.proofs.Kept.{born_cases}
 use Rattle.histar_noninterference.proofs.Outside.{same_files_itself}
@@ -157,11 +157,11 @@ module _ (m : ℕ) (w : ProcName) (accounts : Accounts) where
   job = m ∷ w
 
   before : (calls : List CallLine) (f : Flat) → IsTree f → NamesAreGiven f → starts job (answered_from accounts f calls) ≡ true
-      → is_quiet job (after_start job (answered_from accounts f calls)) ≡ true
+      → first_line (revealing job (answered_from accounts f calls)) (revealing job (answered_from accounts f (without job calls))) ≡ None
       → RunAlike job (answered_from accounts f calls) (answered_from accounts f (without job calls)) (flat_end accounts f calls)
       (flat_end accounts f (without job calls))
-  before [] f tree names st quiet = absurd (true≢false (sym st))
-  before (c ∷ calls) f tree names st quiet = elim (cases_Bool (is_wrap_reply job c.call (reply_to accounts f c.process c.call))) [
+  before [] f tree names st told = absurd (true≢false (sym st))
+  before (c ∷ calls) f tree names st told = elim (cases_Bool (is_wrap_reply job c.call (reply_to accounts f c.process c.call))) [
     | inl now ↦
         let is_wrapper : w ≡ c.process = wrap_line accounts f c.process job (λ x. w ≡ c.process) c.call (λ p n d here e. cc) now in
         let outside : under_process job c.process ≡ false = ap (under_process job) (sym is_wrapper)
@@ -172,18 +172,17 @@ module _ (m : ℕ) (w : ProcName) (accounts : Accounts) where
         (changed accounts f c.process p (Wrap (n ∷ d))) → IsStarted z (changed accounts f c.process p (Wrap (n ∷ d)))) (sym e)
         (started_now accounts f names c.process p here n d)) now tree_now names_now in
         let rest = runs_alike job accounts (all_steps m w accounts) calls g g (same_outside_itself job g) started started
-        (sym (ap (λ b. is_quiet job (cond b (answered_from accounts g calls) (after_start job (answered_from accounts g calls)))) now)
-        ∙ quiet) in
+        (sym (first_told true outside now) ∙ told) in
         record { lines = rw (outside, outside, is_parent) rest.lines; ends = rw outside rest.ends }
     | inr not_now ↦
-        let rest = before calls g tree_now names_now (sym (ap (λ b. b || starts job (answered_from accounts g calls)) not_now) ∙ st)
-        (sym (ap (λ b. is_quiet job (cond b (answered_from accounts g calls) (after_start job (answered_from accounts g calls)))) not_now)
-        ∙ quiet) in
+        let go = before calls g tree_now names_now (sym (ap (λ b. b || starts job (answered_from accounts g calls)) not_now) ∙ st) in
         elim (cases_Bool (under_process job c.process)) [
-          | inl u ↦ inside_line u (unmoved u) rest
+          | inl u ↦ inside_line u (unmoved u) (go (sym (inside_told u (unmoved u) not_now) ∙ told))
           | inr u ↦ elim (cases_Bool (same w c.process)) [
-            | inl v ↦ record { lines = rw (u, u, v) rest.lines; ends = rw u rest.ends }
-            | inr v ↦ record {
+            | inl v ↦
+                let rest = go (sym (first_told false u not_now) ∙ told) in
+                record { lines = rw (u, u, v) rest.lines; ends = rw u rest.ends }
+            | inr v ↦ let rest = go (sym (first_told false u not_now) ∙ told) in record {
               lines = rw (u, u, v) (ap (λ b. cond b
                   (first_line (outsiders job (answered_from accounts g calls))
                   (outsiders job (answered_from accounts g (without job calls)))) (Some c.line))
@@ -213,6 +212,22 @@ module _ (m : ℕ) (w : ProcName) (accounts : Accounts) where
               absurd (true≢false (sym st ∙ never_again accounts job (c ∷ calls) f
               (given_above f.processes job c.process u (names.of_processes c.process p (runs_is_there (f.processes c.process) p e)))))
 
+      -- the premise after the first line
+      first_told : (b : Bool) → under_process job c.process ≡ false → is_wrap_reply job c.call (reply_to accounts f c.process c.call) ≡ b
+          → first_line (revealing job (answered_from accounts f (c ∷ calls))) (revealing job (answered_from accounts f (without job (c ∷ calls))))
+          ≡ first_line
+          (filter (may_reveal job) (cond b (answered_from accounts g calls) (after_start job (answered_from accounts g calls))))
+          (filter (may_reveal job) (cond b (answered_from accounts g (without job calls))
+          (after_start job (answered_from accounts g (without job calls)))))
+      first_told b u e = rw (u, e) refl
+
+      inside_told : under_process job c.process ≡ true → g ≡ f → is_wrap_reply job c.call (reply_to accounts f c.process c.call) ≡ false
+          → first_line (revealing job (answered_from accounts f (c ∷ calls))) (revealing job (answered_from accounts f (without job (c ∷ calls))))
+          ≡ first_line (revealing job (answered_from accounts g calls)) (revealing job (answered_from accounts g (without job calls)))
+      inside_told u e not_now =
+          rw (u, not_now) (ap (λ x. first_line (revealing job (answered_from accounts g calls))
+          (revealing job (answered_from accounts x (without job calls)))) (sym e))
+
       inside_line : under_process job c.process ≡ true → g ≡ f
           → RunAlike job (answered_from accounts g calls) (answered_from accounts g (without job calls)) (flat_end accounts g calls)
           (flat_end accounts g (without job calls))
@@ -225,12 +240,24 @@ module _ (m : ℕ) (w : ProcName) (accounts : Accounts) where
             (flat_end accounts x (without job calls))) e rest.ends);
       }
 
--- A job that was started changes nothing outside it.
-pub isolates_jobs : IsolatesJobs
-isolates_jobs accounts calls [] st quiet = absurd (true≢false (sym st ∙ never_again accounts [] calls (boot accounts) refl))
-isolates_jobs accounts calls (m ∷ w) st quiet =
-    let run = before m w accounts calls (boot accounts) (paths_are_a_tree accounts []) (names_are_given_once.old accounts []) st quiet in
+-- A job that was started changes nothing outside it, if each `rmdir` and `wrap` of its holder is answered alike.
+pub only_releases_differ : OnlyReleasesDiffer
+only_releases_differ accounts calls [] st told = absurd (true≢false (sym st ∙ never_again accounts [] calls (boot accounts) refl))
+only_releases_differ accounts calls (m ∷ w) st told =
+    let run = before m w accounts calls (boot accounts) (paths_are_a_tree accounts []) (names_are_given_once.old accounts []) st told in
     let trees : first_path (m ∷ w) (flat_end accounts (boot accounts) calls)
     (flat_end accounts (boot accounts) (without (m ∷ w) calls)) ≡ None = no_path_differs (m ∷ w)
     (flat_end accounts (boot accounts) calls) (flat_end accounts (boot accounts) (without (m ∷ w) calls)) run.ends in
     rw (st, run.lines, trees) refl
+
+-- if none of these calls is made, none is answered otherwise
+none_made : (j : ProcName) (as' bs : List RepliedCall) → is_quiet j as' ≡ true → first_line (filter (may_reveal j) as') bs ≡ None
+none_made j [] bs quiet = refl
+none_made j (a ∷ as') bs quiet =
+    let parts = and_parts (not (may_reveal j a)) (is_quiet j as') quiet in
+    ap (λ b. first_line (cond b (a ∷ filter (may_reveal j) as') (filter (may_reveal j) as')) bs) (not-true (may_reveal j a) parts.0)
+    ∙ none_made j as' bs parts.1
+
+pub isolates_jobs : IsolatesJobs
+isolates_jobs accounts calls job st quiet = only_releases_differ accounts calls job st
+    (none_made job (after_start job (meaning accounts calls)) (revealing job (meaning accounts (without job calls))) quiet)

@@ -144,7 +144,7 @@ module _ (job : ProcName) (f : Flat) (h : IsStarted job f) where
     ])
 
     -- they hold after a child is born
-    kept_birth : (q child : Process) → q.chain ≡ p.chain → (has p.held job ≡ false → has q.held job ≡ false)
+    pub kept_birth : (q child : Process) → q.chain ≡ p.chain → (has p.held job ≡ false → has q.held job ≡ false)
         → has child.chain job ≡ has p.chain job → has child.held job ≡ false
         → IsKept (with_process (with_process f me q) (next_child me p) child)
     kept_birth q child jobs less same_jobs holds = kept_processes (with_process (with_process f me q) (next_child me p) child).processes

@@ -13,7 +13,9 @@ pub mod Kept
 pub mod Inside
 pub mod Both
 pub mod Anyone
+pub mod Answering
 pub mod Revealed
+pub mod Wrapping
 pub mod Isolated
 pub mod Following
 pub mod Followed

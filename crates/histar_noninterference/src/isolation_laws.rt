@@ -1,6 +1,6 @@
 //! What a job can't change outside itself. Each law is the contract of a function that does nothing.
 ghost use Rattle.histar_noninterference.specs.Following.{FindsLeftOut};
-ghost use Rattle.histar_noninterference.specs.Isolation.{IsolatesJobs};
+ghost use Rattle.histar_noninterference.specs.Isolation.{IsolatesJobs, OnlyReleasesDiffer};
 ghost use Rattle.histar_noninterference.specs.Replies.{FindsFirstLine};
 ghost use Rattle.histar_noninterference.specs.Trees.{FindsFirstPath};
 
@@ -28,4 +28,11 @@ pub fn trees_are_compared_by_their_lines()
 /// differ.
 pub fn replies_are_compared_as_they_are_printed()
     ensures { FindsFirstLine }
+{}
+
+/// Shows that if a script and the script without the lines of a job differ outside the job, the process that
+/// started the job has revealed it: one of its later `rmdir`s and `wrap`s is answered otherwise without the
+/// job's lines.
+pub fn only_releases_differ()
+    ensures { OnlyReleasesDiffer }
 {}

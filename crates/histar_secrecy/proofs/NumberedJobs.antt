@@ -1,15 +1,17 @@
 -- A process has the same rights if jobs are known by numbers.
-use Rattle.std.specs.Prelude.{◌≡◌, ℕ, Bool, true, false, not, ◌&&◌, ◌||◌, List, [], ◌∷◌, None, map, nat_eq, refl}
+use Rattle.std.specs.Prelude.{◌≡◌, ℕ, Bool, true, false, ◌&&◌, ◌||◌, List, [], ◌∷◌, None, map, nat_eq, refl}
 use Rattle.std.specs.List.{list_all, list_any}
 use Rattle.std.proofs.Common.{ap, sym, ◌∙◌, inl, inr}
 use Rattle.histar_flat.specs.Words.{Name, ProcName}
 use Rattle.histar_base.specs.Paths.{same}
-use Rattle.histar_flat.specs.Accounts.{Accounts, has, is_member}
+use Rattle.histar_flat.specs.Accounts.{Accounts, Group, has, is_member}
 use Rattle.histar_flat.specs.Classes.{Class, Process, is_free, knows, may_read, may_write}
 use Rattle.histar_flat.specs.Classes.Class.{Private, Readable, Open, Scratch, Grouped}
 use Rattle.histar_flat.proofs.FileLemmas.{same_itself, same_name_found}
-use Rattle.histar_secrecy.specs.Roles.{holding_none, is_bound}
-use Rattle.histar_secrecy.specs.ShownRoles.{AreNumbered, job_numbered, class_by_number, jobs_by_number, of_groups, with_rights}
+use Rattle.histar_secrecy.specs.declared.file_class.FileClass.{FileClass}
+use Rattle.histar_secrecy.specs.Ways.{reads_all}
+use Rattle.histar_secrecy.specs.ShownRoles.{AreNumbered, flat_class, job_numbered, class_by_number, jobs_by_number, of_groups, reads_each}
+use Rattle.histar_secrecy.specs.ShownRoles.{with_rights}
 
 -- a number is in a list exactly if its job is in the list of the jobs
 has_number : (jobs : List ℕ) (job : ℕ) → list_any (nat_eq job) jobs ≡ has (map job_numbered jobs) (job_numbered job)
@@ -38,6 +40,12 @@ pub knows_numbers : (user : Name) (jobs held of : List ℕ) → list_all (λ job
     ≡ list_all (knows (with_rights user jobs held)) (map job_numbered of)
 knows_numbers user jobs held [] = refl
 knows_numbers user jobs held (k ∷ of) = λ i. (has_number jobs k i || has_number held k i) && knows_numbers user jobs held of i
+
+-- a process may read each of these classes exactly if it reads all of them as a way
+pub each_mapped : (groups : List Group) (p : Process) (classes : List FileClass)
+    → reads_each groups p classes ≡ reads_all (of_groups groups) (map flat_class classes) p
+each_mapped groups p [] = refl
+each_mapped groups p (c ∷ classes) = ap (λ b. may_read (of_groups groups) p (flat_class c) && b) (each_mapped groups p classes)
 
 -- replacing jobs by numbers, and numbers by jobs, is replacing jobs by their numbered jobs
 pub in_two_steps : (number : ProcName → ℕ) (jobs : List ProcName) → map job_numbered (map number jobs) ≡ jobs_by_number number jobs
@@ -69,7 +77,7 @@ module _ (number : ProcName → ℕ) (one : AreNumbered number) where
   all_numbers (k ∷ jobs) test other each = λ i. each k i && all_numbers jobs test other each i
 
   -- a process is in no job exactly if it is in none by numbers
-  free_by_number : (p : Process) → is_free (named p) ≡ is_free p
+  pub free_by_number : (p : Process) → is_free (named p) ≡ is_free p
   free_by_number p = by p.chain
     where
       by : (chain : List ProcName) → (let b : Bool = elim (jobs_by_number number chain) [ [] ↦ true | k ∷ ks ↦ false ] in b)
@@ -97,7 +105,3 @@ module _ (number : ProcName → ℕ) (one : AreNumbered number) where
   writes_by_number accounts p (Scratch owner jobs) =
       λ i. same p.user owner && knows_by_number p jobs i && all_numbers p.chain (has (jobs_by_number number jobs)) (has jobs) (has_named jobs) i
   writes_by_number accounts p (Grouped group) = ap (λ b. is_member accounts p.user group && b) (free_by_number p)
-
-  pub bound_by_number : (accounts : Accounts) (class : Class) (p : Process)
-      → is_bound (of_groups accounts.groups) (class_by_number number class) (named p) ≡ is_bound accounts class p
-  bound_by_number accounts class p = λ i. not (free_by_number p i) && reads_by_number accounts (holding_none p) class i

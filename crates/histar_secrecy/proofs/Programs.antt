@@ -5,14 +5,14 @@ use Rattle.histar_flat.specs.declared.calls.UnixCall.{UnixCall}
 use Rattle.histar_flat.specs.declared.replies.Reply.{Reply}
 use Rattle.histar_flat.specs.Words.{ProcName}
 use Rattle.histar_flat.specs.Accounts.{Accounts}
-use Rattle.histar_flat.specs.FlatState.Content.{File}
 use Rattle.histar_flat.specs.FlatState.{Flat, with_bytes}
 use Rattle.histar_flat.specs.FlatCalls.{flat_after, reply_to}
-use Rattle.histar_secrecy.specs.Noninterference.{Follows, OutsideProgram, ProgramsLearnNothing, outside_calls}
-use Rattle.histar_secrecy.proofs.Learning.{begun_there, learn_nothing, replies_are, replies_from}
+use Rattle.histar_secrecy.specs.Noninterference.{Follows, Program, ProgramsLearnNothing, outside_calls}
+use Rattle.histar_secrecy.specs.Leaks.{replies_from}
+use Rattle.histar_secrecy.proofs.Learning.{outsiders_learn_nothing, replies_are}
 
 -- two lists of calls that follow one program from one state are the same as far as both go
-same_calls : (accounts : Accounts) (program : OutsideProgram) (calls others : List (ProcName × UnixCall)) (f : Flat) (before : List Reply)
+same_calls : (accounts : Accounts) (program : Program) (calls others : List (ProcName × UnixCall)) (f : Flat) (before : List Reply)
     → Follows program before calls (replies_from accounts f calls)
     → Follows program before others (replies_from accounts f others) → length calls ≡ length others → calls ≡ others
 same_calls accounts program [] [] f before h k e = refl
@@ -28,14 +28,14 @@ same_calls accounts program (c ∷ calls) (d ∷ others) f before h k e =
     λ i. sym first i ∷ rest i
 
 pub programs_learn_nothing : ProgramsLearnNothing
-programs_learn_nothing accounts f reached path class file one other calls others program first second equally_far =
-    let begun = begun_there accounts f reached path (record { class = class; content = File file.0 }) file.1 in
-    let ones = outside_calls accounts class f calls in
-    let twos = outside_calls accounts class f others in
-    let h = subst (Follows program [] ones) (replies_are begun path file one one calls first.silent first.no_login) first.follows in
-    let k = subst (Follows program [] twos) (replies_are begun path file one other others second.silent second.no_login) second.follows in
+programs_learn_nothing accounts f reached path way file one other calls others program first second equally_far =
+    let ones = outside_calls accounts way f calls in
+    let twos = outside_calls accounts way f others in
+    let h = subst (Follows program [] ones) (replies_are accounts f reached path way file one one calls first.silent first.no_login) first.follows in
+    let k = subst (Follows program [] twos)
+    (replies_are accounts f reached path way file one other others second.silent second.no_login) second.follows in
     let alike = same_calls accounts program ones twos (with_bytes f path one) [] h k equally_far in (
       alike,
-      learn_nothing begun path file one other calls others
+      outsiders_learn_nothing accounts f reached path way file one other calls others
           (record { silent = first.silent; others_silent = second.silent; alike = alike; no_login = first.no_login }),
     )

@@ -1,17 +1,17 @@
 -- Which processes may read a file of a class, which are bound by the class, and comparison of classes.
 use Rattle.std.specs.Prelude.{◌≡◌, Bool, true, false, not, ◌&&◌, ◌||◌, List, [], ◌∷◌, refl}
-use Rattle.std.specs.List.{list_all}
+use Rattle.std.specs.List.{list_all, list_any}
 use Rattle.std.proofs.Common.{ap, sym, ◌∙◌, inl, inr}
-use Rattle.std.proofs.lemmas.Bool.{true≢false, and_parts, not-true, or_cases, cases_Bool}
+use Rattle.std.proofs.lemmas.Bool.{true≢false, and_parts, not-true, or_cases}
+use Rattle.std.proofs.Math.Bool.{or-true}
 use Rattle.histar_flat.specs.Words.{Path, ProcName}
 use Rattle.histar_base.specs.Paths.{same, same_path}
 use Rattle.histar_flat.specs.Accounts.{Accounts, has, is_member}
 use Rattle.histar_flat.specs.Classes.{Class, Process, carries, is_free, knows, may_read, may_write}
 use Rattle.histar_flat.specs.Classes.Class.{Private, Readable, Open, Scratch, Grouped}
 use Rattle.histar_flat.proofs.FileLemmas.{same_itself, same_path_found}
-use Rattle.histar_flat.proofs.Secrecy.{AreKept}
-use Rattle.histar_flat.proofs.Warrants.{writable_is_readable}
 use Rattle.histar_noninterference.proofs.TestLemmas.{all_of, is_same, is_same_path}
+use Rattle.histar_secrecy.specs.Ways.{reads_all, same_class}
 use Rattle.histar_secrecy.specs.Roles.{holding_none, is_bound}
 use Rattle.histar_secrecy.specs.Noninterference.{BoundWriteForReaders}
 use Rattle.histar_secrecy.proofs.WriteRights.{all_more}
@@ -46,6 +46,26 @@ reads_holding accounts a class h =
     reads_as accounts (holding_none a) a class refl (λ job c k. ap (λ x. x || has a.held job) (in_chain a.chain job k))
     h
 
+-- a class of the way carries the job
+abbrev pub on_way : ProcName → List Class → Bool
+on_way job way = list_any (carries job) way
+
+-- the same facts of all classes of a way
+pub reads_all_as : (accounts : Accounts) (a b : Process) (way : List Class) → a.user ≡ b.user
+    → ((job : ProcName) → on_way job way ≡ true → knows a job ≡ true → knows b job ≡ true)
+    → reads_all accounts way a ≡ true → reads_all accounts way b ≡ true
+reads_all_as accounts a b [] user more h = refl
+reads_all_as accounts a b (c ∷ way) user more h =
+    let parts = and_parts (may_read accounts a c) (reads_all accounts way a) h in
+    λ i. reads_as accounts a b c user (λ job u. more job (ap (λ x. x || on_way job way) u)) parts.0 i
+    && reads_all_as accounts a b way user (λ job u. more job (ap (λ x. carries job c || x) u ∙ or-true (carries job c))) parts.1 i
+
+pub reads_all_holding : (accounts : Accounts) (a : Process) (way : List Class) → reads_all accounts way (holding_none a) ≡ true
+    → reads_all accounts way a ≡ true
+reads_all_holding accounts a way h =
+    reads_all_as accounts (holding_none a) a way refl (λ job c k. ap (λ x. x || has a.held job) (in_chain a.chain job k))
+    h
+
 -- the first job of a process that is in some
 pub first_job : (p : Process) → is_free p ≡ false → (job : ProcName) × (has p.chain job ≡ true)
 first_job p = by p.chain
@@ -62,34 +82,16 @@ in_a_job p job = by p.chain
     by [] h = absurd (true≢false (sym h))
     by (k ∷ ks) h = refl
 
--- a bound process is in a job, and may read a file of the class by the jobs that it is in
-pub bound_parts : (accounts : Accounts) (class : Class) (p : Process) → is_bound accounts class p ≡ true
-    → (is_free p ≡ false) × (may_read accounts (holding_none p) class ≡ true)
-bound_parts accounts class p h =
-    let parts = and_parts (not (is_free p)) (may_read accounts (holding_none p) class) h in (not-true (is_free p) parts.0, parts.1)
+-- a bound process is in a job, and reads all of the way by the jobs that it is in
+pub bound_parts : (accounts : Accounts) (way : List Class) (p : Process) → is_bound accounts way p ≡ true
+    → (is_free p ≡ false) × (reads_all accounts way (holding_none p) ≡ true)
+bound_parts accounts way p h =
+    let parts = and_parts (not (is_free p)) (reads_all accounts way (holding_none p)) h in (not-true (is_free p) parts.0, parts.1)
 
--- a process in a job that may read by the jobs that it is in is bound
-pub is_bound_by : (accounts : Accounts) (class : Class) (p : Process) → is_free p ≡ false → may_read accounts (holding_none p) class ≡ true
-    → is_bound accounts class p ≡ true
-is_bound_by accounts class p busy reads = λ i. not (busy i) && reads i
-
--- a process of the same user, in the jobs of a bound one, is bound
-pub bound_inside : (accounts : Accounts) (class : Class) (a b : Process) → a.user ≡ b.user
-    → ((job : ProcName) → has a.chain job ≡ true → has b.chain job ≡ true)
-    → is_bound accounts class a ≡ true → is_bound accounts class b ≡ true
-bound_inside accounts class a b user more h =
-    let parts = bound_parts accounts class a h in
-    let job = first_job a parts.0 in
-    is_bound_by accounts class b (in_a_job b job.0 (more job.0 job.1)) (reads_inside accounts a b class user more parts.1)
-
--- two classes are the same
-abbrev pub same_class : Class → Class → Bool
-same_class (Private u) (Private v) = same u v
-same_class (Readable u) (Readable v) = same u v
-same_class Open Open = true
-same_class (Scratch u jobs) (Scratch v others) = same u v && same_path jobs others
-same_class (Grouped g) (Grouped h) = same g h
-same_class _ _ = false
+-- a process in a job that reads all of the way by the jobs that it is in is bound
+pub is_bound_by : (accounts : Accounts) (way : List Class) (p : Process) → is_free p ≡ false → reads_all accounts way (holding_none p) ≡ true
+    → is_bound accounts way p ≡ true
+is_bound_by accounts way p busy reads = λ i. not (busy i) && reads i
 
 -- classes that are found the same are equal
 pub is_same_class : (a b : Class) → same_class a b ≡ true → a ≡ b
@@ -112,25 +114,12 @@ same_class_itself Open = refl
 same_class_itself (Scratch u jobs) = λ i. same_itself u i && same_path_itself jobs i
 same_class_itself (Grouped g) = same_itself g
 
--- a class is kept from processes that may not read it
-pub class_is_kept : (accounts : Accounts) (class : Class) → AreKept accounts (same_class class) (λ p. may_read accounts p class)
-class_is_kept accounts class = record {
-  unread = λ p c other h. by p c other h;
-  unwritten = λ p c other h. by p c other (writable_is_readable accounts p c h);
-}
-  where
-    by : (p : Process) (c : Class) → may_read accounts p class ≡ false → may_read accounts p c ≡ true → not (same_class class c) ≡ true
-    by p c other h = elim (cases_Bool (same_class class c)) [
-      | inl t ↦ absurd (true≢false (sym h ∙ ap (may_read accounts p) (sym (is_same_class class c t)) ∙ other))
-      | inr t ↦ ap not t
-    ]
-
--- What a bound process may write, only readers of the class may read.
+-- What a bound process may write, only readers of the whole way may read.
 pub bound_write_for_readers : BoundWriteForReaders
-bound_write_for_readers accounts class written p reader bound writes reads = by class written (parts.1) (written_scratch written writes) reads
+bound_write_for_readers accounts way written p reader bound writes reads = each way parts.1
   where
-    parts : (is_free p ≡ false) × (may_read accounts (holding_none p) class ≡ true)
-    parts = bound_parts accounts class p bound
+    parts : (is_free p ≡ false) × (reads_all accounts way (holding_none p) ≡ true)
+    parts = bound_parts accounts way p bound
 
     -- the class is scratch of p's user and of all its jobs
     IsWritten : Class → Type 0
@@ -157,3 +146,9 @@ bound_write_for_readers accounts class written p reader bound writes reads = by 
         let user : p.user ≡ reader.user = is_same p.user owner x.0 ∙ sym (is_same reader.user owner both.0) in
         reads_as accounts (holding_none p) reader c user
         (λ job carried k. all_of (knows reader) jobs job both.1 (all_of (has jobs) p.chain job x.1 (in_chain p.chain job k))) r
+
+    each : (way : List Class) → reads_all accounts way (holding_none p) ≡ true → reads_all accounts way reader ≡ true
+    each [] h = refl
+    each (c ∷ way) h =
+        let both = and_parts (may_read accounts (holding_none p) c) (reads_all accounts way (holding_none p)) h in
+        λ i. by c written both.0 (written_scratch written writes) reads i && each way both.1 i

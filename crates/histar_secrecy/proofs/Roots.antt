@@ -30,9 +30,10 @@ use Rattle.histar_flat.proofs.Renaming.{get_renamed}
 use Rattle.histar_flat.proofs.Trees.{nothing_below}
 use Rattle.histar_flat.proofs.WrappedJobs.{has_last}
 use Rattle.histar_noninterference.proofs.Kept.{born_cases, put_cases}
+use Rattle.histar_secrecy.specs.Ways.{reads_all}
 use Rattle.histar_secrecy.specs.Roles.{holding_none}
 use Rattle.histar_secrecy.proofs.Knowing.{AreJobs, jobs_after, jobs_at_start}
-use Rattle.histar_secrecy.proofs.Readers.{in_a_job, reads_as, reads_holding, reads_inside}
+use Rattle.histar_secrecy.proofs.Readers.{in_a_job, reads_as, reads_inside}
 use Rattle.histar_secrecy.proofs.Names.{child_of, grown, login_of, starter_of}
 
 -- a list of jobs with one more keeps its jobs
@@ -44,7 +45,7 @@ longer_keeps (k ∷ jobs) last job h = elim (or_cases (same job k) (has jobs job
 ]
 
 -- if each member of a list passes a test, all do
-all_if : (jobs : List ProcName) (test : ProcName → Bool) → ((job : ProcName) → has jobs job ≡ true → test job ≡ true) → list_all test jobs ≡ true
+pub all_if : (jobs : List ProcName) (test : ProcName → Bool) → ((job : ProcName) → has jobs job ≡ true → test job ≡ true) → list_all test jobs ≡ true
 all_if [] test each = refl
 all_if (k ∷ jobs) test each =
     λ i. each k (ap (λ b. b || has jobs k) (same_itself k)) i
@@ -55,14 +56,6 @@ module _ (accounts : Accounts) (class : Class) (job : ProcName) where
   pub record AreReaders (s : Flat) : Type 0 where
     pub inside : (x : ProcName) (y : Process) → s.processes x ≡ Some y → has y.chain job ≡ true → may_read accounts (holding_none y) class ≡ true
     pub holding : (x : ProcName) (y : Process) → s.processes x ≡ Some y → has y.held job ≡ true → may_read accounts y class ≡ true
-
-module _ {accounts : Accounts} {class : Class} {job : ProcName} {s : Flat} (h : AreReaders accounts class job s) where
-  -- all processes that know the job may read the class
-  pub knowers_read : (x : ProcName) (y : Process) → s.processes x ≡ Some y → knows y job ≡ true → may_read accounts y class ≡ true
-  knowers_read x y there k = elim (or_cases (has y.chain job) (has y.held job) k) [
-    | inl t ↦ reads_holding accounts y class (h.inside x y there t)
-    | inr t ↦ h.holding x y there t
-  ]
 
 -- the fact holds after one process is put
 readers_put : {accounts : Accounts} {class : Class} {job : ProcName} {s : Flat} → AreReaders accounts class job s → (me : ProcName) (q : Process)
@@ -406,3 +399,32 @@ rooted_at_end accounts calls = go calls (boot accounts) (jobs_at_start accounts)
     go (c ∷ calls) s jobs h =
         go calls (flat_after accounts s c.process c.call) (jobs_after accounts s jobs c.process c.call)
         (rooted_after accounts s h jobs c.process c.call)
+
+-- ---- ways
+
+-- each scratch class of the way has a root
+abbrev pub AreRootedOn : Accounts → Flat → List Class → Type 0
+AreRootedOn accounts s [] = Unit {0}
+AreRootedOn accounts s (c ∷ way) = (is_scratch c ≡ true → HasRoot accounts s c) × AreRootedOn accounts s way
+
+pub roots_after : (accounts : Accounts) (s : Flat) (me : ProcName) (call : UnixCall) (way : List Class) → AreRootedOn accounts s way
+    → AreRootedOn accounts (flat_after accounts s me call) way
+roots_after accounts s me call [] h = tt
+roots_after accounts s me call (c ∷ way) h = (λ scratch. root_after accounts c s (h.0 scratch) me call, roots_after accounts s me call way h.1)
+
+module _ (accounts : Accounts) (way : List Class) (job : ProcName) where
+  -- A process in the job reads all of the way by the jobs that it is in, and one that holds the job reads all of it.
+  pub record AreWayReaders (s : Flat) : Type 0 where
+    pub inside : (x : ProcName) (y : Process) → s.processes x ≡ Some y → has y.chain job ≡ true → reads_all accounts way (holding_none y) ≡ true
+    pub holding : (x : ProcName) (y : Process) → s.processes x ≡ Some y → has y.held job ≡ true → reads_all accounts way y ≡ true
+
+-- of no class all are readers; of one class more, if all are readers of that class
+pub no_class : {accounts : Accounts} {job : ProcName} {s : Flat} → AreWayReaders accounts [] job s
+no_class = record { inside = λ x y there i. refl; holding = λ x y there i. refl }
+
+pub one_class_more : {accounts : Accounts} {class : Class} {way : List Class} {job : ProcName} {s : Flat} → AreReaders accounts class job s
+    → AreWayReaders accounts way job s → AreWayReaders accounts (class ∷ way) job s
+one_class_more one rest = record {
+  inside = λ x y there i j. one.inside x y there i j && rest.inside x y there i j;
+  holding = λ x y there i j. one.holding x y there i j && rest.holding x y there i j;
+}

@@ -2,61 +2,51 @@
 use Rattle.std.specs.Prelude.{◌≡◌, Bool, true, false, ◌&&◌, ◌||◌, List, [], ◌∷◌, Option, Some, None, refl}
 use Rattle.std.specs.List.{list_all}
 use Rattle.std.proofs.Common.{ap, sym, ◌∙◌, inl, inr}
-use Rattle.std.proofs.lemmas.Bool.{true≢false, and_parts, or_cases, or_parts, cases_Bool}
+use Rattle.std.proofs.lemmas.Bool.{true≢false, and_parts, or_cases, cases_Bool}
 use Rattle.std.proofs.Math.Bool.{or-true}
-use Rattle.histar_flat.specs.Words.{Name, Path, ProcName}
+use Rattle.histar_flat.specs.Words.{Path, ProcName}
 use Rattle.histar_base.specs.Paths.{same}
 use Rattle.histar_flat.specs.PathOrder.{under_path}
 use Rattle.histar_flat.specs.Accounts.{Accounts, has, is_member}
 use Rattle.histar_flat.specs.Files.{get}
-use Rattle.histar_flat.specs.Classes.{Class, Process, carries, knows, may_write}
+use Rattle.histar_flat.specs.Classes.{Class, Process, carries, knows, may_read, may_write}
 use Rattle.histar_flat.specs.Classes.Class.{Private, Readable, Open, Scratch, Grouped}
-use Rattle.histar_flat.specs.FlatState.{Flat, Node, is_some_and, writes}
+use Rattle.histar_flat.specs.FlatState.{Flat, Node, class_of, is_some_and, writes}
 use Rattle.histar_flat.proofs.FileLemmas.{same_itself, same_path_found}
 use Rattle.histar_flat.proofs.JobLaws.{writes_of_job}
 use Rattle.histar_flat.proofs.Under.{under_child, under_itself}
-use Rattle.histar_secrecy.specs.Changers.{may_change, writes_above}
+use Rattle.histar_secrecy.specs.Ways.{reaches}
+use Rattle.histar_secrecy.specs.Changers.{changes_at, may_change}
 
--- a process that may write a directory on the way to a path may write one above it
-pub writes_on_the_way : (accounts : Accounts) (f : Flat) (p : Process) (n : Name) (d path : Path) → under_path (n ∷ d) path ≡ true
-    → writes accounts f p d ≡ true → writes_above accounts f p path ≡ true
-writes_on_the_way accounts f p n d [] u w = absurd (true≢false (sym u))
-writes_on_the_way accounts f p n d (k ∷ e) u w = elim (same_path_found (n ∷ d) (k ∷ e)) [
-  | inl t ↦ let tails : d ≡ e = cc in ap (λ b. b || writes_above accounts f p e) (ap (writes accounts f p) (sym tails) ∙ w)
-  | inr t ↦
-      ap (λ b. writes accounts f p e || b) (writes_on_the_way accounts f p n d e (sym (ap (λ b. b || under_path (n ∷ d) e) t.0) ∙ u) w)
-      ∙ or-true (writes accounts f p e)
-]
-
--- a process that may write a path, or a directory on the way to one below it, may change what is there
-pub writes_it_or_above : (accounts : Accounts) (f : Flat) (p : Process) (r path : Path) → under_path r path ≡ true → writes accounts f p r ≡ true
+-- a process that may change what is at a path, or at a directory on the way to one below it, may change what is there
+pub changes_on_the_way : (accounts : Accounts) (f : Flat) (p : Process) (r path : Path) → under_path r path ≡ true → changes_at accounts f p r ≡ true
     → may_change accounts f p path ≡ true
-writes_it_or_above accounts f p r path u w = by path u
+changes_on_the_way accounts f p r path u w = by path u
   where
     by : (path : Path) → under_path r path ≡ true → may_change accounts f p path ≡ true
     by [] u = elim (same_path_found r []) [
-      | inl t ↦ ap (λ b. b || false) (ap (writes accounts f p) (sym t.1) ∙ w)
+      | inl t ↦ ap (changes_at accounts f p) (sym t.1) ∙ w
       | inr t ↦ absurd (true≢false (sym u ∙ t.0))
     ]
     by (k ∷ e) u = elim (same_path_found r (k ∷ e)) [
-      | inl t ↦ ap (λ b. b || writes_above accounts f p (k ∷ e)) (ap (writes accounts f p) (sym t.1) ∙ w)
+      | inl t ↦ ap (λ b. b || may_change accounts f p e) (ap (changes_at accounts f p) (sym t.1) ∙ w)
       | inr t ↦
-          ap (λ b. writes accounts f p (k ∷ e) || b) (by e (sym (ap (λ b. b || under_path r e) t.0) ∙ u))
-          ∙ or-true (writes accounts f p (k ∷ e))
+          ap (λ b. changes_at accounts f p (k ∷ e) || b) (by e (sym (ap (λ b. b || under_path r e) t.0) ∙ u))
+          ∙ or-true (changes_at accounts f p (k ∷ e))
     ]
 
 -- on the way to the path the one process has no more rights than the other
 abbrev pub HasNoMore : Accounts → Flat → Path → Process → Process → Type 0
-HasNoMore accounts f path a b = (r : Path) → under_path r path ≡ true → writes accounts f a r ≡ true → writes accounts f b r ≡ true
+HasNoMore accounts f path a b = (r : Path) → under_path r path ≡ true → changes_at accounts f a r ≡ true → changes_at accounts f b r ≡ true
 
-no_more_above : (accounts : Accounts) (f : Flat) (a b : Process) (path : Path) → HasNoMore accounts f path a b → writes_above accounts f a path ≡ true
-    → writes_above accounts f b path ≡ true
-no_more_above accounts f a b [] less h = absurd (true≢false (sym h))
-no_more_above accounts f a b (n ∷ d) less h = elim (or_cases (writes accounts f a d) (writes_above accounts f a d) h) [
-  | inl t ↦ ap (λ x. x || writes_above accounts f b d) (less d (under_child same same_path_found d d n (under_itself same same_path_found d)) t)
+may_change_too : (accounts : Accounts) (f : Flat) (a b : Process) (path : Path) → HasNoMore accounts f path a b → may_change accounts f a path ≡ true
+    → may_change accounts f b path ≡ true
+may_change_too accounts f a b [] less h = less [] (under_itself same same_path_found []) h
+may_change_too accounts f a b (n ∷ d) less h = elim (or_cases (changes_at accounts f a (n ∷ d)) (may_change accounts f a d) h) [
+  | inl t ↦ ap (λ x. x || may_change accounts f b d) (less (n ∷ d) (under_itself same same_path_found (n ∷ d)) t)
   | inr t ↦
-      ap (λ x. writes accounts f b d || x) (no_more_above accounts f a b d (λ r u. less r (under_child same same_path_found r d n u)) t)
-      ∙ or-true (writes accounts f b d)
+      ap (λ x. changes_at accounts f b (n ∷ d) || x) (may_change_too accounts f a b d (λ r u. less r (under_child same same_path_found r d n u)) t)
+      ∙ or-true (changes_at accounts f b (n ∷ d))
 ]
 
 -- a process with no more rights may not change what the other may not change
@@ -64,12 +54,7 @@ pub no_more_changes : (accounts : Accounts) (f : Flat) (a b : Process) (path : P
     → may_change accounts f b path ≡ false → may_change accounts f a path ≡ false
 no_more_changes accounts f a b path less h = elim (cases_Bool (may_change accounts f a path)) [
   | inr t ↦ t
-  | inl t ↦
-      let none = or_parts (writes accounts f b path) (writes_above accounts f b path) h in
-      elim (or_cases (writes accounts f a path) (writes_above accounts f a path) t) [
-        | inl w ↦ absurd (true≢false (sym (less path (under_itself same same_path_found path) w) ∙ none.0))
-        | inr w ↦ absurd (true≢false (sym (no_more_above accounts f a b path less w) ∙ none.1))
-      ]
+  | inl t ↦ absurd (true≢false (sym (may_change_too accounts f a b path less t) ∙ h))
 ]
 
 -- if all of a list pass one test, they pass another that it implies for them
@@ -113,12 +98,50 @@ pub writes_not : (accounts : Accounts) (p : Process) (class : Class) (job : Proc
 writes_not accounts p class job inside out h = true≢false (sym (writes_of_job accounts p job inside class h) ∙ out)
 
 -- no more rights, class by class of what is on the way
-pub no_more_by_class : (accounts : Accounts) (f : Flat) (path : Path) (a b : Process)
-    → ((r : Path) (node : Node) → get f.files r ≡ Some node → may_write accounts a node.class ≡ true → may_write accounts b node.class ≡ true)
+module _ (accounts : Accounts) (f : Flat) (a b : Process)
+    (each : (r : Path) (node : Node) → get f.files r ≡ Some node → may_write accounts a node.class ≡ true
+    → may_write accounts b node.class ≡ true) where
+  writes_too : (r : Path) → writes accounts f a r ≡ true → writes accounts f b r ≡ true
+  writes_too r w = by (get f.files r) refl w
+    where
+      by : (o : Option Node) → get f.files r ≡ o → is_some_and o (λ n. may_write accounts a n.class) ≡ true
+          → is_some_and o (λ n. may_write accounts b n.class) ≡ true
+      by None e w = absurd (true≢false (sym w))
+      by (Some node) e w = each r node e w
+
+  module _ (read : (r : Path) (node : Node) → get f.files r ≡ Some node → may_read accounts a node.class ≡ true
+      → may_read accounts b node.class ≡ true) where
+    reads_too : (r : Path) (o : Option Node) → get f.files r ≡ o → may_read accounts a (class_of o) ≡ true → may_read accounts b (class_of o) ≡ true
+    reads_too r None e h = refl
+    reads_too r (Some node) e h = read r node e h
+
+    reaches_too : (d : Path) → reaches accounts f a d ≡ true → reaches accounts f b d ≡ true
+    reaches_too [] h =
+        let parts = and_parts (may_read accounts a (class_of (get f.files []))) true h in
+        ap (λ x. x && true) (reads_too [] (get f.files []) refl parts.0)
+    reaches_too (n ∷ d) h =
+        let parts = and_parts (may_read accounts a (class_of (get f.files (n ∷ d)))) (reaches accounts f a d) h in
+        λ i. reads_too (n ∷ d) (get f.files (n ∷ d)) refl parts.0 i && reaches_too d parts.1 i
+
+    pub no_more_by_class : (path : Path) → HasNoMore accounts f path a b
+    no_more_by_class path r u h = by r h
+      where
+        by : (r : Path) → changes_at accounts f a r ≡ true → changes_at accounts f b r ≡ true
+        by [] h = writes_too [] h
+        by (n ∷ d) h =
+            let parts = and_parts (writes accounts f a (n ∷ d)) (reaches accounts f a d) h in
+            λ i. writes_too (n ∷ d) parts.0 i && reaches_too d parts.1 i
+
+-- a process that may write nothing that is there has no more rights than any other
+pub no_more_than_none : (accounts : Accounts) (f : Flat) (a b : Process)
+    → ((r : Path) (node : Node) → get f.files r ≡ Some node → may_write accounts a node.class ≡ true → ⊥) → (path : Path)
     → HasNoMore accounts f path a b
-no_more_by_class accounts f path a b each r u w = by (get f.files r) refl w
+no_more_than_none accounts f a b none path r u h = absurd (by r h)
   where
-    by : (o : Option Node) → get f.files r ≡ o → is_some_and o (λ n. may_write accounts a n.class) ≡ true
-        → is_some_and o (λ n. may_write accounts b n.class) ≡ true
-    by None e w = absurd (true≢false (sym w))
-    by (Some node) e w = each r node e w
+    nowhere : (r : Path) (o : Option Node) → get f.files r ≡ o → is_some_and o (λ n. may_write accounts a n.class) ≡ true → ⊥
+    nowhere r None e w = true≢false (sym w)
+    nowhere r (Some node) e w = none r node e w
+
+    by : (r : Path) → changes_at accounts f a r ≡ true → ⊥
+    by [] h = nowhere [] (get f.files []) refl h
+    by (n ∷ d) h = nowhere (n ∷ d) (get f.files (n ∷ d)) refl (and_parts (writes accounts f a (n ∷ d)) (reaches accounts f a d) h).0

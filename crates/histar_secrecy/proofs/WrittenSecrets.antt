@@ -18,7 +18,7 @@ written accounts f me path bytes done =
     changed_after accounts f me (Write path bytes) Done (is_answered accounts f me (Write path bytes) Done (λ e. cc) (λ errno e. cc) done)
 
 pub what_is_written_stays_secret : WhatIsWrittenStaysSecret
-what_is_written_stays_secret accounts f reached path class file writer one other done other_done calls others same =
-    ap (λ g. outside_replies accounts class f g calls) (written accounts f writer path one done)
-    ∙ outsiders_learn_nothing accounts f reached path class file one other calls others same
-    ∙ sym (ap (λ g. outside_replies accounts class f g others) (written accounts f writer path other other_done))
+what_is_written_stays_secret accounts f reached path way file writer one other done other_done calls others same =
+    ap (λ g. outside_replies accounts way f g calls) (written accounts f writer path one done)
+    ∙ outsiders_learn_nothing accounts f reached path way file one other calls others same
+    ∙ sym (ap (λ g. outside_replies accounts way f g others) (written accounts f writer path other other_done))

@@ -1,6 +1,6 @@
 -- Computed roles: the role of each process and user towards a file, and which are changers. Jobs are known by numbers.
-use Rattle.std.specs.Prelude.{◌≡◌, ℕ, Bool, true, false, List, [], ◌∷◌, None, Option, Some, map, option_map, if◌then◌else◌}
-use Rattle.std.specs.List.{list_any}
+use Rattle.std.specs.Prelude.{◌≡◌, ℕ, Bool, true, false, ◌&&◌, ◌||◌, List, [], ◌∷◌, None, Option, Some, map, option_map, if◌then◌else◌}
+use Rattle.std.specs.List.{list_all}
 use Rattle.histar_flat.specs.Words.{Name, Path, ProcName}
 use Rattle.histar_flat.specs.Accounts.{Group, Accounts}
 use Rattle.histar_flat.specs.Files.{get}
@@ -14,6 +14,7 @@ use Rattle.histar_secrecy.specs.declared.role.Member.{Member}
 use Rattle.histar_secrecy.specs.declared.role.Role.{Role}
 use Rattle.histar_secrecy.specs.declared.role.Role.TheVariants.{Trusted, Confined, Outside}
 use Rattle.histar_secrecy.specs.Logins.{logged_in}
+use Rattle.histar_secrecy.specs.Ways.{reads_all, reaches, way_to}
 use Rattle.histar_secrecy.specs.Roles.{is_bound, is_confined, is_trusted}
 use Rattle.histar_secrecy.specs.Noninterference.{IsReached}
 use Rattle.histar_secrecy.specs.Changers.{is_changer, may_change}
@@ -38,14 +39,18 @@ flat_class classes.Open = Open
 flat_class (classes.Scratch owner jobs) = Scratch owner (map job_numbered jobs.items)
 flat_class (classes.Grouped group) = Grouped group
 
--- the role of a running process towards the class
-abbrev pub role_of : List Group → Class → Process → Role
-role_of groups class p =
-    if may_read (of_groups groups) p class then (if is_bound (of_groups groups) class p then Confined else Trusted) else Outside
+-- the process may read each of these classes
+abbrev pub reads_each : List Group → Process → List FileClass → Bool
+reads_each groups p classes = list_all (λ class. may_read (of_groups groups) p (flat_class class)) classes
+
+-- the role of a running process towards a file with this way
+abbrev pub role_of : List Group → List Class → Process → Role
+role_of groups way p =
+    if reads_all (of_groups groups) way p then (if is_bound (of_groups groups) way p then Confined else Trusted) else Outside
 
 -- the role of a process that is shown
-abbrev pub member_role : List Group → Class → Member → Role
-member_role groups class m = role_of groups class (with_rights m.user m.jobs.items m.held.items)
+abbrev pub member_role : List Group → List Class → Member → Role
+member_role groups way m = role_of groups way (with_rights m.user m.jobs.items m.held.items)
 
 -- two roles are the same
 abbrev pub is_same_role : Role → Role → Bool
@@ -55,20 +60,26 @@ is_same_role Outside Outside = true
 is_same_role one other = false
 
 -- the process that is shown has this role
-abbrev pub has_role : List Group → Class → Role → Member → Bool
-has_role groups class role m = is_same_role role (member_role groups class m)
+abbrev pub has_role : List Group → List Class → Role → Member → Bool
+has_role groups way role m = is_same_role role (member_role groups way m)
+
+-- the same, by the classes of the file and of the directories above it
+unfoldable pub has_shown_role : List Group → List FileClass → Role → Member → Bool
+has_shown_role groups classes role m = has_role groups (map flat_class classes) role m
 
 -- a process that is shown, with its user
 abbrev pub with_user : Member → ProcName × Name
 with_user m = (m.name, m.user)
 
--- a process that logs in as this user may read the class
-abbrev pub is_login_reader : List Group → Class → Name → Bool
-is_login_reader groups class user = may_read (of_groups groups) (logged_in user) class
+-- a process that logs in as this user may read all of the way
+abbrev pub is_login_reader : List Group → List Class → Name → Bool
+is_login_reader groups way user = reads_all (of_groups groups) way (logged_in user)
 
--- the process may write one of these classes
+-- the process may write one of these classes, and read each behind it
 abbrev pub changes_one : List Group → Process → List FileClass → Bool
-changes_one groups p classes = list_any (λ class. may_write (of_groups groups) p (flat_class class)) classes
+changes_one groups p [] = false
+changes_one groups p (class ∷ above) =
+    (may_write (of_groups groups) p (flat_class class) && reads_all (of_groups groups) (map flat_class above) p) || changes_one groups p above
 
 -- the process that is shown may write one of these classes
 abbrev pub is_shown_changer : List Group → List FileClass → Member → Bool
@@ -78,9 +89,9 @@ is_shown_changer groups classes m = changes_one groups (with_rights m.user m.job
 abbrev pub is_login_changer : List Group → List FileClass → Name → Bool
 is_login_changer groups classes user = changes_one groups (logged_in user) classes
 
--- the role of the process of this name in a state, towards the class
-abbrev pub role_in : Accounts → Class → Flat → ProcName → Role
-role_in accounts class f me = if is_trusted accounts class f me then Trusted else if is_confined accounts class f me then Confined else Outside
+-- the role of the process of this name in a state, towards a file with this way
+abbrev pub role_in : Accounts → List Class → Flat → ProcName → Role
+role_in accounts way f me = if is_trusted accounts way f me then Trusted else if is_confined accounts way f me then Confined else Outside
 
 -- no two jobs have the same number
 abbrev pub AreNumbered : (ProcName → ℕ) → Type 0
@@ -116,13 +127,13 @@ module _ (number : ProcName → ℕ) where
   -- What is shown is that of the state: the role of each running process towards a file, if calls lead to the state, and whether it is a
   -- changer of what is at a path; and for each user, whether a login makes a reader or a changer.
   pub record ShowsAState (accounts : Accounts) (f : Flat) : Type 0 where
-    pub role : IsReached accounts f → (path : Path) (node : Node) (class : FileClass) → get f.files path ≡ Some node
-        → class_by_number node.class ≡ flat_class class → (m : Member) (p : Process) → IsShownProcess f m p
-        → member_role accounts.groups (flat_class class) m ≡ role_in accounts node.class f m.name
+    pub role : IsReached accounts f → (path : Path) (classes : List FileClass) → AreClassesTo f path classes
+        → (m : Member) (p : Process) → IsShownProcess f m p
+        → member_role accounts.groups (map flat_class classes) m ≡ role_in accounts (way_to f path) f m.name
     pub changer : (path : Path) (classes : List FileClass) → AreClassesTo f path classes → (m : Member) (p : Process) → IsShownProcess f m p
         → is_shown_changer accounts.groups classes m ≡ is_changer accounts f path m.name
-    pub reader_login : (of_class : Class) (class : FileClass) → class_by_number of_class ≡ flat_class class
-        → (user : Name) → is_login_reader accounts.groups (flat_class class) user ≡ may_read accounts (logged_in user) of_class
+    pub reader_login : (path : Path) (classes : List FileClass) → AreClassesTo f path classes
+        → (user : Name) → is_login_reader accounts.groups (map flat_class classes) user ≡ reaches accounts f (logged_in user) path
     pub changer_login : (path : Path) (classes : List FileClass) → AreClassesTo f path classes
         → (user : Name) → is_login_changer accounts.groups classes user ≡ may_change accounts f (logged_in user) path
 

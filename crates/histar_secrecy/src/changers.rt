@@ -4,7 +4,7 @@ ghost use Rattle.histar_secrecy.specs.ShownRoles.{changes_one, is_login_changer,
 
 use crate::file_class::FileClass;
 use crate::rights::may_write;
-use crate::role::Member;
+use crate::role::{Member, reads_all};
 use histar_flat::{Group, Name, ProcName};
 use std::alloc::{AllocError, Global};
 
@@ -46,7 +46,7 @@ pub fn login_changers(
         .collect(alloc)
 }
 
-/// Checks whether a process may write what is of one of these classes.
+/// Checks whether a process may write what is of one of these classes, and read what is of each behind it.
 fn writes_one(
     groups: &[Group],
     user: Name,
@@ -56,7 +56,9 @@ fn writes_one(
 ) -> bool
     ensures { result ≡ changes_one groups.now (with_rights user jobs.now held.now) classes.now }
 {
-    classes
-        .iter()
-        .any(|class| may_write(groups, user, jobs, held, class))
+    let [class, above @ ..] = classes else {
+        return false;
+    };
+    may_write(groups, user, jobs, held, class) && reads_all(groups, user, jobs, held, above)
+        || writes_one(groups, user, jobs, held, above)
 }

@@ -1,5 +1,5 @@
 -- What a tree has at a path is what the flat state has there.
-use Rattle.std.specs.Prelude.{◌≡◌, ℕ, cond, List, [], ◌∷◌, ◌++◌, map, Option, None, Some, option_map, if◌then◌else◌, refl}
+use Rattle.std.specs.Prelude.{◌≡◌, ℕ, ◌&&◌, cond, List, [], ◌∷◌, ◌++◌, map, Option, None, Some, option_map, if◌then◌else◌, refl}
 use Rattle.std.proofs.Common.{ap, sym, ◌∙◌, subst, inl, inr}
 use Rattle.std.specs.FinMap.{find}
 use Rattle.std.specs.Ordering.{eq_by_cmp}
@@ -10,7 +10,7 @@ use Rattle.histar_flat.specs.Files.{get}
 use Rattle.histar_flat.specs.Classes.{Class as FlatClass}
 use Rattle.histar_flat.specs.Classes.Class.{Private as FlatPrivate, Readable as FlatReadable, Open as FlatOpen, Scratch as FlatScratch}
 use Rattle.histar_flat.specs.Classes.Class.{Grouped as FlatGrouped}
-use Rattle.histar_flat.specs.FlatState.{Flat, Node, is_dir}
+use Rattle.histar_flat.specs.FlatState.{Flat, Node, class_of, is_dir}
 use Rattle.histar_flat.proofs.FileLemmas.{same_path_found, ties}
 use Rattle.histar_object.specs.State.{State}
 use Rattle.histar_layout.specs.Listing.{is_directory}
@@ -20,14 +20,15 @@ use Rattle.histar_refinement.specs.NumberedClasses.{numbered_class}
 use Rattle.histar_refinement.specs.Represents.{ObjectsMatch}
 use Rattle.histar_refinement.proofs.LinesMatched.{node_there}
 use Rattle.histar_refinement.proofs.Agreeing.{parent_is_dir}
+use Rattle.histar_secrecy.specs.Ways.{way_to}
 use Rattle.histar_secrecy.specs.declared.file_class.FileClass.{FileClass}
-use Rattle.histar_secrecy.specs.ShownRoles.{AreClassesTo, class_by_number, flat_class}
+use Rattle.histar_secrecy.specs.ShownRoles.{AreClassesTo, IsOfClass, class_by_number, flat_class}
 use Rattle.histar_secrecy.proofs.NumberedJobs.{in_two_steps}
 use Rattle.histar_readout.specs.declared.tree.TreeNode.{TreeNode}
 use Rattle.histar_readout.specs.TreeEntries.{TreeEntry, flat_entry, tree_entry}
 use Rattle.histar_readout.specs.TreeLines.{TreeLine, flat_line, line_at, node_stat}
-use Rattle.histar_trust.specs.Findings.{class_flat, class_there, classes_to, node_at}
-use Rattle.histar_trust.specs.TrustText.{is_for_everyone}
+use Rattle.histar_trust.specs.Findings.{are_for_everyone, class_flat, class_there, classes_to, node_at}
+use Rattle.histar_trust.specs.TrustText.{is_for_everyone, is_open_way}
 
 -- the number of a job is that of its category
 abbrev pub number_of : Categories → ProcName → ℕ
@@ -42,12 +43,32 @@ same_class category (FlatScratch owner jobs) = ap (FlatScratch owner) (in_two_st
 same_class category (FlatGrouped group) = refl
 
 -- every process may read both or neither
-pub same_everyone : (category : Categories) (class : FlatClass) → is_for_everyone (class_flat (numbered_class category class)) ≡ is_for_everyone class
-same_everyone category (FlatPrivate owner) = refl
-same_everyone category (FlatReadable owner) = refl
-same_everyone category FlatOpen = refl
-same_everyone category (FlatScratch owner jobs) = refl
-same_everyone category (FlatGrouped group) = refl
+same_everyone : (number : ProcName → ℕ) (class : FlatClass) → is_for_everyone (class_by_number number class) ≡ is_for_everyone class
+same_everyone number (FlatPrivate owner) = refl
+same_everyone number (FlatReadable owner) = refl
+same_everyone number FlatOpen = refl
+same_everyone number (FlatScratch owner jobs) = refl
+same_everyone number (FlatGrouped group) = refl
+
+everyone_there : (number : ProcName → ℕ) (o : Option Node) (class : FileClass) → IsOfClass number o class
+    → is_for_everyone (flat_class class) ≡ is_for_everyone (class_of o)
+everyone_there number None class e = absurd (cc)
+everyone_there number (Some n) class e =
+    let same_classes : class_by_number number n.class ≡ flat_class class = cc in
+    ap is_for_everyone (sym same_classes) ∙ same_everyone number n.class
+
+-- the same of a list and of a way
+pub open_mapped : (classes : List FileClass) → are_for_everyone classes ≡ is_open_way (map flat_class classes)
+open_mapped [] = refl
+open_mapped (c ∷ classes) = ap (λ b. is_for_everyone (flat_class c) && b) (open_mapped classes)
+
+-- the way is everyone's exactly if the classes that are shown are
+pub open_by_number : (number : ProcName → ℕ) (f : Flat) (path : Path) (classes : List FileClass) → AreClassesTo number f path classes
+    → is_open_way (map flat_class classes) ≡ is_open_way (way_to f path)
+open_by_number number f path [] h = absurd h
+open_by_number number f [] (c ∷ classes) h = λ i. everyone_there number (get f.files []) c h.0 i && is_open_way (map flat_class (h.1 i))
+open_by_number number f (n ∷ d) (c ∷ classes) h =
+    λ i. everyone_there number (get f.files (n ∷ d)) c h.0 i && open_by_number number f d classes h.1 i
 
 unfoldable pub first_of_list : {A : Type 0} → A → List A → A
 first_of_list x [] = x

@@ -36,12 +36,12 @@ mapped_twice : (answers : List RepliedCall) → map (λ (a : RepliedCall). reply
 mapped_twice [] = refl
 mapped_twice (a ∷ answers) = ap (λ ts. reply_text a.reply ∷ ts) (mapped_twice answers)
 
-module _ (options : Options) (accounts : Accounts) (class : Class) (path : Path) (before : List CallLine) where
+module _ (options : Options) (accounts : Accounts) (way : List Class) (path : Path) (before : List CallLine) where
   abbrev f : Flat
-  f = state_met accounts class path before
+  f = state_met accounts way path before
 
   module _ (script : ScriptModel) (writer : ProcName) (bytes : List ℕ) (calls : List CallLine)
-      (is : WritesBehind accounts class path before script writer bytes calls) where
+      (is : WritesBehind accounts way path before script writer bytes calls) where
     abbrev behind : List RepliedCall
     behind = answered_from accounts (flat_after accounts f writer (Write path bytes)) calls
 
@@ -67,20 +67,20 @@ module _ (options : Options) (accounts : Accounts) (class : Class) (path : Path)
           ∙ ap (λ t. t ++ asked_tree options (last_state script)) (texts_both first behind);
     }
 
-    texts_are : outside_texts accounts class path before behind
-        ≡ map reply_text (map (λ (a : RepliedCall). a.reply) (filter (λ (a : RepliedCall). is_outsider accounts class f a.call.process) behind))
-    texts_are = mapped_twice (filter (λ (a : RepliedCall). is_outsider accounts class f a.call.process) behind)
+    texts_are : outside_texts accounts way path before behind
+        ≡ map reply_text (map (λ (a : RepliedCall). a.reply) (filter (λ (a : RepliedCall). is_outsider accounts way f a.call.process) behind))
+    texts_are = mapped_twice (filter (λ (a : RepliedCall). is_outsider accounts way f a.call.process) behind)
 
 pub outsiders_read_the_same : OutsidersReadTheSame
-outsiders_read_the_same options text other one two _ _ accounts class path before file writer bytes other_bytes calls others a b same = record {
-  answers = behind options accounts class path before one writer bytes calls a;
-  prints = prints options accounts class path before one writer bytes calls a;
-  other_answers = behind options accounts class path before two writer other_bytes others b;
-  other_prints = prints options accounts class path before two writer other_bytes others b;
+outsiders_read_the_same options text other one two _ _ accounts way path before file writer bytes other_bytes calls others a b same = record {
+  answers = behind options accounts way path before one writer bytes calls a;
+  prints = prints options accounts way path before one writer bytes calls a;
+  other_answers = behind options accounts way path before two writer other_bytes others b;
+  other_prints = prints options accounts way path before two writer other_bytes others b;
   alike =
-      texts_are options accounts class path before one writer bytes calls a
+      texts_are options accounts way path before one writer bytes calls a
       ∙ ap (map reply_text)
-      (what_is_written_stays_secret accounts (state_met accounts class path before)
-      (before, refl) path class file writer bytes other_bytes a.writes b.writes calls others same)
-      ∙ sym (texts_are options accounts class path before two writer other_bytes others b);
+      (what_is_written_stays_secret accounts (state_met accounts way path before)
+      (before, refl) path way file writer bytes other_bytes a.writes b.writes calls others same)
+      ∙ sym (texts_are options accounts way path before two writer other_bytes others b);
 }

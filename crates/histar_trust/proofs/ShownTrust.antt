@@ -3,12 +3,10 @@ use Rattle.std.specs.Prelude.{◌≡◌, ℕ, Bool, length, true, false, not, �
 use Rattle.std.specs.Prelude.{if◌then◌else◌, refl}
 use Rattle.std.specs.List.{filter_map}
 use Rattle.std.proofs.Common.{ap, sym, ◌∙◌, subst}
-use Rattle.std.proofs.lemmas.Option.{same_Some}
 use Rattle.histar_flat.specs.declared.calls.User.{User}
 use Rattle.histar_flat.specs.Words.{Name, Path, ProcName}
 use Rattle.histar_flat.specs.Accounts.{Accounts}
 use Rattle.histar_flat.specs.Files.{get}
-use Rattle.histar_flat.specs.Classes.{may_read}
 use Rattle.histar_flat.specs.FlatState.{Flat, Node}
 use Rattle.histar_flat.specs.FlatCalls.{running}
 use Rattle.histar_object.specs.State.{State}
@@ -26,10 +24,11 @@ use Rattle.histar_secrecy.specs.declared.file_class.FileClass.{FileClass}
 use Rattle.histar_secrecy.specs.declared.role.Member.{Member}
 use Rattle.histar_secrecy.specs.declared.role.Role.{Role}
 use Rattle.histar_secrecy.specs.declared.role.Role.TheVariants.{Trusted, Confined, Outside}
+use Rattle.histar_secrecy.specs.Ways.{reads_all, way_to}
 use Rattle.histar_secrecy.specs.Roles.{is_bound, is_confined, is_outsider, is_trusted}
 use Rattle.histar_secrecy.specs.Noninterference.{ShowsRole}
 use Rattle.histar_secrecy.specs.Changers.{is_changer}
-use Rattle.histar_secrecy.specs.ShownRoles.{AreClassesTo, AreNumbered, IsShownProcess, ShowsAState, class_by_number, flat_class, has_role}
+use Rattle.histar_secrecy.specs.ShownRoles.{AreClassesTo, AreNumbered, IsShownProcess, ShowsAState, flat_class, has_role}
 use Rattle.histar_secrecy.specs.ShownRoles.{is_same_role, is_shown_changer, member_role, role_in, with_user}
 use Rattle.histar_secrecy.proofs.Learning.{roles_are_shown}
 use Rattle.histar_secrecy.proofs.ShownProcesses.{shown_is_so}
@@ -47,11 +46,11 @@ use Rattle.histar_shell.proofs.SameUsers.{tree_unproved}
 use Rattle.histar_prefix.specs.Listing.{HasProcesses}
 use Rattle.histar_prefix.proofs.Listed.{filter_map_map, processes_there, tree_there}
 use Rattle.histar_prefix.proofs.SameProcesses.{one_list, processes_unproved}
-use Rattle.histar_trust.specs.Findings.{AreMembers, ShowsReached, class_flat, classes_to, head_text, node_at, runner_of, running_node}
+use Rattle.histar_trust.specs.Findings.{AreMembers, ShowsReached, classes_to, head_text, node_at, runner_of, running_node}
 use Rattle.histar_trust.specs.Findings.{shown_changers, shown_readers, shown_roles}
-use Rattle.histar_trust.specs.TrustText.{changers_text, is_for_everyone, process_lines, readers_text, running_where, roles_text, trust_text}
+use Rattle.histar_trust.specs.TrustText.{changers_text, is_open_way, process_lines, readers_text, running_where, roles_text, trust_text}
 use Rattle.histar_trust.specs.TrustText.{user_lines}
-use Rattle.histar_trust.proofs.Places.{AreAlike, IsAt, alike, classes_are, found_at, number_of, same_class, same_everyone}
+use Rattle.histar_trust.proofs.Places.{AreAlike, IsAt, alike, classes_are, found_at, number_of, open_by_number}
 use Rattle.histar_trust.proofs.Runners.{AllOf, Runs, each_runs, numbered, picked, runners_listed, running_line}
 
 -- ---- roles
@@ -123,7 +122,7 @@ module _ {accounts : Accounts} {m : MachineModel} {f : Flat} (r : ShowsReached a
   abbrev text_at : Path → Option Node → List ℕ
   text_at path o = elim o [
     | None ↦ codes "no entry\n"
-    | Some node ↦ access_line_text (line_of accounts f [] (path, node)) ++ roles_text accounts f node ++ changers_text accounts f path
+    | Some node ↦ access_line_text (line_of accounts f [] (path, node)) ++ roles_text accounts f path node ++ changers_text accounts f path
   ]
 
   module _ (tree : List TreeNode) (is : IsTreeIn m tree) where
@@ -139,7 +138,7 @@ module _ {accounts : Accounts} {m : MachineModel} {f : Flat} (r : ShowsReached a
     pub same_tree : own_tree.tree ≡ tree
     same_tree = states_have_one_tree m.users s m.roots own_tree.tree tree own_tree_here is
 
-    each : (q : Path) → AreAlike s l.category q (node_at q tree) (get f.files q)
+    pub each : (q : Path) → AreAlike s l.category q (node_at q tree) (get f.files q)
     each q = subst (λ (t : List TreeNode). AreAlike s l.category q (node_at q t) (get f.files q)) same_tree
         (alike s l.category q own_tree.tree f.files.entries own_tree.same own_tree.lines)
 
@@ -190,32 +189,31 @@ module _ {accounts : Accounts} {m : MachineModel} {f : Flat} (r : ShowsReached a
       }
 
       -- a member has the role of the process in the flat state
-      module _ (path : Path) (there : Node) (at : get f.files path ≡ Some there) (class : FileClass)
-          (of_class : class_by_number number there.class ≡ flat_class class) where
-        role_is : member_role accounts.groups (flat_class class) member ≡ role_in accounts there.class f member.name
-        role_is = is_so.role r.reached path there class at of_class member c.1 shown
+      module _ (path : Path) (classes : List FileClass) (to : AreClassesTo number f path classes) where
+        role_is : member_role accounts.groups (map flat_class classes) member ≡ role_in accounts (way_to f path) f member.name
+        role_is = is_so.role r.reached path classes to member c.1 shown
 
-        by_tests : ShowsRole accounts there.class f member.name c.1
-        by_tests = roles_are_shown accounts f r.reached path there at member.name c.1 shown.runs
+        by_tests : ShowsRole accounts (way_to f path) f member.name c.1
+        by_tests = roles_are_shown accounts f r.reached path member.name c.1 shown.runs
 
-        pub trusted_same : has_role accounts.groups (flat_class class) Trusted member ≡ is_trusted accounts there.class f c.0
+        pub trusted_same : has_role accounts.groups (map flat_class classes) Trusted member ≡ is_trusted accounts (way_to f path) f c.0
         trusted_same =
             ap (is_same_role Trusted) role_is
-            ∙ trusted_is (is_trusted accounts there.class f member.name) (is_confined accounts there.class f member.name)
-            ∙ ap (is_trusted accounts there.class f) name_is
+            ∙ trusted_is (is_trusted accounts (way_to f path) f member.name) (is_confined accounts (way_to f path) f member.name)
+            ∙ ap (is_trusted accounts (way_to f path) f) name_is
 
-        pub confined_same : has_role accounts.groups (flat_class class) Confined member ≡ is_confined accounts there.class f c.0
+        pub confined_same : has_role accounts.groups (map flat_class classes) Confined member ≡ is_confined accounts (way_to f path) f c.0
         confined_same =
             ap (is_same_role Confined) role_is
-            ∙ confined_is (is_trusted accounts there.class f member.name) (is_confined accounts there.class f member.name)
-            (may_read accounts c.1 there.class) (is_bound accounts there.class c.1) by_tests.trusted by_tests.confined
-            ∙ ap (is_confined accounts there.class f) name_is
+            ∙ confined_is (is_trusted accounts (way_to f path) f member.name) (is_confined accounts (way_to f path) f member.name)
+            (reads_all accounts (way_to f path) c.1) (is_bound accounts (way_to f path) c.1) by_tests.trusted by_tests.confined
+            ∙ ap (is_confined accounts (way_to f path) f) name_is
 
-        outside_same : has_role accounts.groups (flat_class class) Outside member ≡ is_outsider accounts there.class f c.0
+        outside_same : has_role accounts.groups (map flat_class classes) Outside member ≡ is_outsider accounts (way_to f path) f c.0
         outside_same =
             ap (is_same_role Outside) role_is
-            ∙ outside_is (is_trusted accounts there.class f member.name) (is_confined accounts there.class f member.name)
-            ∙ ap (is_outsider accounts there.class f) name_is
+            ∙ outside_is (is_trusted accounts (way_to f path) f member.name) (is_confined accounts (way_to f path) f member.name)
+            ∙ ap (is_outsider accounts (way_to f path) f) name_is
 
       -- a member is a changer exactly if the process is one in the flat state
       changer_same : (path : Path) (classes : List FileClass) → AreClassesTo number f path classes
@@ -230,22 +228,21 @@ module _ {accounts : Accounts} {m : MachineModel} {f : Flat} (r : ShowsReached a
         → map with_user (filter test members) ≡ running_where accounts f of_name
     chosen test of_name agree = picked f l.category test (λ c. of_name c.0) agree members (running_in f) members_are all_run
 
-    module _ (path : Path) (there : Node) (at : get f.files path ≡ Some there) (class : FileClass)
-        (of_class : class_by_number number there.class ≡ flat_class class) where
+    module _ (path : Path) (classes : List FileClass) (to : AreClassesTo number f path classes) where
       -- the member has the role
       abbrev has : Role → Member → Bool
-      has = has_role accounts.groups (flat_class class)
+      has = has_role accounts.groups (map flat_class classes)
 
       -- the roles that are printed, and the login readers, are those of the flat state
-      readers_are : shown_readers (without_passwords accounts) members (flat_class class) ≡ readers_text accounts f there.class
+      readers_are : shown_readers (without_passwords accounts) members (map flat_class classes) ≡ readers_text accounts f (way_to f path)
       readers_are = λ i.
-          process_lines (codes "trusted") (chosen (has Trusted) (is_trusted accounts there.class f)
-          (λ member c same runs. trusted_same member c same runs path there at class of_class) i)
-          ++ process_lines (codes "confined") (chosen (has Confined) (is_confined accounts there.class f)
-          (λ member c same runs. confined_same member c same runs path there at class of_class) i)
-          ++ process_lines (codes "outside") (chosen (has Outside) (is_outsider accounts there.class f)
-          (λ member c same runs. outside_same member c same runs path there at class of_class) i)
-          ++ user_lines (codes "login") (filter (λ user. is_so.reader_login there.class class of_class user i) (same_names accounts.users i))
+          process_lines (codes "trusted") (chosen (has Trusted) (is_trusted accounts (way_to f path) f)
+          (λ member c same runs. trusted_same member c same runs path classes to) i)
+          ++ process_lines (codes "confined") (chosen (has Confined) (is_confined accounts (way_to f path) f)
+          (λ member c same runs. confined_same member c same runs path classes to) i)
+          ++ process_lines (codes "outside") (chosen (has Outside) (is_outsider accounts (way_to f path) f)
+          (λ member c same runs. outside_same member c same runs path classes to) i)
+          ++ user_lines (codes "login") (filter (λ user. is_so.reader_login path classes to user i) (same_names accounts.users i))
 
     -- the changers that are printed, and the login changers, are those of the flat state
     changers_are : (path : Path) (classes : List FileClass) → AreClassesTo number f path classes
@@ -255,55 +252,39 @@ module _ {accounts : Accounts} {m : MachineModel} {f : Flat} (r : ShowsReached a
         (λ member c same runs. changer_same member c same runs path classes to) i)
         ++ user_lines (codes "changer-login") (filter (λ user. is_so.changer_login path classes to user i) (same_names accounts.users i))
 
-    -- the class of what is there
-    first_class : (path : Path) (classes : List FileClass) → AreClassesTo number f path classes → (there : Node) → get f.files path ≡ Some there
-        → (c : FileClass) × (class_by_number number there.class ≡ flat_class c)
-    first_class path [] to there at = absurd to
-    first_class [] (c ∷ classes) to there at = (
-      c,
-      same_Some (class_by_number number there.class) (flat_class c)
-          (sym (ap (option_map (λ (n : Node). class_by_number number n.class)) at) ∙ to.0),
-    )
-    first_class (n ∷ d) (c ∷ classes) to there at = (
-      c,
-      same_Some (class_by_number number there.class) (flat_class c)
-          (sym (ap (option_map (λ (n : Node). class_by_number number n.class)) at) ∙ to.0),
-    )
+    -- every process reaches what is there exactly if the classes that are shown are open
+    open_is : (path : Path) (classes : List FileClass) → AreClassesTo number f path classes
+        → is_open_way (map flat_class classes) ≡ is_open_way (way_to f path)
+    open_is path classes to = open_by_number number f path classes to
 
     module _ (path : Path) (node : TreeNode) (classes : List FileClass) (seen : IsFound m path node classes) where
       module _ (there : Node) (at : get f.files path ≡ Some there) (is_at : IsAt s l.category path node there) where
-        class_is : class_flat node.class ≡ class_by_number number there.class
-        class_is = ap class_flat is_at.class ∙ same_class l.category there.class
-
         head_is : head_text node ≡ access_line_text (line_of accounts f [] (path, there))
         head_is = λ i. access_line_text (record { path = is_at.path i; stat = is_at.stat i; cells = [] })
 
         to : AreClassesTo number f path classes
         to = classes_are accounts s f l seen.tree (each seen.tree seen.is) path there at classes seen.are_classes
 
-        roles_are : shown_roles (without_passwords accounts) members node ≡ roles_text accounts f there
+        roles_are : shown_roles (without_passwords accounts) members node (map flat_class classes) ≡ roles_text accounts f path there
         roles_are =
-            let first = first_class path classes to there at in
-            let everyone : is_for_everyone (class_flat node.class) ≡ is_for_everyone there.class =
-            ap (λ c. is_for_everyone (class_flat c)) is_at.class ∙ same_everyone l.category there.class in
-            let readers : shown_readers (without_passwords accounts) members (class_flat node.class) ≡ readers_text accounts f there.class =
-            ap (shown_readers (without_passwords accounts) members) (class_is ∙ first.1) ∙ readers_are path there at first.0 first.1 in
-            λ i. if is_at.kind i then [] else if everyone i then codes "everyone\n" else readers i
+            λ i. if is_at.kind i then [] else if open_is path classes to i then codes "everyone\n" else readers_are path classes to i
 
-        whole_is : head_text node ++ shown_roles m.users members node ++ shown_changers m.users members classes
-            ≡ access_line_text (line_of accounts f [] (path, there)) ++ roles_text accounts f there ++ changers_text accounts f path
+        whole_is : head_text node ++ shown_roles m.users members node (map flat_class classes) ++ shown_changers m.users members classes
+            ≡ access_line_text (line_of accounts f [] (path, there)) ++ roles_text accounts f path there ++ changers_text accounts f path
         whole_is =
-            ap (λ (users : Accounts). head_text node ++ shown_roles users members node ++ shown_changers users members classes) r.shows.users
+            ap (λ (users : Accounts). head_text node ++ shown_roles users members node
+            (map flat_class classes) ++ shown_changers users members classes) r.shows.users
             ∙ (λ i. head_is i ++ roles_are i ++ changers_are path classes to i)
 
       -- if the tree has a node, the text is that of the flat state
-      pub something_there : head_text node ++ shown_roles m.users members node ++ shown_changers m.users members classes
+      pub something_there : head_text node ++ shown_roles m.users members node (map flat_class classes) ++ shown_changers m.users members classes
           ≡ trust_text accounts f path
       something_there = by (get f.files path) refl
           (subst (λ o. AreAlike s l.category path o (get f.files path)) seen.found (each seen.tree seen.is path))
         where
           by : (o : Option Node) → get f.files path ≡ o → AreAlike s l.category path (Some node) (get f.files path)
-              → head_text node ++ shown_roles m.users members node ++ shown_changers m.users members classes ≡ trust_text accounts f path
+              → head_text node ++ shown_roles m.users members node (map flat_class classes) ++ shown_changers m.users members classes
+              ≡ trust_text accounts f path
           by None e alike = absurd (subst (λ x. AreAlike s l.category path (Some node) x) e alike)
           by (Some there) e alike =
               whole_is there e (subst (λ x. AreAlike s l.category path (Some node) x) e alike) ∙ sym (ap (text_at path) e)

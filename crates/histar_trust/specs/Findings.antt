@@ -1,5 +1,5 @@
 -- What is computed from a machine: its running processes, and their roles towards what is at a path.
-use Rattle.std.specs.Prelude.{◌≡◌, ℕ, ◌++◌, List, [], ◌∷◌, Option, None, Some, codes, filter, map, if◌then◌else◌}
+use Rattle.std.specs.Prelude.{◌≡◌, ℕ, Bool, ◌++◌, List, [], ◌∷◌, Option, None, Some, codes, filter, map, if◌then◌else◌}
 use Rattle.histar_flat.specs.declared.calls.User.{User}
 use Rattle.histar_flat.specs.Words.{Name, Path, ProcName}
 use Rattle.histar_base.specs.Paths.{same_path}
@@ -9,7 +9,7 @@ use Rattle.histar_flat.specs.Classes.Class.{Private as FlatPrivate, Readable as 
 use Rattle.histar_flat.specs.Classes.Class.{Grouped as FlatGrouped}
 use Rattle.histar_flat.specs.FlatState.{Flat}
 use Rattle.histar_flat.specs.Texts.{path_text}
-use Rattle.std.specs.List.{filter_map, flat_map}
+use Rattle.std.specs.List.{filter_map, flat_map, list_all}
 use Rattle.histar_rights.specs.Table.{access_line_text}
 use Rattle.histar_layout.specs.Listing.{is_directory}
 use Rattle.histar_layout.specs.declared.class.Class.{Class}
@@ -29,7 +29,7 @@ use Rattle.histar_shell.specs.Machine.{MachineModel}
 use Rattle.histar_shell.specs.Meaning.{Shows}
 use Rattle.histar_prefix.specs.Listing.{AreProcessesIn}
 use Rattle.histar_trust.specs.Secrets.{is_secret, process_mark, runner_mark, secrets_text, user_mark}
-use Rattle.histar_trust.specs.TrustText.{is_for_everyone, process_lines, trust_text, user_lines}
+use Rattle.histar_trust.specs.TrustText.{is_for_everyone, is_open_way, process_lines, trust_text, user_lines}
 
 -- a running process: its user, the jobs that it is in, and those that it holds, by the numbers of their categories
 pub record Runner : Type 0 where
@@ -86,47 +86,52 @@ abbrev pub classes_to : List TreeNode → Path → List FlatClass
 classes_to tree [] = class_there (node_at [] tree)
 classes_to tree (n ∷ d) = class_there (node_at (n ∷ d) tree) ++ classes_to tree d
 
--- the users as whom a process could log in to read a file of the class, as they are printed
-abbrev pub shown_login_readers : Accounts → FlatClass → List ℕ
-shown_login_readers accounts class = user_lines (codes "login") (filter (is_login_reader accounts.groups class) (names_of accounts))
+-- every process may read each of these classes
+abbrev pub are_for_everyone : List FileClass → Bool
+are_for_everyone classes = list_all (λ class. is_for_everyone (flat_class class)) classes
+
+-- the users as whom a process could log in to read all of the way, as they are printed
+abbrev pub shown_login_readers : Accounts → List FlatClass → List ℕ
+shown_login_readers accounts way = user_lines (codes "login") (filter (is_login_reader accounts.groups way) (names_of accounts))
 
 module _ (accounts : Accounts) (members : List Member) where
-  -- the processes that have this role towards a file of the class
-  abbrev pub those_of : FlatClass → Role → List (ProcName × Name)
-  those_of class role = map with_user (filter (has_role accounts.groups class role) members)
+  -- the processes that have this role towards a file with this way
+  abbrev pub those_of : List FlatClass → Role → List (ProcName × Name)
+  those_of way role = map with_user (filter (has_role accounts.groups way role) members)
 
-  -- the roles towards a file of the class, as they are printed
-  abbrev pub shown_readers : FlatClass → List ℕ
-  shown_readers class =
-      process_lines (codes "trusted") (those_of class Trusted)
-      ++ process_lines (codes "confined") (those_of class Confined)
-      ++ process_lines (codes "outside") (those_of class Outside)
-      ++ shown_login_readers accounts class
+  -- the roles towards a file with this way, as they are printed
+  abbrev pub shown_readers : List FlatClass → List ℕ
+  shown_readers way =
+      process_lines (codes "trusted") (those_of way Trusted)
+      ++ process_lines (codes "confined") (those_of way Confined)
+      ++ process_lines (codes "outside") (those_of way Outside)
+      ++ shown_login_readers accounts way
 
-  -- the text of the roles towards a file or a directory of a tree
-  abbrev pub shown_roles : TreeNode → List ℕ
-  shown_roles node =
-      let class = class_flat node.class in
-      if is_directory node.target then [] else if is_for_everyone class then codes "everyone\n" else shown_readers class
+  -- the text of the roles towards a file or a directory of a tree, by the way to it
+  abbrev pub shown_roles : TreeNode → List FlatClass → List ℕ
+  shown_roles node way = if is_directory node.target then [] else if is_open_way way then codes "everyone\n" else shown_readers way
 
-  -- the trusted and the confined processes and the login readers of a file of the class, as they are printed on one line
-  abbrev pub shown_members : FlatClass → List ℕ
-  shown_members class =
-      flat_map (process_mark (codes "trusted")) (those_of class Trusted)
-      ++ flat_map (process_mark (codes "confined")) (those_of class Confined)
-      ++ flat_map (user_mark (codes "login")) (filter (is_login_reader accounts.groups class) (names_of accounts))
+  -- the trusted and the confined processes and the login readers of a file with this way, as they are printed on one line
+  abbrev pub shown_members : List FlatClass → List ℕ
+  shown_members way =
+      flat_map (process_mark (codes "trusted")) (those_of way Trusted)
+      ++ flat_map (process_mark (codes "confined")) (those_of way Confined)
+      ++ flat_map (user_mark (codes "login")) (filter (is_login_reader accounts.groups way) (names_of accounts))
+
+  -- the text of a file or a directory among the secrets, by the way to it
+  abbrev pub shown_secret_by : TreeNode → List FlatClass → List ℕ
+  shown_secret_by node way =
+      if is_secret (is_directory node.target) way then path_text node.path ++ shown_members way ++ codes "\n" else []
 
   -- the text of a file or a directory of a tree among the secrets
-  abbrev pub shown_secret : TreeNode → List ℕ
-  shown_secret node =
-      let class = class_flat node.class in
-      if is_secret (is_directory node.target) class then path_text node.path ++ shown_members class ++ codes "\n" else []
+  abbrev pub shown_secret : List TreeNode → TreeNode → List ℕ
+  shown_secret tree node = shown_secret_by node (classes_to tree node.path)
 
-  -- the text of each of these was added, and their classes are those of files
-  pub record AddsSecrets (tree : List TreeNode) (old new : List ℕ) : Type 0 where
-    pub classes : List FileClass
-    pub are : map flat_class classes ≡ map (λ (node : TreeNode). class_flat node.class) tree
-    pub added : new ≡ old ++ flat_map shown_secret tree
+  -- the text of each of these nodes of a tree was added, and the classes on the ways to them are those of files
+  pub record AddsSecrets (tree nodes : List TreeNode) (old new : List ℕ) : Type 0 where
+    pub ways : List (List FileClass)
+    pub are : map (map flat_class) ways ≡ map (λ (node : TreeNode). classes_to tree node.path) nodes
+    pub added : new ≡ old ++ flat_map (shown_secret tree) nodes
 
   -- the processes and users that may change what is of the first class, in directories of the others, as they are printed
   abbrev pub shown_changers : List FileClass → List ℕ
@@ -140,7 +145,8 @@ head_text node = access_line_text (record { path = node.path; stat = node_stat n
 
 -- the text of a file or a directory of a tree, by its class and those of the directories above it
 abbrev pub shown_node : Accounts → List Member → TreeNode → List FileClass → List ℕ
-shown_node accounts members node classes = head_text node ++ shown_roles accounts members node ++ shown_changers accounts members classes
+shown_node accounts members node classes =
+    head_text node ++ shown_roles accounts members node (map flat_class classes) ++ shown_changers accounts members classes
 
 -- the processes of a machine were found, and these members are the running ones
 pub record AreMembers (m : MachineModel) (members : List Member) : Type 0 where

@@ -20,7 +20,7 @@ use Rattle.histar_shell.specs.Meaning.{asked_tree, last_state, meaning_text}
 abbrev pub writing : ℕ → ProcName → Path → List ℕ → CallLine
 writing line writer path bytes = record { line = line; process = writer; call = Write path bytes }
 
-module _ (accounts : Accounts) (class : Class) (path : Path) (before : List CallLine) where
+module _ (accounts : Accounts) (way : List Class) (path : Path) (before : List CallLine) where
   -- the state after the calls that two scripts begin with
   abbrev pub state_met : Flat
   state_met = flat_end accounts (boot accounts) before
@@ -36,7 +36,7 @@ module _ (accounts : Accounts) (class : Class) (path : Path) (before : List Call
   -- the texts of the replies to the processes that are outsiders after these calls
   abbrev pub outside_texts : List RepliedCall → List (List ℕ)
   outside_texts answers = map (λ (a : RepliedCall). reply_text a.reply)
-      (filter (λ (a : RepliedCall). is_outsider accounts class state_met a.call.process) answers)
+      (filter (λ (a : RepliedCall). is_outsider accounts way state_met a.call.process) answers)
 
 -- These answers, to these calls, are the last ones of a script's meaning; and `run` prints for the script the lines of the first answers,
 -- then the lines of these, and then the tree if it is asked for.
@@ -47,21 +47,21 @@ pub record PrintsBehind (options : Options) (script : ScriptModel) (calls : List
   pub text : meaning_text options script ≡ answers_text first ++ answers_text answers ++ asked_tree options (last_state script)
 
 -- The lines that `run` prints of both scripts after the secret was written: the replies to outsiders have the same texts in both.
-pub record PrintTheSame (options : Options) (accounts : Accounts) (class : Class) (path : Path) (before : List CallLine)
+pub record PrintTheSame (options : Options) (accounts : Accounts) (way : List Class) (path : Path) (before : List CallLine)
     (one two : ScriptModel) (calls others : List CallLine) : Type 0 where
   pub answers : List RepliedCall
   pub prints : PrintsBehind options one calls answers
   pub other_answers : List RepliedCall
   pub other_prints : PrintsBehind options two others other_answers
-  pub alike : outside_texts accounts class path before answers ≡ outside_texts accounts class path before other_answers
+  pub alike : outside_texts accounts way path before answers ≡ outside_texts accounts way path before other_answers
 
 -- Two inputs are scripts that begin with the same calls, after which a file of the class is at the path. Then a process writes one string
 -- of bytes to it in one script, and another in the other. After that the trusted are silent in both, and outsiders make the same calls and
 -- log in as no reader. Then `run` prints the same replies to outsiders, whatever the confined call in each.
 abbrev pub OutsidersReadTheSame : Type 0
 OutsidersReadTheSame = (options : Options) (text other : List ℕ) (one two : ScriptModel) → script_of text ≡ Ok one → script_of other ≡ Ok two
-    → (accounts : Accounts) (class : Class) (path : Path) (before : List CallLine) → HasFile (state_met accounts class path before) path class
+    → (accounts : Accounts) (way : List Class) (path : Path) (before : List CallLine) → HasFile (state_met accounts way path before) path way
     → (writer : ProcName) (bytes other_bytes : List ℕ) (calls others : List CallLine)
-    → WritesBehind accounts class path before one writer bytes calls → WritesBehind accounts class path before two writer other_bytes others
-    → OutsidersCallTheSame accounts class (state_met accounts class path before) calls others
-    → PrintTheSame options accounts class path before one two calls others
+    → WritesBehind accounts way path before one writer bytes calls → WritesBehind accounts way path before two writer other_bytes others
+    → OutsidersCallTheSame accounts way (state_met accounts way path before) calls others
+    → PrintTheSame options accounts way path before one two calls others

@@ -9,11 +9,12 @@ use Rattle.histar_flat.specs.Texts.{path_text, process_text}
 use Rattle.histar_rights.specs.Running.{Named, running_in}
 use Rattle.histar_script.specs.Script.{ScriptModel}
 use Rattle.histar_prefix.specs.Prefix.{state_before}
-use Rattle.histar_trust.specs.TrustText.{confined_by, is_for_everyone, login_readers, trusted_with}
+use Rattle.histar_secrecy.specs.Ways.{way_to}
+use Rattle.histar_trust.specs.TrustText.{confined_by, is_open_way, login_readers, trusted_with}
 
--- it is no directory, and not every process may read it
-abbrev pub is_secret : Bool → Class → Bool
-is_secret is_directory class = not is_directory && not (is_for_everyone class)
+-- it is no directory, and not every process reaches it
+abbrev pub is_secret : Bool → List Class → Bool
+is_secret is_directory way = not is_directory && not (is_open_way way)
 
 -- a process after a space, a word and a colon
 abbrev pub process_mark : List ℕ → ProcName × Name → List ℕ
@@ -36,16 +37,16 @@ abbrev pub runners_line : Flat → List ℕ
 runners_line f = codes "running" ++ flat_map running_mark (running_in f) ++ codes "\n"
 
 module _ (accounts : Accounts) (f : Flat) where
-  -- the processes that are trusted with the class, those that are confined, and the users that could log in as readers, as `trust` has them
-  abbrev pub members_text : Class → List ℕ
-  members_text class =
-      flat_map (process_mark (codes "trusted")) (trusted_with accounts f class)
-      ++ flat_map (process_mark (codes "confined")) (confined_by accounts f class)
-      ++ flat_map (user_mark (codes "login")) (login_readers accounts f class)
+  -- the processes that are trusted with the way, those that are confined, and the users that could log in as readers, as `trust` has them
+  abbrev pub members_text : List Class → List ℕ
+  members_text way =
+      flat_map (process_mark (codes "trusted")) (trusted_with accounts f way)
+      ++ flat_map (process_mark (codes "confined")) (confined_by accounts f way)
+      ++ flat_map (user_mark (codes "login")) (login_readers accounts f way)
 
-  -- the path and these members of a file that not every process may read, and nothing for all else
+  -- the path and these members of a file that not every process reaches, and nothing for all else
   abbrev pub secret_text : Path × Node → List ℕ
-  secret_text e = if is_secret (is_dir e.1) e.1.class then path_text e.0 ++ members_text e.1.class ++ codes "\n" else []
+  secret_text e = if is_secret (is_dir e.1) (way_to f e.0) then path_text e.0 ++ members_text (way_to f e.0) ++ codes "\n" else []
 
   -- the line of the processes, and then these lines, in the order of paths
   abbrev pub secrets_text : List ℕ

@@ -1,16 +1,17 @@
 -- Which processes have to be trusted with what is at a path: the text of a flat state.
 use Rattle.std.specs.Prelude.{ℕ, Bool, true, false, List, [], ◌++◌, None, Some, codes, filter, map, if◌then◌else◌}
-use Rattle.std.specs.List.{flat_map}
+use Rattle.std.specs.List.{flat_map, list_all}
 use Rattle.histar_flat.specs.declared.calls.User.{User}
 use Rattle.histar_flat.specs.Words.{Name, Path, ProcName}
 use Rattle.histar_flat.specs.Accounts.{Accounts}
 use Rattle.histar_flat.specs.Files.{get}
-use Rattle.histar_flat.specs.Classes.{Class, may_read}
+use Rattle.histar_flat.specs.Classes.{Class}
 use Rattle.histar_flat.specs.Classes.Class.{Readable, Open}
 use Rattle.histar_flat.specs.FlatState.{Flat, Node, is_dir}
 use Rattle.histar_flat.specs.Texts.{process_text}
 use Rattle.histar_rights.specs.Running.{Named, running_in}
 use Rattle.histar_rights.specs.Table.{access_line_text, line_of}
+use Rattle.histar_secrecy.specs.Ways.{reads_all, way_to}
 use Rattle.histar_secrecy.specs.Logins.{logged_in}
 use Rattle.histar_secrecy.specs.Roles.{is_confined, is_outsider, is_trusted}
 use Rattle.histar_secrecy.specs.Changers.{is_changer, may_change}
@@ -37,6 +38,10 @@ is_for_everyone (Readable owner) = true
 is_for_everyone Open = true
 is_for_everyone class = false
 
+-- every process may read all of the way, and so reaches what is at its end
+abbrev pub is_open_way : List Class → Bool
+is_open_way way = list_all is_for_everyone way
+
 module _ (accounts : Accounts) (f : Flat) where
   -- the running processes whose names pass the test, in the order of names, each with its user
   abbrev pub running_where : (ProcName → Bool) → List (ProcName × Name)
@@ -46,29 +51,30 @@ module _ (accounts : Accounts) (f : Flat) where
   abbrev pub users_where : (Name → Bool) → List Name
   users_where test = filter test (map (λ (u : User). u.name) accounts.users)
 
-  -- the processes that are trusted with the class
-  abbrev pub trusted_with : Class → List (ProcName × Name)
-  trusted_with class = running_where (is_trusted accounts class f)
+  -- the processes that are trusted with the way
+  abbrev pub trusted_with : List Class → List (ProcName × Name)
+  trusted_with way = running_where (is_trusted accounts way f)
 
-  -- the processes that are confined by the class
-  abbrev pub confined_by : Class → List (ProcName × Name)
-  confined_by class = running_where (is_confined accounts class f)
+  -- the processes that are confined by the way
+  abbrev pub confined_by : List Class → List (ProcName × Name)
+  confined_by way = running_where (is_confined accounts way f)
 
   -- the users that could log in as readers
-  abbrev pub login_readers : Class → List Name
-  login_readers class = users_where (λ user. may_read accounts (logged_in user) class)
+  abbrev pub login_readers : List Class → List Name
+  login_readers way = users_where (λ user. reads_all accounts way (logged_in user))
 
-  -- the lines of the processes that are trusted with the class, confined, and outsiders, and of the users that could log in as readers
-  abbrev pub readers_text : Class → List ℕ
-  readers_text class =
-      process_lines (codes "trusted") (trusted_with class)
-      ++ process_lines (codes "confined") (confined_by class)
-      ++ process_lines (codes "outside") (running_where (is_outsider accounts class f))
-      ++ user_lines (codes "login") (login_readers class)
+  -- the lines of the processes that are trusted with the way, confined, and outsiders, and of the users that could log in as readers
+  abbrev pub readers_text : List Class → List ℕ
+  readers_text way =
+      process_lines (codes "trusted") (trusted_with way)
+      ++ process_lines (codes "confined") (confined_by way)
+      ++ process_lines (codes "outside") (running_where (is_outsider accounts way f))
+      ++ user_lines (codes "login") (login_readers way)
 
-  -- nothing for a directory; for a file `everyone` if every process may read it, or else the lines of the roles
-  abbrev pub roles_text : Node → List ℕ
-  roles_text node = if is_dir node then [] else if is_for_everyone node.class then codes "everyone\n" else readers_text node.class
+  -- nothing for a directory; for a file `everyone` if every process reaches it, or else the lines of the roles
+  abbrev pub roles_text : Path → Node → List ℕ
+  roles_text path node =
+      if is_dir node then [] else if is_open_way (way_to f path) then codes "everyone\n" else readers_text (way_to f path)
 
   -- the lines of the processes that may change what is at the path, and of the users that could log in to do so
   abbrev pub changers_text : Path → List ℕ
@@ -80,5 +86,5 @@ module _ (accounts : Accounts) (f : Flat) where
   abbrev pub trust_text : Path → List ℕ
   trust_text path = elim (get f.files path) [
     | None ↦ codes "no entry\n"
-    | Some node ↦ access_line_text (line_of accounts f [] (path, node)) ++ roles_text node ++ changers_text path
+    | Some node ↦ access_line_text (line_of accounts f [] (path, node)) ++ roles_text path node ++ changers_text path
   ]

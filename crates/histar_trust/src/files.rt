@@ -1,5 +1,5 @@
 //! The line of the running processes, and the lines of the files that not everyone may read.
-ghost use Rattle.std.specs.Prelude.{◌≡◌, ◌++◌, [], ◌∷◌, codes, IfOk, OnOk};
+ghost use Rattle.std.specs.Prelude.{◌≡◌, ◌++◌, [], ◌∷◌, codes, IfOk, map, OnOk};
 ghost use Rattle.std.specs.List.{flat_map};
 ghost use Rattle.histar_layout.specs.Listing.{is_directory};
 ghost use Rattle.histar_shell.specs.Ending.{IsTreeIn};
@@ -8,8 +8,8 @@ ghost use Rattle.histar_trust.specs.Findings.{AddsSecrets, HasState, ShowsSecret
 ghost use Rattle.histar_trust.specs.Secrets.{is_secret, process_mark, user_mark};
 
 use crate::members::{members_among, user_names};
-use crate::output::is_for_everyone;
-use crate::way::file_class;
+use crate::output::is_open_way;
+use crate::way::push_classes;
 use histar_flat::{Name, ProcName};
 use histar_label::LabelStore;
 use histar_layout::UserTable;
@@ -58,7 +58,7 @@ fn member_lines(
     tree: &[TreeNode],
 ) -> Result<Vec<u8>, AllocError>
     ensures { IfOk result (λ text.
-        AddsSecrets users.now members.now tree.now (shown_runners members.now) text.items) }
+        AddsSecrets users.now members.now tree.now tree.now (shown_runners members.now) text.items) }
 {
     let mut text = Vec::new(alloc);
     push_runners(&mut text, members)?;
@@ -103,60 +103,64 @@ fn push_secrets(
     members: &[Member],
     tree: &[TreeNode],
 ) -> Result<(), AllocError>
-    ensures { OnOk result (AddsSecrets users.now members.now tree.now text.old.items text.new.items) }
+    ensures { OnOk result (AddsSecrets users.now members.now tree.now tree.now text.old.items text.new.items) }
 {
     'nodes: for node in tree {
-        push_secret(alloc, text, users, members, node)?;
+        push_secret(alloc, text, users, members, tree, node)?;
     }
     Ok(())
 }
 
-/// Adds the line of a file, unless every process may read it. It adds nothing for a directory.
+/// Adds the line of a file of a tree, unless every process reaches it. It adds nothing for a directory.
 fn push_secret(
     alloc: Global,
     text: &mut Vec<u8>,
     users: &UserTable,
     members: &[Member],
+    tree: &[TreeNode],
     node: &TreeNode,
 ) -> Result<(), AllocError>
-    ensures { OnOk result (AddsSecrets users.now members.now (node.now ∷ []) text.old.items text.new.items) }
+    ensures { OnOk result (AddsSecrets users.now members.now tree.now (node.now ∷ []) text.old.items
+        text.new.items) }
 {
-    let class = file_class(alloc, &node.class)?;
-    let secret = is_secret(node, &class);
+    let mut ways = Vec::new(alloc);
+    push_classes(alloc, tree, node.path.names(), &mut ways)?;
+    let classes = ways.as_slice();
+    let secret = is_secret(node, classes);
     if !secret {
         return Ok(());
     }
     push_path(text, &node.path)?;
-    push_members(alloc, text, users, members, &class)?;
+    push_members(alloc, text, users, members, classes)?;
     text.extend_from_slice(b"\n")
 }
 
-/// Checks whether a node is a file of the class that not every process may read.
-fn is_secret(node: &TreeNode, class: &FileClass) -> bool
-    ensures { result ≡ is_secret (is_directory node.now.target) (flat_class class.now) }
+/// Checks whether a node is a file that not every process reaches.
+fn is_secret(node: &TreeNode, classes: &[FileClass]) -> bool
+    ensures { result ≡ is_secret (is_directory node.now.target) (map flat_class classes.now) }
 {
-    !node.stat().is_directory && !is_for_everyone(class)
+    !node.stat().is_directory && !is_open_way(classes)
 }
 
-/// Adds each process that is trusted with a file of the class, each that is confined, and each user as whom a
-/// process could log in to read it.
+/// Adds each process that is trusted with a file, each that is confined, and each user as whom a process could
+/// log in to read it.
 fn push_members(
     alloc: Global,
     text: &mut Vec<u8>,
     users: &UserTable,
     members: &[Member],
-    class: &FileClass,
+    classes: &[FileClass],
 ) -> Result<(), AllocError>
     ensures { OnOk result (text.new.items
-        ≡ text.old.items ++ shown_members users.now members.now (flat_class class.now)) }
+        ≡ text.old.items ++ shown_members users.now members.now (map flat_class classes.now)) }
 {
     let groups = users.groups();
-    let trusted = with_role(alloc, groups, class, Role::Trusted, members)?;
+    let trusted = with_role(alloc, groups, classes, Role::Trusted, members)?;
     push_processes(text, b"trusted", trusted.as_slice())?;
-    let confined = with_role(alloc, groups, class, Role::Confined, members)?;
+    let confined = with_role(alloc, groups, classes, Role::Confined, members)?;
     push_processes(text, b"confined", confined.as_slice())?;
     let names = user_names(alloc, users)?;
-    let readers = login_readers(alloc, groups, class, names.as_slice())?;
+    let readers = login_readers(alloc, groups, classes, names.as_slice())?;
     push_users(text, b"login", readers.as_slice())
 }
 

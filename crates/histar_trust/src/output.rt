@@ -1,14 +1,14 @@
 //! The lines on which processes and users have to be trusted.
-ghost use Rattle.std.specs.Prelude.{◌≡◌, ◌++◌, IfOk, OnOk};
+ghost use Rattle.std.specs.Prelude.{◌≡◌, ◌++◌, IfOk, map, OnOk};
 ghost use Rattle.histar_shell.specs.Ending.{IsTreeIn};
 ghost use Rattle.histar_secrecy.specs.ShownRoles.{flat_class};
-ghost use Rattle.histar_trust.specs.Findings.{HasState, ShowsNode, ShowsTrust};
+ghost use Rattle.histar_trust.specs.Findings.{are_for_everyone, HasState, ShowsNode, ShowsTrust};
 ghost use Rattle.histar_trust.specs.Findings.{head_text, shown_changers, shown_login_readers, shown_node};
 ghost use Rattle.histar_trust.specs.Findings.{shown_readers, shown_roles};
-ghost use Rattle.histar_trust.specs.TrustText.{is_for_everyone, process_line, process_lines, user_lines};
+ghost use Rattle.histar_trust.specs.TrustText.{is_for_everyone, is_open_way, process_line, process_lines, user_lines};
 
 use crate::members::{members_among, user_names};
-use crate::way::{file_class, node_at, push_classes};
+use crate::way::{node_at, push_classes};
 use histar_flat::{Name, Path, ProcName};
 use histar_label::LabelStore;
 use histar_layout::UserTable;
@@ -84,7 +84,7 @@ fn node_lines(
 {
     let mut text = Vec::new(alloc);
     push_head(&mut text, node)?;
-    push_roles(alloc, &mut text, users, members, node)?;
+    push_roles(alloc, &mut text, users, members, node, classes)?;
     push_changers(alloc, &mut text, users, members, classes)?;
     Ok(text)
 }
@@ -99,69 +99,84 @@ fn push_head(text: &mut Vec<u8>, node: &TreeNode) -> Result<(), AllocError>
     text.extend_from_slice(b"\n")
 }
 
-/// Adds who may read a file: a line for each process with its role, and one for each user as whom a process
-/// could log in to read it, or a single line if every process may read it. It adds nothing for a directory.
+/// Adds who reaches a file: a line for each process with its role, and one for each user as whom a process
+/// could log in to read it, or a single line if every process reaches it. It adds nothing for a directory.
+/// The classes are those of the file, and of each directory above it.
 fn push_roles(
     alloc: Global,
     text: &mut Vec<u8>,
     users: &UserTable,
     members: &[Member],
     node: &TreeNode,
+    classes: &[FileClass],
 ) -> Result<(), AllocError>
     ensures { OnOk result (text.new.items
-        ≡ text.old.items ++ shown_roles users.now members.now node.now) }
+        ≡ text.old.items ++ shown_roles users.now members.now node.now (map flat_class classes.now)) }
 {
     if node.stat().is_directory {
         return Ok(());
     }
-    let class = file_class(alloc, &node.class)?;
-    if is_for_everyone(&class) {
+    if is_open_way(classes) {
         return text.extend_from_slice(b"everyone\n");
     }
-    push_readers(alloc, text, users, members, &class)
+    push_readers(alloc, text, users, members, classes)
+}
+
+/// Checks whether every process may read what is of each of these classes.
+pub(crate) fn is_open_way(classes: &[FileClass]) -> bool
+    ensures { result ≡ is_open_way (map flat_class classes.now) }
+{
+    are_for_everyone(classes)
+}
+
+/// Checks the same, class by class.
+fn are_for_everyone(classes: &[FileClass]) -> bool
+    ensures { result ≡ are_for_everyone classes.now }
+{
+    classes.iter().all(|class| is_for_everyone(class))
 }
 
 /// Checks whether every process may read a file of the class.
-pub(crate) fn is_for_everyone(class: &FileClass) -> bool
+fn is_for_everyone(class: &FileClass) -> bool
     ensures { result ≡ is_for_everyone (flat_class class.now) }
 {
     matches!(class, FileClass::Readable(_) | FileClass::Open)
 }
 
-/// Adds a line for each process with its role towards a file of the class, and one for each user as whom a
-/// process could log in to read it.
+/// Adds a line for each process with its role towards a file, and one for each user as whom a process could
+/// log in to read it.
 fn push_readers(
     alloc: Global,
     text: &mut Vec<u8>,
     users: &UserTable,
     members: &[Member],
-    class: &FileClass,
+    classes: &[FileClass],
 ) -> Result<(), AllocError>
     ensures { OnOk result (text.new.items
-        ≡ text.old.items ++ shown_readers users.now members.now (flat_class class.now)) }
+        ≡ text.old.items ++ shown_readers users.now members.now (map flat_class classes.now)) }
 {
     let groups = users.groups();
-    let trusted = with_role(alloc, groups, class, Role::Trusted, members)?;
+    let trusted = with_role(alloc, groups, classes, Role::Trusted, members)?;
     push_processes(text, b"trusted", trusted.as_slice())?;
-    let confined = with_role(alloc, groups, class, Role::Confined, members)?;
+    let confined = with_role(alloc, groups, classes, Role::Confined, members)?;
     push_processes(text, b"confined", confined.as_slice())?;
-    let outside = with_role(alloc, groups, class, Role::Outside, members)?;
+    let outside = with_role(alloc, groups, classes, Role::Outside, members)?;
     push_processes(text, b"outside", outside.as_slice())?;
-    push_login_readers(alloc, text, users, class)
+    push_login_readers(alloc, text, users, classes)
 }
 
-/// Adds a line for each user as whom a process could log in to read a file of the class.
+/// Adds a line for each user as whom a process could log in to read a file.
 fn push_login_readers(
     alloc: Global,
     text: &mut Vec<u8>,
     users: &UserTable,
-    class: &FileClass,
+    classes: &[FileClass],
 ) -> Result<(), AllocError>
     ensures { OnOk result (text.new.items
-        ≡ text.old.items ++ shown_login_readers users.now (flat_class class.now)) }
+        ≡ text.old.items ++ shown_login_readers users.now (map flat_class classes.now)) }
 {
     let names = user_names(alloc, users)?;
-    let readers = login_readers(alloc, users.groups(), class, names.as_slice())?;
+    let readers = login_readers(alloc, users.groups(), classes, names.as_slice())?;
     push_users(text, b"login", readers.as_slice())
 }
 

@@ -57,7 +57,7 @@ fn push_class(
 }
 
 /// Returns a class, with each of its jobs by the number of its category.
-pub fn file_class(alloc: Global, class: &Class) -> Result<FileClass, AllocError>
+fn file_class(alloc: Global, class: &Class) -> Result<FileClass, AllocError>
     ensures { IfOk result (λ of_file. flat_class of_file ≡ class_flat class.now) }
 {
     Ok(match class {

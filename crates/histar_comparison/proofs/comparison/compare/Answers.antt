@@ -1,7 +1,7 @@
 -- Proves the goals of `compare` of src/comparison.rt that the search leaves open.
 use Rattle.std.proofs.Common.{◌≡◌, true, false, sym, ap, subst, ◌∙◌, rules}
 use Rattle.histar_script.specs.Script.{without_job}
-use Rattle.histar_noninterference.proofs.Isolated.{isolates_jobs}
+use Rattle.histar_noninterference.proofs.Isolated.{only_releases_differ}
 use Rattle.histar_noninterference.proofs.TreeLines.{finds_first_path}
 use Rattle.histar_comparison.specs.Observation.{CanRun, ObservationModel, observation}
 use Rattle.histar_comparison.proofs.Verdicts.{can_run, compared_found, compared_none, quiet_is_same, read_again, rest_runs}
@@ -18,7 +18,7 @@ returns-then-not-is_started-clause-exact c =
 
 pub returns-then-not-is_started-clause-isolated : goal.returns-then-not-is_started-clause-isolated
 returns-then-not-is_started-clause-isolated c quiet =
-    quiet_is_same c.args.job.now isolates_jobs c.args.text.now _ quiet (returns-then-not-is_started-clause-exact c)
+    quiet_is_same c.args.job.now only_releases_differ c.args.text.now _ quiet (returns-then-not-is_started-clause-exact c)
 
 pub observe-requires-2 : goal.observe-requires-2
 observe-requires-2 c =
@@ -40,4 +40,5 @@ returns-clause-exact c =
     c.find_difference.ensures
 
 pub returns-clause-isolated : goal.returns-clause-isolated
-returns-clause-isolated c quiet = quiet_is_same c.args.job.now isolates_jobs c.args.text.now c.find_difference.result quiet (returns-clause-exact c)
+returns-clause-isolated c quiet = quiet_is_same c.args.job.now only_releases_differ c.args.text.now c.find_difference.result quiet
+    (returns-clause-exact c)

@@ -7,7 +7,7 @@ use Rattle.histar_trust.proofs.ShownSecrets.{adds_more, adds_none}
 use Rattle.histar_trust.proofs.files.push_secrets.Goals as goal
 
 pub nodes-init : goal.nodes-init
-nodes-init c = adds_none _ _ _
+nodes-init c = adds_none _ _ _ _
 
 pub nodes-preserved : goal.nodes-preserved
 nodes-preserved c =
@@ -18,5 +18,6 @@ nodes-preserved c =
 
 pub returns : goal.returns
 returns c =
-    let P : List TreeNode → Type 0 = λ tree. AddsSecrets c.args.users.now c.args.members.now tree c.args.text.now.items c.nodes.text.items in
+    let P : List TreeNode → Type 0 = λ nodes.
+        AddsSecrets c.args.users.now c.args.members.now c.args.tree.now nodes c.args.text.now.items c.nodes.text.items in
     subst P (take_all c.nodes.node-index c.args.tree.now c.nodes-test.false) c.nodes.invariant

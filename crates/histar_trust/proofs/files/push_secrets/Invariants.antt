@@ -4,4 +4,4 @@ use Rattle.histar_trust.specs.Findings.{AddsSecrets}
 use Rattle.histar_trust.proofs.files.push_secrets.Given as goal
 
 abbrev pub invariant-nodes : goal.invariant-nodes
-invariant-nodes l = AddsSecrets l.users l.members (take l.node-index l.tree) l.fn.text.items l.text.items
+invariant-nodes l = AddsSecrets l.users l.members l.tree (take l.node-index l.tree) l.fn.text.items l.text.items

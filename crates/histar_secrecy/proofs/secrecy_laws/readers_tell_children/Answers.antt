@@ -1,0 +1,6 @@
+-- Proves the goals of `readers_tell_children` of src/secrecy_laws.rt that the search leaves open.
+use Rattle.histar_secrecy.proofs.Telling.{readers_tell_children}
+use Rattle.histar_secrecy.proofs.secrecy_laws.readers_tell_children.Goals as goal
+
+pub returns : goal.returns
+returns c = readers_tell_children
