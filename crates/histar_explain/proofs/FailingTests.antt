@@ -129,13 +129,13 @@ kind_cleared (kinds.Thread clearance) h = (clearance, refl)
 kind_cleared (kinds.Gate clearance entry) h = (clearance, refl)
 
 -- a thread may hand over a verify label exactly where its own label is below it
-own_below_is : (T : Found) → is_thread T ≡ true → (label : Levels) → is_own_below T label ≡ is_below (label_of_found T) label
+pub own_below_is : (T : Found) → is_thread T ≡ true → (label : Levels) → is_own_below T label ≡ is_below (label_of_found T) label
 own_below_is None thread label = absurd (false≢true thread)
 own_below_is (Some t) thread label =
     let has = kind_cleared t.kind (inl thread) in
     rw has.1 refl
 
-let_in_is : (T G : Found) → is_thread T ≡ true → is_gate G ≡ true → is_let_in T G ≡ is_below (label_of_found T) (clearance_of_found G)
+pub let_in_is : (T G : Found) → is_thread T ≡ true → is_gate G ≡ true → is_let_in T G ≡ is_below (label_of_found T) (clearance_of_found G)
 let_in_is T None thread gate = absurd (false≢true gate)
 let_in_is T (Some g) thread gate =
     let has = kind_cleared g.kind (inr gate) in

@@ -24,7 +24,7 @@ star_below L2 = refl
 star_below L3 = refl
 
 -- and where an owner passes, no level is above star
-star_above : (l : Level) → exceeds true l Star ≡ false
+pub star_above : (l : Level) → exceeds true l Star ≡ false
 star_above Star = refl
 star_above L0 = refl
 star_above L1 = refl

@@ -27,7 +27,7 @@ if_false : {A : Type 0} (b : Bool) (x y : A) → b ≡ false → (if b then x el
 if_false true x y h = absurd (false≢true (sym h))
 if_false false x y h = refl
 
-if_true : {A : Type 0} (b : Bool) (x y : A) → b ≡ true → (if b then x else y) ≡ x
+pub if_true : {A : Type 0} (b : Bool) (x y : A) → b ≡ true → (if b then x else y) ≡ x
 if_true true x y h = refl
 if_true false x y h = absurd (false≢true h)
 
@@ -38,7 +38,7 @@ apart q t differ = elim (eqb q t) as (λ b. eqb q t ≡ b → b ≡ false) [
 ] refl
 
 -- a gate is no thread
-gate_no_thread : (found : Found) → is_gate found ≡ true → is_thread found ≡ false
+pub gate_no_thread : (found : Found) → is_gate found ≡ true → is_thread found ≡ false
 gate_no_thread None h = refl
 gate_no_thread (Some o) h = by_kind o.kind h
   where
@@ -55,13 +55,13 @@ label_keyed (Some o) keyed h = refl
 
 module _ (s : State) (t : ℕ) (keyed : Levels) where
   -- another object stays as it was
-  stays : (q : ℕ) → is_thread (s.objects t) ≡ true → is_thread (s.objects q) ≡ false → (relabelled s t keyed).objects q ≡ s.objects q
+  pub stays : (q : ℕ) → is_thread (s.objects t) ≡ true → is_thread (s.objects q) ≡ false → (relabelled s t keyed).objects q ≡ s.objects q
   stays q thread other =
       if_false (eqb q t) (option_map (with_label keyed) (s.objects q)) (s.objects q)
       (apart q t (λ same. false≢true (sym other ∙ ap (λ n. is_thread (s.objects n)) same ∙ thread)))
 
   -- and the thread has its new label
-  has_label : is_thread (s.objects t) ≡ true → label_in (relabelled s t keyed) t ≡ keyed
+  pub has_label : is_thread (s.objects t) ≡ true → label_in (relabelled s t keyed) t ≡ keyed
   has_label thread =
       ap (λ (o : Found). unwrap_or (label_there o) (constant L1))
       (if_true (eqb t t) (option_map (with_label keyed) (s.objects t)) (s.objects t) (eq-eqb t t refl))

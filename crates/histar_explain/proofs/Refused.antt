@@ -36,13 +36,13 @@ unfolding Not
 not_orelse x None b p q = q
 not_orelse x (Some d) b p q = p
 
-never : (x : Denied) (a : Option Denied) → Not x a → a ≡ Some x → ⊥
+pub never : (x : Denied) (a : Option Denied) → Not x a → a ≡ Some x → ⊥
 unfolding Not
 never x None p e = cc
 never x (Some d) p e = p cc
 
 -- a denial that the second check doesn't give comes from the first
-strip : (x : Denied) (a b : Option Denied) → Not x b → (a orelse b) ≡ Some x → a ≡ Some x
+pub strip : (x : Denied) (a b : Option Denied) → Not x b → (a orelse b) ≡ Some x → a ≡ Some x
 strip x None b p e = absurd (never x b p e)
 strip x (Some d) b p e = e
 
@@ -78,16 +78,16 @@ gate_ranges x range a b c d =
     (not_orelse x (unless c Range) (unless d Range) (not_unless x c Range range) (not_unless x d Range range)))
 
 -- the calls that name no container are refused with another denial
-no_call : (x : Denied) → NoThread ≢ x → Range ≢ x → (a b c : Bool) → Not x (unless a NoThread orelse unless b Range orelse unless c Range)
+pub no_call : (x : Denied) → NoThread ≢ x → Range ≢ x → (a b c : Bool) → Not x (unless a NoThread orelse unless b Range orelse unless c Range)
 no_call x thread range a b c =
     not_orelse x (unless a NoThread) _ (not_unless x a NoThread thread)
     (not_orelse x (unless b Range) (unless c Range) (not_unless x b Range range) (not_unless x c Range range))
 
-no_count : (x : Denied) → NoThread ≢ x → TooBig ≢ x → (a b : Bool) → Not x (unless a NoThread orelse unless b TooBig)
+pub no_count : (x : Denied) → NoThread ≢ x → TooBig ≢ x → (a b : Bool) → Not x (unless a NoThread orelse unless b TooBig)
 no_count x thread big a b = not_orelse x (unless a NoThread) (unless b TooBig) (not_unless x a NoThread thread) (not_unless x b TooBig big)
 
 -- the checks of a container give no denial except these four
-container_not : (x : Denied) → NoThread ≢ x → NoEntry ≢ x → BadKind ≢ x → Observe ≢ x → (s : State) (t d : ℕ) → Not x (no_container s t d)
+pub container_not : (x : Denied) → NoThread ≢ x → NoEntry ≢ x → BadKind ≢ x → Observe ≢ x → (s : State) (t d : ℕ) → Not x (no_container s t d)
 container_not x thread entry kind observe s t d =
     not_orelse x (unless (is_thread (s.objects t)) NoThread) _ (not_unless x (is_thread (s.objects t)) NoThread thread)
     (not_orelse x (unless (is_present (s.objects d)) NoEntry) _ (not_unless x (is_present (s.objects d)) NoEntry entry)
@@ -96,7 +96,7 @@ container_not x thread entry kind observe s t d =
     (not_unless x (is_container (s.objects d)) BadKind kind)
     (not_unless x (observes (s.objects t) (s.objects d)) Observe observe)))
 
-link_not : (x : Denied) → NoThread ≢ x → NoEntry ≢ x → BadKind ≢ x → Observe ≢ x → (s : State) (t d o : ℕ) → Not x (no_link s t d o)
+pub link_not : (x : Denied) → NoThread ≢ x → NoEntry ≢ x → BadKind ≢ x → Observe ≢ x → (s : State) (t d o : ℕ) → Not x (no_link s t d o)
 link_not x thread entry kind observe s t d o =
     not_orelse x (no_container s t d) _ (container_not x thread entry kind observe s t d)
     (not_unless x (set.contains (links_in (s.objects d)) o) NoEntry entry)
@@ -111,7 +111,7 @@ four true false c d e = cc
 four false b c d e = cc
 
 -- a container, a segment or a gate is there, and is no thread
-other_kind : (found : Found) → ((is_container found ≡ true) ⊎ (is_segment found ≡ true)) → (is_present found ≡ true) × (is_thread found ≡ false)
+pub other_kind : (found : Found) → ((is_container found ≡ true) ⊎ (is_segment found ≡ true)) → (is_present found ≡ true) × (is_thread found ≡ false)
 other_kind None (inl h) = absurd (false≢true h)
 other_kind None (inr h) = absurd (false≢true h)
 other_kind (Some o) (inl h) = (refl, container_no_thread o.kind h)
@@ -148,7 +148,13 @@ module _ (s : State) (t d : ℕ) where
       container_refused (strip Observe (no_container s t d) _
       (not_unless Observe (set.contains (links_in (s.objects d)) o) NoEntry (λ h. cc)) e)
 
-  segment_refused : (o : ℕ) → no_segment s t d o ≡ Some Observe → IsRefused s t d observes
+  -- a segment that may not be observed for its container's sake
+  pub segment_container : (o : ℕ) → no_segment s t d o ≡ Some Observe → no_container s t d ≡ Some Observe
+  segment_container o e =
+      strip Observe (no_container s t d) _ (not_unless Observe (set.contains (links_in (s.objects d)) o) NoEntry (λ h. cc))
+      (strip Observe (no_link s t d o) _ (not_unless Observe (is_segment (s.objects o)) BadKind (λ h. cc)) e)
+
+  pub segment_refused : (o : ℕ) → no_segment s t d o ≡ Some Observe → IsRefused s t d observes
   segment_refused o e = link_refused o (strip Observe (no_link s t d o) _ (not_unless Observe (is_segment (s.objects o)) BadKind (λ h. cc)) e)
 
   gate_refused : (o : ℕ) → no_gate s t d o ≡ Some Observe → IsRefused s t d observes
@@ -159,12 +165,12 @@ module _ (s : State) (t d : ℕ) where
       container_refused (strip Observe (no_container s t d) _
       (not_unless Observe (modifies (s.objects t) (s.objects d)) Modify (λ h. cc)) e)
 
-  new_making : (x : Denied) → Range ≢ x → TooBig ≢ x → (label : Levels) (size : ℕ) → no_new s t d label size ≡ Some x → no_making s t d ≡ Some x
+  pub new_making : (x : Denied) → Range ≢ x → TooBig ≢ x → (label : Levels) (size : ℕ) → no_new s t d label size ≡ Some x → no_making s t d ≡ Some x
   new_making x range big label size e =
       strip x (no_making s t d) _ (three_tests x range big (in_range (s.objects t) label) (known s label) (not (has_star label))
       (fits_segment size) (has_number s)) e
 
-  owner_making : (x : Denied) → Range ≢ x → TooBig ≢ x → (label clearance : Levels)
+  pub owner_making : (x : Denied) → Range ≢ x → TooBig ≢ x → (label clearance : Levels)
       → no_new_owner s t d label clearance ≡ Some x → no_making s t d ≡ Some x
   owner_making x range big label clearance e =
       strip x (no_making s t d) _ (owner_tests x range big (in_span (s.objects t) label clearance) (known s label) (known s clearance)
@@ -181,6 +187,21 @@ module _ (s : State) (t d : ℕ) where
       let kind = other_kind (s.objects d) (inl both.1) in
       record { caller = both.0; there = kind.0; other = kind.1; refused = failed (modifies (s.objects t) (s.objects d)) Modify Modify parts.1 }
 
+-- a container whose checks pass may be observed
+pub container_observed : (s : State) (t d : ℕ) → no_container s t d ≡ None → observes (s.objects t) (s.objects d) ≡ true
+container_observed s t d e =
+    unless_none (observes (s.objects t) (s.objects d)) Observe
+    (rest (unless (is_container (s.objects d)) BadKind) _ (rest (unless (is_present (s.objects d)) NoEntry) _ (rest (no_thread s t) _ e)))
+
+-- who may not observe at a gate is refused before the gate
+pub entry_observed : (s : State) (t d o : ℕ) (wanted clearance verify : Levels) → check s t (Enter d o wanted clearance verify) ≡ Some Observe
+    → no_gate s t d o ≡ Some Observe
+entry_observed s t d o wanted clearance verify e = strip Observe (no_gate s t d o) _
+    (not_orelse Observe (unless (is_let_in (s.objects t) (s.objects o)) Gate) _
+    (not_unless Observe (is_let_in (s.objects t) (s.objects o)) Gate (λ h. cc))
+    (not_orelse Observe (unless (is_own_below (s.objects t) verify) Gate) _ (not_unless Observe (is_own_below (s.objects t) verify) Gate (λ h. cc))
+    (gate_ranges Observe (λ h. cc) (in_gate (s.objects t) (s.objects o) wanted clearance) (known s wanted) (known s clearance) (known s verify)))) e
+
 -- a call that may not observe is refused at this object
 pub observe_refused : (s : State) (t : ℕ) (call : RawCall) → check s t call ≡ Some Observe → IsRefused s t (observed_by s t call) observes
 observe_refused s t MakeCategory e = absurd (never Observe _ (no_count Observe (λ h. cc) (λ h. cc) (is_thread (s.objects t)) _) e)
@@ -195,11 +216,7 @@ observe_refused s t (MakeSegment d label bytes) e = making_refused s t d (new_ma
 observe_refused s t (MakeContainer d label) e = making_refused s t d (new_making s t d Observe (λ h. cc) (λ h. cc) label 0 e)
 observe_refused s t (MakeThread d label clearance) e = making_refused s t d (owner_making s t d Observe (λ h. cc) (λ h. cc) label clearance e)
 observe_refused s t (MakeGate d label clearance entry) e = making_refused s t d (owner_making s t d Observe (λ h. cc) (λ h. cc) label clearance e)
-observe_refused s t (Enter d o wanted clearance verify) e = gate_refused s t d o (strip Observe (no_gate s t d o) _
-    (not_orelse Observe (unless (is_let_in (s.objects t) (s.objects o)) Gate) _
-    (not_unless Observe (is_let_in (s.objects t) (s.objects o)) Gate (λ h. cc))
-    (not_orelse Observe (unless (is_own_below (s.objects t) verify) Gate) _ (not_unless Observe (is_own_below (s.objects t) verify) Gate (λ h. cc))
-    (gate_ranges Observe (λ h. cc) (in_gate (s.objects t) (s.objects o) wanted clearance) (known s wanted) (known s clearance) (known s verify)))) e)
+observe_refused s t (Enter d o wanted clearance verify) e = gate_refused s t d o (entry_observed s t d o wanted clearance verify e)
 observe_refused s t (Read d o) e = elim (split Observe (no_segment s t d o) _ e) [
   | inl at_container ↦
       let refused = segment_refused s t d o at_container in
@@ -209,7 +226,7 @@ observe_refused s t (Read d o) e = elim (split Observe (no_segment s t d o) _ e)
       let contained = first (no_container s t d) _ linked in
       let both = both_there s t d contained in
       let kind = other_kind (s.objects o) (inr (unless_none (is_segment (s.objects o)) BadKind (rest (no_link s t d o) _ at_segment.0))) in
-      let observed = observed_container contained in
+      let observed = container_observed s t d contained in
       let refused : IsRefused s t o observes =
       record {
         caller = both.0;
@@ -219,11 +236,6 @@ observe_refused s t (Read d o) e = elim (split Observe (no_segment s t d o) _ e)
       } in
       subst (λ q. IsRefused s t q observes) (sym (ap (λ b. if b then o else d) observed)) refused
 ]
-  where
-    observed_container : no_container s t d ≡ None → observes (s.objects t) (s.objects d) ≡ true
-    observed_container e =
-        unless_none (observes (s.objects t) (s.objects d)) Observe
-        (rest (unless (is_container (s.objects d)) BadKind) _ (rest (unless (is_present (s.objects d)) NoEntry) _ (rest (no_thread s t) _ e)))
 observe_refused s t (Write d o keep bytes) e = segment_refused s t d o (strip Observe (no_segment s t d o) _
     (not_orelse Observe (unless (modifies (s.objects t) (s.objects o)) Modify) _
     (not_unless Observe (modifies (s.objects t) (s.objects o)) Modify (λ h. cc))
@@ -236,7 +248,7 @@ observe_refused s t (LabelOf d o) e =
     (strip Observe (no_link s t d o) _ (not_unless Observe (not (is_thread (s.objects o))) BadKind (λ h. cc)) e)
 
 -- no container, link or segment is refused with a denial to modify or to enter
-segment_not : (x : Denied) → NoThread ≢ x → NoEntry ≢ x → BadKind ≢ x → Observe ≢ x → (s : State) (t d o : ℕ) → Not x (no_segment s t d o)
+pub segment_not : (x : Denied) → NoThread ≢ x → NoEntry ≢ x → BadKind ≢ x → Observe ≢ x → (s : State) (t d o : ℕ) → Not x (no_segment s t d o)
 segment_not x thread entry kind observe s t d o =
     not_orelse x (no_link s t d o) _ (link_not x thread entry kind observe s t d o)
     (not_unless x (is_segment (s.objects o)) BadKind kind)
@@ -245,6 +257,25 @@ pub gate_not : (x : Denied) → NoThread ≢ x → NoEntry ≢ x → BadKind ≢
 gate_not x thread entry kind observe s t d o =
     not_orelse x (no_link s t d o) _ (link_not x thread entry kind observe s t d o)
     (not_unless x (is_gate (s.objects o)) BadKind kind)
+
+-- to enter, to read and to ask for a label modify nothing
+pub enter_modifies : (s : State) (t d o : ℕ) (wanted clearance verify : Levels) → check s t (Enter d o wanted clearance verify) ≡ Some Modify → ⊥
+enter_modifies s t d o wanted clearance verify e =
+    never Modify _ (not_orelse Modify (no_gate s t d o) _ (gate_not Modify (λ h. cc) (λ h. cc) (λ h. cc) (λ h. cc) s t d o)
+    (not_orelse Modify (unless (is_let_in (s.objects t) (s.objects o)) Gate) _
+    (not_unless Modify (is_let_in (s.objects t) (s.objects o)) Gate (λ h. cc))
+    (not_orelse Modify (unless (is_own_below (s.objects t) verify) Gate) _ (not_unless Modify (is_own_below (s.objects t) verify) Gate (λ h. cc))
+    (gate_ranges Modify (λ h. cc) (in_gate (s.objects t) (s.objects o) wanted clearance) (known s wanted) (known s clearance) (known s verify))))) e
+
+pub read_modifies : (s : State) (t d o : ℕ) → check s t (Read d o) ≡ Some Modify → ⊥
+read_modifies s t d o e =
+    never Modify _ (not_orelse Modify (no_segment s t d o) _ (segment_not Modify (λ h. cc) (λ h. cc) (λ h. cc) (λ h. cc) s t d o)
+    (not_unless Modify (observes (s.objects t) (s.objects o)) Observe (λ h. cc))) e
+
+pub label_modifies : (s : State) (t d o : ℕ) → check s t (LabelOf d o) ≡ Some Modify → ⊥
+label_modifies s t d o e =
+    never Modify _ (not_orelse Modify (no_link s t d o) _ (link_not Modify (λ h. cc) (λ h. cc) (λ h. cc) (λ h. cc) s t d o)
+    (not_unless Modify (not (is_thread (s.objects o))) BadKind (λ h. cc))) e
 
 -- a call that may not modify is refused at this object
 pub modify_refused : (s : State) (t : ℕ) (call : RawCall) → check s t call ≡ Some Modify → IsRefused s t (modified_by call) modifies
@@ -260,16 +291,8 @@ modify_refused s t (MakeSegment d label bytes) e = making_unmodified s t d (new_
 modify_refused s t (MakeContainer d label) e = making_unmodified s t d (new_making s t d Modify (λ h. cc) (λ h. cc) label 0 e)
 modify_refused s t (MakeThread d label clearance) e = making_unmodified s t d (owner_making s t d Modify (λ h. cc) (λ h. cc) label clearance e)
 modify_refused s t (MakeGate d label clearance entry) e = making_unmodified s t d (owner_making s t d Modify (λ h. cc) (λ h. cc) label clearance e)
-modify_refused s t (Enter d o wanted clearance verify) e = absurd
-    (never Modify _ (not_orelse Modify (no_gate s t d o) _ (gate_not Modify (λ h. cc) (λ h. cc) (λ h. cc) (λ h. cc) s t d o)
-    (not_orelse Modify (unless (is_let_in (s.objects t) (s.objects o)) Gate) _
-    (not_unless Modify (is_let_in (s.objects t) (s.objects o)) Gate (λ h. cc))
-    (not_orelse Modify (unless (is_own_below (s.objects t) verify) Gate) _ (not_unless Modify (is_own_below (s.objects t) verify) Gate (λ h. cc))
-    (gate_ranges Modify (λ h. cc) (in_gate (s.objects t) (s.objects o) wanted clearance) (known s wanted) (known s clearance) (known s verify))))) e)
-modify_refused s t (Read d o) e =
-    absurd (never Modify _ (not_orelse Modify (no_segment s t d o) _
-    (segment_not Modify (λ h. cc) (λ h. cc) (λ h. cc) (λ h. cc) s t d o)
-    (not_unless Modify (observes (s.objects t) (s.objects o)) Observe (λ h. cc))) e)
+modify_refused s t (Enter d o wanted clearance verify) e = absurd (enter_modifies s t d o wanted clearance verify e)
+modify_refused s t (Read d o) e = absurd (read_modifies s t d o e)
 modify_refused s t (Write d o keep bytes) e =
     let parts = skip Modify (no_segment s t d o) _ (segment_not Modify (λ h. cc) (λ h. cc) (λ h. cc) (λ h. cc) s t d o) e in
     let linked = first (no_link s t d o) _ parts.0 in
@@ -288,9 +311,7 @@ modify_refused s t (Unlink d o) e =
     let both = both_there s t d (first (no_container s t d) _ parts.0) in
     let kind = other_kind (s.objects d) (inl both.1) in
     record { caller = both.0; there = kind.0; other = kind.1; refused = failed (modifies (s.objects t) (s.objects d)) Modify Modify parts.1 }
-modify_refused s t (LabelOf d o) e =
-    absurd (never Modify _ (not_orelse Modify (no_link s t d o) _ (link_not Modify (λ h. cc) (λ h. cc) (λ h. cc) (λ h. cc) s t d o)
-    (not_unless Modify (not (is_thread (s.objects o))) BadKind (λ h. cc))) e)
+modify_refused s t (LabelOf d o) e = absurd (label_modifies s t d o e)
 
 -- a thread was refused at a gate, by the gate's clearance or by the verify label
 pub record IsShutOut (s : State) (t o : ℕ) (verify : Levels) : Type 0 where

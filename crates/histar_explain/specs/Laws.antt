@@ -1,9 +1,9 @@
 -- The laws of the reasons of a denial.
-use Rattle.std.specs.Prelude.{◌≡◌, ◌≢◌, ℕ, true, false, Some, Bool, List}
+use Rattle.std.specs.Prelude.{◌≡◌, ◌≢◌, ◌⊎◌, ℕ, true, false, Some, Bool, List, if◌then◌else◌}
 use Rattle.std.specs.List.{list_any}
 use Rattle.histar_level.specs.declared.level.Level.TheVariants.{Star}
 use Rattle.histar_level.specs.Levels.{Levels, level_of}
-use Rattle.histar_object.specs.State.{State}
+use Rattle.histar_object.specs.State.{State, observes}
 use Rattle.histar_rules.specs.declared.raw.Denied.{Denied}
 use Rattle.histar_rules.specs.declared.raw.Denied.TheVariants.{Observe}
 use Rattle.histar_rules.specs.Rights.{with_changed, with_label}
@@ -12,7 +12,7 @@ use Rattle.histar_rules.specs.Rules.{check}
 use Rattle.histar_syscall.specs.Runs.{is_label_refusal}
 use Rattle.histar_explain.specs.declared.reasons.Reason.{Reason}
 use Rattle.histar_explain.specs.Comparisons.{Comparison, fails_at, Explains, is_shown}
-use Rattle.histar_explain.specs.Named.{label_in, observed_by}
+use Rattle.histar_explain.specs.Named.{label_in, container_named, observed_by}
 use Rattle.histar_explain.specs.Tests.{Test, tests_with, tests}
 
 -- a reason shows exactly the categories at which its comparison fails
@@ -61,3 +61,21 @@ KeysOpen = (s : State) (t : ℕ) (call : RawCall) (denied : Denied) (keyed : Lev
 -- for some tests and a label there is a label that has star at all their keys
 abbrev pub KeysExist : Type 0
 KeysExist = (some : List Test) (own : Levels) → (keyed : Levels) × HasKeys some own keyed
+
+-- a label that has star at some more categories, and is as before elsewhere
+abbrev pub OwnsMore : Levels → Levels → Type 0
+OwnsMore own label = (c : ℕ) → (level_of label c ≡ Star) ⊎ (level_of label c ≡ level_of own c)
+
+-- A call that was denied is still denied with another label of its thread: in the same way, unless with that label the thread may not observe
+-- the container. It may, and is denied at the same object, where it only owns more.
+pub record IsStillDenied (s : State) (t : ℕ) (call : RawCall) (denied : Denied) (label : Levels) : Type 0 where
+  pub refused : check (relabelled s t label) t call
+      ≡ Some (if observes ((relabelled s t label).objects t) ((relabelled s t label).objects (container_named call)) then denied else Observe)
+  pub alike : OwnsMore (label_in s t) label → check (relabelled s t label) t call ≡ Some denied
+  pub there : OwnsMore (label_in s t) label → observed_by (relabelled s t label) t call ≡ observed_by s t call
+
+-- Each key is needed: with any label that leaves one of them as it is, whatever it has elsewhere, the call is still denied.
+abbrev pub KeysAreNeeded : Type 0
+KeysAreNeeded = (s : State) (t : ℕ) (call : RawCall) (denied : Denied) (short : Levels) (k : ℕ) → is_label_refusal (Some denied) ≡ true
+    → check s t call ≡ Some denied → some_fails_at (tests s t call denied) k ≡ true → level_of short k ≡ level_of (label_in s t) k
+    → IsStillDenied s t call denied short

@@ -1,6 +1,12 @@
 //! The laws of explanations. Each law is the contract of a function that does nothing.
 ghost use Rattle.histar_explain.specs.Explanations.{DenialsHaveGrounds};
-ghost use Rattle.histar_explain.specs.Laws.{ShowsExactly, KeysAreLacking, DenialsRestOnTests, KeysOpen, KeysExist};
+ghost use Rattle.histar_explain.specs.Parties.{PartiesAreRight};
+ghost use Rattle.histar_explain.specs.Laws.{ShowsExactly, KeysAreLacking, DenialsRestOnTests, KeysOpen, KeysAreNeeded, KeysExist};
+
+/// Proves that the labels that a test compares are those of the parties that it names.
+pub fn parties_are_right()
+    ensures { PartiesAreRight }
+{}
 
 /// Proves that a reason shows exactly the categories at which its comparison fails: by name, or as one of all
 /// others.
@@ -26,6 +32,12 @@ pub fn denials_have_grounds()
 /// Proves that with star at all keys that a denial lacks, the same call is not denied in the same way.
 pub fn keys_open()
     ensures { KeysOpen }
+{}
+
+/// Proves that each key that a denial lacks is needed: with any label that leaves it as it is the call is
+/// still denied.
+pub fn keys_are_needed()
+    ensures { KeysAreNeeded }
 {}
 
 /// Proves that there is a label that has star at all keys that a denial lacks, and is as before elsewhere.

@@ -5,3 +5,4 @@ pub mod Scripts
 pub mod WholeRuns
 pub mod TextRuns
 pub mod Outputs
+pub mod OneTrace

@@ -143,6 +143,15 @@ module _ (script : ScriptModel) (declared : IsDeclared script.accounts) (can : A
         let parts : end.kernel.trace ≡ of_boot.entries ++ explained.entries =
         explained.trace ∙ ap (λ (es : List TraceEntry). es ++ explained.entries) of_boot.trace in
         record {
+          answered = record {
+            start = start;
+            starts = starts;
+            answers = all.answers;
+            each = all.each;
+            end = end;
+            in_turn = answered.in_turn;
+            recorded = refl;
+          };
           recorded = record {
             of_boot = of_boot.entries;
             of_lines = explained.entries;

@@ -3,3 +3,4 @@ pub mod Entries
 pub mod Session
 pub mod Run
 pub mod Output
+pub mod Laws

@@ -2,6 +2,7 @@
 //! call was denied, with names.
 #![tactic(auto)]
 
+pub mod laws;
 mod output;
 mod replaying;
 mod session;
