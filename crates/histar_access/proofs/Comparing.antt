@@ -26,7 +26,7 @@ use Rattle.histar_access.specs.Diff.{AreChangesOf, BeginsChanges, ChangesAtFault
 use Rattle.histar_access.specs.Diff.{CountsOneFailure, Inputs, IsFaultOf, IsTableOf, Scripts, StopsAtInput, both_read, scripts_of}
 use Rattle.histar_access.specs.Diff.{WritesChanges}
 use Rattle.histar_prefix.specs.Prefix.{calls_before}
-use Rattle.histar_access.proofs.Runs.{same_script}
+use Rattle.histar_command.proofs.KnownInputs.{same_script}
 
 -- the result of `diff`
 abbrev Answer : Type 0
@@ -143,7 +143,7 @@ module _ (at : Option ℕ) where
   taken_known (Some x) None rest old new result h = tt
   taken_known (Some x) (Some y) rest old new result h =
       same_texts x y old new result
-      (λ i. both_read (same_script at x rest.0 h.old_taken h.takes_old i) (same_script at y rest.1 h.new_taken h.takes_new i)) h.compares
+      (λ i. both_read (same_script x rest.0 h.old_taken h.takes_old i) (same_script y rest.1 h.new_taken h.takes_new i)) h.compares
 
   stopped_known : {rest : Inputs} → (a b old new : Option (List ℕ)) (result : Answer)
       → ((x y : List ℕ) → Keeps old new → ComparesTexts at x y old new result)

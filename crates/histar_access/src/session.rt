@@ -5,7 +5,8 @@ ghost use Rattle.histar_script.specs.Runs.{LeavesSink, is_read_failed, is_write_
 ghost use Rattle.histar_access.specs.Session.{AccessText};
 
 use crate::table::write_table;
-use histar_io::{Sink, Source, read_input};
+use histar_command::{Command, run_command};
+use histar_io::{Sink, Source};
 use histar_prefix::{discard, machine_before};
 use histar_script::Fault;
 use std::alloc::Global;
@@ -37,8 +38,29 @@ pub fn access<R: Source, W: Sink>(
     ensures known { IfSome (R.left reader.old) (λ input.
         AccessText at input (W.written writer.old) (W.written writer.new) result) }
 {
-    let input = read_input(alloc, reader)?;
-    access_text(alloc, input.as_slice(), writer, at)
+    run_command(alloc, reader, writer, TableAt { at })
+}
+
+/// The command of `access`.
+#[derive(Drop)]
+struct TableAt {
+    at: Option<u32>,
+}
+
+impl Command for TableAt {
+    ghost use Rattle.std.proofs.Common.{rules};
+
+    type Answer = ();
+
+    ghost Runs = { λ command. AccessText command.at };
+
+    fn on_text<W: Sink>(self, alloc: Global, text: Vec<u8>, writer: &mut W) -> Result<(), Fault> {
+        access_text(alloc, text.as_slice(), writer, self.at)
+    }
+
+    ghost unread = { Prim.search rules };
+
+    ghost long = { Prim.search rules };
 }
 
 /// Writes who may do what after the calls of the script in a text.

@@ -3,5 +3,4 @@ mod Rules
 mod BrokenRules
 mod LinesBefore
 mod Steps
-mod KnownInputs
 mod Sayings

@@ -8,7 +8,8 @@ ghost use Rattle.histar_lint.specs.Session.{IsFinding, IsMemory, Lints, finding_
 
 use crate::findings::sentence;
 use crate::texts::push_number;
-use histar_io::{Sink, Source, read_input, write_bytes};
+use histar_command::{Command, run_command};
+use histar_io::{Sink, Source, write_bytes};
 use histar_script::{Fault, Script, read_item, read_script, split_line};
 use std::alloc::{AllocError, Global};
 
@@ -37,27 +38,39 @@ pub fn lint<R: Source, W: Sink>(
     ensures known { IfSome (R.left reader.old) (λ input. Lints file.now input
         (W.written writer.old) (W.written writer.new) result) }
 {
-    let input = read_input(alloc, reader)?;
-    lint_text(alloc, file, input.as_slice(), writer)
+    run_command(alloc, reader, writer, Linting { file })
 }
 
-/// Lints a text.
-fn lint_text<W: Sink>(
-    alloc: Global,
-    file: &[u8],
-    text: &[u8],
-    writer: &mut W,
-) -> Result<bool, Fault>
-    ensures nothing { IfErr result (LeavesSink writer.old writer.new) }
-    ensures reads { is_read_failed result ≡ false }
-    ensures writes { CountsFailure (W.failures writer.old) (W.failures writer.new) (is_write_failed result) }
-    ensures runs { Lints file.now text.now (W.written writer.old) (W.written writer.new) result }
-{
-    match read_script(alloc, text) {
-        Ok(_script) => Ok(true),
-        Err(Fault::BadScript(line)) => write_finding(alloc, file, text, line, writer),
-        Err(fault) => Err(fault),
+/// The command that lints a text, which it says is the file of this name.
+#[derive(Drop)]
+struct Linting<'a> {
+    file: &'a [u8],
+}
+
+impl<'a> Command for Linting<'a> {
+    ghost use Rattle.std.proofs.Common.{rules};
+
+    type Answer = bool;
+
+    ghost Runs = { λ command. Lints command.file.now };
+
+    fn on_text<W: Sink>(self, alloc: Global, text: Vec<u8>, writer: &mut W) -> Result<bool, Fault> {
+        match read_script(alloc, text.as_slice()) {
+            Ok(_script) => Ok(true),
+            Err(Fault::BadScript(line)) => write_finding(
+                alloc,
+                self.file,
+                text.as_slice(),
+                line,
+                writer,
+            ),
+            Err(fault) => Err(fault),
+        }
     }
+
+    ghost unread = { Prim.search rules };
+
+    ghost long = { Prim.search rules };
 }
 
 /// Writes the line for a bad script, and returns false.

@@ -12,7 +12,7 @@ use Rattle.histar_raw_session.specs.declared.read_session.RawLine.{RawLine}
 use Rattle.histar_raw_session.specs.Session.{IsSession}
 use Rattle.histar_raw_session.specs.Answers.{AnswersCall, BeginsAnswer, AnswersCalls}
 use Rattle.histar_raw_session.proofs.CallsAnswered.{front_after}
-use Rattle.histar_raw_session.proofs.SessionRuns.{NeedsShort, begun_text}
+use Rattle.histar_raw_session.proofs.SessionRuns.{begun_text}
 use Rattle.histar_raw_explain.specs.Explained.{ExplainsCalls, ExplainsAnswered, BeginsExplaining, ExplainsSession, BeginsExplained, RunsExplained}
 
 -- a call whose line was written has begun its answer
@@ -56,10 +56,3 @@ explained_text text old new calls first last (Err f) is starts explained begun f
     begun_text ExplainsSession BeginsExplained text old new f faults
     (record
     { calls = calls; is = is; begun = subst (λ (s : State). BeginsExplaining s old new calls) starts begun })
-
--- a session is not too long
-pub short_explained : NeedsShort ExplainsSession
-short_explained = record { short = λ text old new done. done.is.0 }
-
-pub short_begun : NeedsShort BeginsExplained
-short_begun = record { short = λ text old new done. done.is.0 }

@@ -9,8 +9,9 @@ ghost use Rattle.histar_raw_explain.specs.Explained.{ExplainsAnswered, BeginsExp
 
 use crate::lines::push_explanation;
 use crate::wording::ByNumber;
+use histar_command::{Command, run_command};
 use histar_explain::explain;
-use histar_io::{Sink, Source, read_input, write_bytes};
+use histar_io::{Sink, Source, write_bytes};
 use histar_label::{LabelStore, OutOfMemory};
 use histar_raw_session::read_session::read_session;
 use histar_raw_session::{RawLine, answer_call, empty_kernel};
@@ -45,8 +46,27 @@ pub fn explain_raw_script<R: Source, W: Sink>(
     ensures known { IfSome (R.left reader.old)
         (λ input. RunsExplained input (W.written writer.old) (W.written writer.new) result) }
 {
-    let input = read_input(alloc, reader)?;
-    explain_text(alloc, input.as_slice(), writer)
+    run_command(alloc, reader, writer, ExplainedSession)
+}
+
+/// The command of `explain_raw_script`.
+#[derive(Drop)]
+struct ExplainedSession;
+
+impl Command for ExplainedSession {
+    ghost use Rattle.std.proofs.Common.{rules};
+
+    type Answer = ();
+
+    ghost Runs = { λ _. RunsExplained };
+
+    fn on_text<W: Sink>(self, alloc: Global, text: Vec<u8>, writer: &mut W) -> Result<(), Fault> {
+        explain_text(alloc, text.as_slice(), writer)
+    }
+
+    ghost unread = { Prim.search rules };
+
+    ghost long = { Prim.search rules };
 }
 
 /// Runs a text as a raw session with explanations.

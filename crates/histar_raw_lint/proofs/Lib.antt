@@ -12,4 +12,3 @@ mod ValuesRight
 mod CallsRight
 mod LinesRight
 mod FirstBadLine
-mod KnownInputs

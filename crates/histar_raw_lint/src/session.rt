@@ -8,7 +8,8 @@ ghost use Rattle.histar_raw_lint.specs.Session.{IsFinding, IsFirstBad, LintsRaw}
 
 use crate::findings::sentence;
 use crate::texts::push_number;
-use histar_io::{Sink, Source, read_input, write_bytes};
+use histar_command::{Command, run_command};
+use histar_io::{Sink, Source, write_bytes};
 use histar_raw_session::read_session::read_session;
 use histar_script::{Fault, split_line};
 use std::alloc::{AllocError, Global};
@@ -41,8 +42,29 @@ pub fn lint_raw<R: Source, W: Sink>(
     ensures known { IfSome (R.left reader.old) (λ input. LintsRaw file.now input
         (W.written writer.old) (W.written writer.new) result) }
 {
-    let input = read_input(alloc, reader)?;
-    lint_text(alloc, file, input.as_slice(), writer)
+    run_command(alloc, reader, writer, RawLinting { file })
+}
+
+/// The command of `lint_raw`.
+#[derive(Drop)]
+struct RawLinting<'a> {
+    file: &'a [u8],
+}
+
+impl<'a> Command for RawLinting<'a> {
+    ghost use Rattle.std.proofs.Common.{rules};
+
+    type Answer = bool;
+
+    ghost Runs = { λ command. LintsRaw command.file.now };
+
+    fn on_text<W: Sink>(self, alloc: Global, text: Vec<u8>, writer: &mut W) -> Result<bool, Fault> {
+        lint_text(alloc, self.file, text.as_slice(), writer)
+    }
+
+    ghost unread = { Prim.search rules };
+
+    ghost long = { Prim.search rules };
 }
 
 /// Lints a text as a raw session.

@@ -9,7 +9,8 @@ ghost use Rattle.histar_raw_session.specs.Run.{RunsSession};
 
 use crate::lines::{answer_line, denial_line};
 use crate::read_session::{RawLine, read_session};
-use histar_io::{Sink, Source, read_input, write_bytes};
+use histar_command::{Command, run_command};
+use histar_io::{Sink, Source, write_bytes};
 use histar_label::{InternStore, LabelStore, OutOfMemory};
 use histar_script::Fault;
 use histar_syscall::{Kernel, Refusal};
@@ -53,20 +54,29 @@ pub fn run_raw_script<R: Source, W: Sink>(
     ensures known { IfSome (R.left reader.old)
         (λ input. RunsSession input (W.written writer.old) (W.written writer.new) result) }
 {
-    let input = read_input(alloc, reader)?;
-    run_text(alloc, input.as_slice(), writer)
+    run_command(alloc, reader, writer, RawSession)
 }
 
-/// Runs a text as a raw session.
-fn run_text<W: Sink>(alloc: Global, text: &[u8], writer: &mut W) -> Result<(), Fault>
-    ensures nothing { IfErr result (LeavesSink writer.old writer.new) }
-    ensures reads { is_read_failed result ≡ false }
-    ensures writes { CountsFailure (W.failures writer.old) (W.failures writer.new) (is_write_failed result) }
-    ensures runs { RunsSession text.now (W.written writer.old) (W.written writer.new) result }
-{
-    let calls = read_session(alloc, text)?;
-    let mut kernel = empty_kernel(alloc)?;
-    answer_calls(alloc, &mut kernel, calls, writer)
+/// The command that runs a text as a raw session.
+#[derive(Drop)]
+struct RawSession;
+
+impl Command for RawSession {
+    ghost use Rattle.std.proofs.Common.{rules};
+
+    type Answer = ();
+
+    ghost Runs = { λ _. RunsSession };
+
+    fn on_text<W: Sink>(self, alloc: Global, text: Vec<u8>, writer: &mut W) -> Result<(), Fault> {
+        let calls = read_session(alloc, text.as_slice())?;
+        let mut kernel = empty_kernel(alloc)?;
+        answer_calls(alloc, &mut kernel, calls, writer)
+    }
+
+    ghost unread = { Prim.search rules };
+
+    ghost long = { Prim.search rules };
 }
 
 /// Has the kernel make the calls in their order, and writes a line for each.

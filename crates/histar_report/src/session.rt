@@ -6,7 +6,8 @@ ghost use Rattle.histar_report.specs.Session.{AreSecrets, IsTable, WritesPage};
 ghost use Rattle.histar_run_explain.specs.Output.{GivesText};
 
 use histar_access::access;
-use histar_io::{Sink, Source, read_input, write_bytes};
+use histar_command::{Command, run_command};
+use histar_io::{Sink, Source, write_bytes};
 use histar_page::{Texts, page_text};
 use histar_run_explain::{explained_output, in_memory};
 use histar_script::Fault;
@@ -48,8 +49,30 @@ pub fn report<R: Source, W: Sink>(
     ensures known { IfSome (R.left reader.old) (λ input. WritesPage name.now version.now input
         (W.written writer.old) (W.written writer.new) result) }
 {
-    let input = read_input(alloc, reader)?;
-    report_text(alloc, input.as_slice(), writer, name, version)
+    run_command(alloc, reader, writer, PageOf { name, version })
+}
+
+/// The command of `report`.
+#[derive(Drop)]
+struct PageOf<'a> {
+    name: &'a [u8],
+    version: &'a [u8],
+}
+
+impl<'a> Command for PageOf<'a> {
+    ghost use Rattle.std.proofs.Common.{rules};
+
+    type Answer = ();
+
+    ghost Runs = { λ command. WritesPage command.name.now command.version.now };
+
+    fn on_text<W: Sink>(self, alloc: Global, text: Vec<u8>, writer: &mut W) -> Result<(), Fault> {
+        report_text(alloc, text.as_slice(), writer, self.name, self.version)
+    }
+
+    ghost unread = { Prim.search rules };
+
+    ghost long = { Prim.search rules };
 }
 
 /// Runs the script in a text, and writes its page.

@@ -16,8 +16,9 @@ ghost use Rattle.histar_run_explain.specs.Session.{ExplainsCall, ExplainsCalls, 
 ghost use Rattle.histar_run_explain.specs.Run.{ExplainsText};
 
 use crate::replaying::{Entries, explain_entries};
+use histar_command::{Command, run_command};
 use histar_flat::{CallLine, ProcName};
-use histar_io::{Sink, Source, read_input, write_bytes};
+use histar_io::{Sink, Source, write_bytes};
 use histar_label::{InternStore, LabelStore, OutOfMemory};
 use histar_names::{Clue, Names, clue_of, note_births};
 use histar_raw_explain::ByNumber;
@@ -67,8 +68,29 @@ pub fn explain_script<R: Source, W: Sink>(
     ensures known { IfSome (R.left reader.old)
         (λ input. ExplainsText options input (W.written writer.old) (W.written writer.new) result) }
 {
-    let input = read_input(alloc, reader)?;
-    explain_text(alloc, input.as_slice(), writer, options)
+    run_command(alloc, reader, writer, ExplainedRun { options })
+}
+
+/// The command of `explain_script`.
+#[derive(Drop)]
+struct ExplainedRun {
+    options: Options,
+}
+
+impl Command for ExplainedRun {
+    ghost use Rattle.std.proofs.Common.{rules};
+
+    type Answer = ();
+
+    ghost Runs = { λ command. ExplainsText command.options };
+
+    fn on_text<W: Sink>(self, alloc: Global, text: Vec<u8>, writer: &mut W) -> Result<(), Fault> {
+        explain_text(alloc, text.as_slice(), writer, self.options)
+    }
+
+    ghost unread = { Prim.search rules };
+
+    ghost long = { Prim.search rules };
 }
 
 /// Runs and explains the script of a text.

@@ -1,27 +1,19 @@
 -- What a run writes and returns, put together from its parts.
-use Rattle.std.proofs.Common.{◌≡◌, ℕ, ◌<◌, true, false, ltb, List, [], ◌++◌, length, Option, Some, None, Result, Ok, Err, refl, sym, ap, subst, ◌∙◌}
-use Rattle.std.proofs.Common.{arith, rules, tests, append-nil, inl, inr}
-use Rattle.std.specs.Prelude.{Bool, IfSome, IsOk, is_ok}
-use Rattle.std.specs.Io.KnownBytes.{Keeps}
-use Rattle.std.proofs.lemmas.Bool.{cases_lt, false≢true}
-use Rattle.std.proofs.lemmas.List.{length-append}
-use Rattle.std.proofs.KnownBytes.{Keeps-refl, Consumes-nil}
+use Rattle.std.proofs.Common.{◌≡◌, ℕ, false, List, Option, Result, Ok, Err, refl, sym, ap, subst}
+use Rattle.std.proofs.Common.{inl, inr}
+use Rattle.std.specs.Prelude.{Bool, IsOk, is_ok}
+use Rattle.std.proofs.KnownBytes.{Keeps-refl}
 use Rattle.histar_script.specs.declared.fault.Fault.{Fault}
 use Rattle.histar_script.specs.declared.fault.Fault.TheVariants.{BadScript, TooLong, OutOfMemory, ReadFailed, WriteFailed}
 use Rattle.histar_script.specs.Script.{ScriptModel}
-use Rattle.histar_io.specs.declared.input.InputError.{InputError}
-use Rattle.histar_io.specs.declared.input.InputError.TheVariants as input
-use Rattle.histar_script.specs.Outcome.{Gives, input_fault}
-use Rattle.histar_script.specs.Lines.{most_script_bytes}
+use Rattle.histar_script.specs.Outcome.{Gives}
 use Rattle.histar_script.specs.Reading.{script_of}
-use Rattle.histar_script.specs.Runs.{IsOutputFault, StopsReading, LeavesSink, is_read_failed, RunsTaken, RunsInput}
+use Rattle.histar_script.specs.Runs.{IsOutputFault, LeavesSink, is_read_failed}
 use Rattle.histar_io.specs.Device.{CountsFailure}
-use Rattle.histar_io.specs.Input.{most_taken, TakesAll, TakesSome}
 use Rattle.histar_flat.specs.Accounts.{Accounts}
 use Rattle.histar_shell.specs.declared.session.Options.{Options}
 use Rattle.histar_shell.specs.Ending.{BeginsTheEnding}
 use Rattle.histar_shell.specs.Outcome.{IsFaultAt, AgreesWith, AnswersScript, BeginsScript, WritesAtFault, WritesAnswers}
-use Rattle.histar_shell.specs.Meaning.{RunsAsMeant}
 use Rattle.histar_shell.specs.Run.{RunsText}
 use Rattle.histar_shell.specs.Machine.{MachineModel, IsStart}
 use Rattle.histar_shell.specs.AnsweredCalls.{AnswersCalls}
@@ -157,90 +149,6 @@ module _ (options : Options) where
       (script : ScriptModel) → script_of text ≡ Ok script → AnswersScript options old new (script_of text) trace
       → RunsText options text old new (Ok trace)
   answered_text refinements text old new trace script given answers = runs_text refinements text old new (Ok trace) (ap is_ok given) answers
-
-  -- ---- an input that is taken
-
-  -- an error of the input stops the reading
-  pub stops_reading : (e : InputError) (left rest w : Option (List ℕ)) → TakesSome left rest
-      → RunsInput (RunsText options) left rest w w (Err (input_fault e))
-  stops_reading input.OutOfMemory left rest w takes = inl (record { takes = takes; keeps = Keeps-refl w })
-  stops_reading input.ReadFailed left rest w takes = record { takes = takes; keeps = Keeps-refl w }
-
-  -- a run that finds no memory for its store takes nothing
-  pub gives_up_first : (left w : Option (List ℕ)) → RunsInput (RunsText options) left left w w (Err OutOfMemory)
-  gives_up_first left w = stops_reading input.OutOfMemory left left w (record { taken = []; consumed = Consumes-nil left; within = omega arith })
-
-  -- what was taken is run
-  pub runs_taken : (left rest old new : Option (List ℕ)) (taken text : List ℕ) (result : Answer)
-      → TakesAll left rest taken → text ≡ taken → RunsText options text old new result → is_read_failed result ≡ false
-      → RunsInput (RunsText options) left rest old new result
-  runs_taken left rest old new taken text result takes same runs no_read_failed =
-      at_result result (record {
-        taken = taken;
-        takes = takes;
-        runs = subst (λ (t : List ℕ). RunsText options t old new result) same runs;
-      }) no_read_failed
-    where
-      at_result : (r : Answer) → RunsTaken (RunsText options) left rest old new r → is_read_failed r ≡ false
-          → RunsInput (RunsText options) left rest old new r
-      at_result (Ok trace) h none = h
-      at_result (Err (BadScript n)) h none = h
-      at_result (Err TooLong) h none = h
-      at_result (Err OutOfMemory) h none = inr h
-      at_result (Err ReadFailed) h none = absurd (false≢true (sym none))
-      at_result (Err WriteFailed) h none = h
-
-  -- a text of more bytes than a script may have is too long
-  long_is : (text : List ℕ) → most_script_bytes < length text → script_of text ≡ Err TooLong
-  long_is text lt = let e : ltb most_script_bytes (length text) ≡ true = search (rules, tests) in rw e refl
-
-  -- what was taken says what the whole input says
-  same_script : (input : List ℕ) (rest : Option (List ℕ)) (taken : List ℕ) → TakesAll (Some input) rest taken → script_of taken ≡ script_of input
-  same_script input None taken takes = absurd takes.consumed
-  same_script input (Some rest) taken takes =
-      elim (cases_lt (length taken) most_taken) [
-        | inl lt ↦ sym (ap script_of (takes.consumed ∙ ap (λ (l : List ℕ). taken ++ l) (takes.ended lt) ∙ append-nil taken))
-        | inr le ↦ long_is taken (omega arith) ∙ sym (long_is input (omega (arith, ap length takes.consumed, length-append taken rest)))
-      ]
-
-  -- what was run is the script of the whole input
-  same_run : (input taken : List ℕ) (old new : Option (List ℕ)) (result : Answer) → script_of taken ≡ script_of input
-      → RunsText options taken old new result → RunsText options input old new result
-  same_run input taken old new result same runs = record {
-    faults = subst (λ (read : Result ScriptModel Fault). AgreesWith read result) same runs.faults;
-    answers = subst (λ (read : Result ScriptModel Fault). WritesAnswers options old new read result) same runs.answers;
-    means = subst (λ (read : Result ScriptModel Fault). RunsAsMeant options old new read result) same runs.means;
-  }
-
-  -- a known input that was taken was run
-  taken_known : (left rest old new : Option (List ℕ)) (result : Answer)
-      → RunsTaken (RunsText options) left rest old new result
-      → IfSome left (λ input. RunsText options input old new result)
-  taken_known None rest old new result h = tt
-  taken_known (Some input) rest old new result h = same_run input h.taken old new result (same_script input rest h.taken h.takes) h.runs
-
-  -- a known input of which some was taken was run as far as that
-  stopped_known : (left rest old new : Option (List ℕ)) (result : Answer)
-      → ((input : List ℕ) → Keeps old new → RunsText options input old new result) → StopsReading left rest old new
-      → IfSome left (λ input. RunsText options input old new result)
-  stopped_known None rest old new result runs h = tt
-  stopped_known (Some input) rest old new result runs h = runs input h.keeps
-
-  -- a known input was run
-  pub input_known : (left rest old new : Option (List ℕ)) (result : Answer)
-      → RunsInput (RunsText options) left rest old new result
-      → IfSome left (λ input. RunsText options input old new result)
-  input_known left rest old new (Ok trace) h = taken_known left rest old new (Ok trace) h
-  input_known left rest old new (Err (BadScript n)) h = taken_known left rest old new (Err (BadScript n)) h
-  input_known left rest old new (Err TooLong) h = taken_known left rest old new (Err TooLong) h
-  input_known left rest old new (Err OutOfMemory) (inl h) =
-      stopped_known left rest old new (Err OutOfMemory)
-      (λ text keeps. record { faults = tt; answers = inl keeps; means = inl keeps }) h
-  input_known left rest old new (Err OutOfMemory) (inr h) = taken_known left rest old new (Err OutOfMemory) h
-  input_known left rest old new (Err ReadFailed) h =
-      stopped_known left rest old new (Err ReadFailed)
-      (λ text keeps. record { faults = tt; answers = keeps; means = keeps }) h
-  input_known left rest old new (Err WriteFailed) h = taken_known left rest old new (Err WriteFailed) h
 
 -- ---- a sink that is left alone
 

@@ -12,8 +12,9 @@ ghost use Rattle.histar_script.specs.Script.{IsDeclared};
 use crate::ending::write_ending;
 use crate::machine::{Machine, Trace};
 use crate::output::set_reply_line;
+use histar_command::{Command, run_command};
 use histar_flat::CallLine;
-use histar_io::{Sink, Source, read_input, write_bytes};
+use histar_io::{Sink, Source, write_bytes};
 use histar_label::{InternStore, LabelStore};
 use histar_script::{Fault, Script, read_script};
 use std::alloc::Global;
@@ -59,8 +60,7 @@ pub fn run<R: Source, W: Sink>(
     ensures known { IfSome (R.left reader.old)
         (λ input. RunsText options input (W.written writer.old) (W.written writer.new) result) }
 {
-    let store = InternStore::new(alloc, REMEMBERED_ANSWERS)?;
-    run_with(alloc, store, reader, writer, options)
+    run_command(alloc, reader, writer, InternedRun { options })
 }
 
 /// Does the same over any store of labels, which is passed with no label in use: whatever it remembers, the
@@ -80,8 +80,64 @@ pub fn run_with<S: LabelStore + Drop, R: Source, W: Sink>(
     ensures known { IfSome (R.left reader.old)
         (λ input. RunsText options input (W.written writer.old) (W.written writer.new) result) }
 {
-    let input = read_input(alloc, reader)?;
-    run_text(alloc, store, input, writer, options)
+    run_command(alloc, reader, writer, StoredRun { store, options })
+}
+
+/// The command that runs a script over a store of its own, which keeps each label once.
+#[derive(Drop)]
+struct InternedRun {
+    options: Options,
+}
+
+impl Command for InternedRun {
+    ghost use Rattle.std.proofs.Common.{rules};
+
+    type Answer = Trace;
+
+    ghost Runs = { λ command. RunsText command.options };
+
+    fn on_text<W: Sink>(
+        self,
+        alloc: Global,
+        text: Vec<u8>,
+        writer: &mut W,
+    ) -> Result<Trace, Fault> {
+        let store = InternStore::new(alloc, REMEMBERED_ANSWERS)?;
+        run_text(alloc, store, text, writer, self.options)
+    }
+
+    ghost unread = { Prim.search rules };
+
+    ghost long = { Prim.search rules };
+}
+
+/// The command that runs a script over a store of the caller's.
+#[derive(Drop)]
+struct StoredRun<S> {
+    store: S,
+    options: Options,
+}
+
+impl<S: LabelStore + Drop> Command for StoredRun<S> {
+    ghost use Rattle.std.proofs.Common.{rules};
+
+    type Answer = Trace;
+
+    ghost Runs = { λ command. RunsText command.options };
+
+    fn on_text<W: Sink>(
+        self,
+        alloc: Global,
+        text: Vec<u8>,
+        writer: &mut W,
+    ) -> Result<Trace, Fault> {
+        let StoredRun { store, options } = self;
+        run_text(alloc, store, text, writer, options)
+    }
+
+    ghost unread = { Prim.search rules };
+
+    ghost long = { Prim.search rules };
 }
 
 /// Runs the script of a text, which it keeps no longer than it reads it.

@@ -5,7 +5,8 @@ ghost use Rattle.histar_script.specs.Runs.{LeavesSink, RunsInput, is_read_failed
 ghost use Rattle.histar_transcript.specs.Session.{GivesOutput, WritesTranscript};
 
 use crate::transcript::transcript_of;
-use histar_io::{Sink, Source, read_input, write_bytes};
+use histar_command::{Command, run_command};
+use histar_io::{Sink, Source, write_bytes};
 use histar_run_explain::{explained_output, in_memory};
 use histar_script::Fault;
 use histar_shell::{Counted, Options, run};
@@ -38,8 +39,30 @@ pub fn transcribe<R: Source, W: Sink>(
     ensures known { IfSome (R.left reader.old) (λ input. WritesTranscript options explain input
         (W.written writer.old) (W.written writer.new) result) }
 {
-    let input = read_input(alloc, reader)?;
-    transcribe_text(alloc, input.as_slice(), writer, options, explain)
+    run_command(alloc, reader, writer, Transcribing { options, explain })
+}
+
+/// The command of `transcribe`.
+#[derive(Drop)]
+struct Transcribing {
+    options: Options,
+    explain: bool,
+}
+
+impl Command for Transcribing {
+    ghost use Rattle.std.proofs.Common.{rules};
+
+    type Answer = ();
+
+    ghost Runs = { λ command. WritesTranscript command.options command.explain };
+
+    fn on_text<W: Sink>(self, alloc: Global, text: Vec<u8>, writer: &mut W) -> Result<(), Fault> {
+        transcribe_text(alloc, text.as_slice(), writer, self.options, self.explain)
+    }
+
+    ghost unread = { Prim.search rules };
+
+    ghost long = { Prim.search rules };
 }
 
 /// Runs the script in a text, and writes the transcript of its output.

@@ -1,27 +1,20 @@
 -- The contract of `trust`, put together from those of its parts.
-use Rattle.std.proofs.Common.{◌≡◌, ℕ, ◌<◌, true, false, ltb, List, ◌++◌, length, Option, Some, None, Result, Ok, Err, refl, sym, ap, subst, ◌∙◌}
-use Rattle.std.proofs.Common.{arith, rules, tests, append-nil, inl, inr}
-use Rattle.std.specs.Prelude.{IfSome, MatchResult, is_ok}
-use Rattle.std.specs.Io.KnownBytes.{Appends, Keeps}
-use Rattle.std.proofs.lemmas.Bool.{cases_lt, false≢true}
-use Rattle.std.proofs.lemmas.List.{length-append}
+use Rattle.std.proofs.Common.{◌≡◌, ℕ, false, List, Option, Result, Ok, Err, refl, ap, subst}
+use Rattle.std.specs.Prelude.{is_ok}
+use Rattle.std.specs.Io.KnownBytes.{Appends}
 use Rattle.std.proofs.KnownBytes.{Keeps-refl}
-use Rattle.histar_io.specs.declared.input.InputError.{InputError}
-use Rattle.histar_io.specs.declared.input.InputError.TheVariants as input
-use Rattle.histar_io.specs.Input.{most_taken, TakesAll, TakesSome}
 use Rattle.histar_io.specs.Writing.{AppendsFront}
 use Rattle.histar_script.specs.declared.fault.Fault.{Fault}
 use Rattle.histar_script.specs.declared.fault.Fault.TheVariants.{BadScript, TooLong, OutOfMemory, ReadFailed, WriteFailed}
 use Rattle.histar_script.specs.Script.{ScriptModel}
-use Rattle.histar_script.specs.Outcome.{Gives, input_fault}
-use Rattle.histar_script.specs.Lines.{most_script_bytes}
+use Rattle.histar_script.specs.Outcome.{Gives}
 use Rattle.histar_script.specs.Reading.{script_of}
-use Rattle.histar_script.specs.Runs.{StopsReading, is_read_failed, is_write_failed, RunsTaken, RunsInput}
+use Rattle.histar_script.specs.Runs.{is_read_failed, is_write_failed}
 use Rattle.histar_shell.specs.Machine.{MachineModel}
-use Rattle.histar_shell.specs.Outcome.{AgreesWith, IsFaultAt}
+use Rattle.histar_shell.specs.Outcome.{IsFaultAt}
 use Rattle.histar_prefix.specs.Prefix.{IsMachineOf, calls_before, state_before}
 use Rattle.histar_trust.specs.Findings.{HasState, ShowsReached}
-use Rattle.histar_trust.specs.Session.{WritesAtFault, WritesOf, WritesText}
+use Rattle.histar_trust.specs.Session.{WritesAtFault, WritesOf}
 
 -- the result of `trust`
 abbrev Answer : Type 0
@@ -93,78 +86,3 @@ module _ (text_of : ScriptModel → List ℕ) where
       faults = ap is_ok is.is_read;
       writes = record { script = is.script; is_read = is.is_read; written = subst (AppendsFront old new) lines_are h };
     }
-
-  -- ---- an input that is taken
-
-  -- an error of the input stops the reading
-  pub stops_reading : (e : InputError) (left rest w : Option (List ℕ)) → TakesSome left rest
-      → RunsInput (WritesOf text_of) left rest w w (Err (input_fault e))
-  stops_reading input.OutOfMemory left rest w takes = inl (record { takes = takes; keeps = Keeps-refl w })
-  stops_reading input.ReadFailed left rest w takes = record { takes = takes; keeps = Keeps-refl w }
-
-  -- what was taken was run
-  pub runs_taken : {left rest old new : Option (List ℕ)} {taken text : List ℕ} {result : Answer} → TakesAll left rest taken → text ≡ taken
-      → WritesOf text_of text old new result → is_read_failed result ≡ false → RunsInput (WritesOf text_of) left rest old new result
-  runs_taken {left} {rest} {old} {new} {taken} {text} {result} takes same runs no_read_failed =
-      at_result result (record {
-        taken = taken;
-        takes = takes;
-        runs = subst (λ (t : List ℕ). WritesOf text_of t old new result) same runs;
-      }) no_read_failed
-    where
-      at_result : (r : Answer) → RunsTaken (WritesOf text_of) left rest old new r → is_read_failed r ≡ false
-          → RunsInput (WritesOf text_of) left rest old new r
-      at_result (Ok done) h none = h
-      at_result (Err (BadScript n)) h none = h
-      at_result (Err TooLong) h none = h
-      at_result (Err OutOfMemory) h none = inr h
-      at_result (Err ReadFailed) h none = absurd (false≢true (sym none))
-      at_result (Err WriteFailed) h none = h
-
-  -- a text of more bytes than a script may have is too long
-  long_is : (text : List ℕ) → most_script_bytes < length text → script_of text ≡ Err TooLong
-  long_is text lt = let e : ltb most_script_bytes (length text) ≡ true = search (rules, tests) in rw e refl
-
-  -- what was taken is the script of the whole input
-  same_script : (input : List ℕ) (rest : Option (List ℕ)) (taken : List ℕ) → TakesAll (Some input) rest taken → script_of taken ≡ script_of input
-  same_script input None taken takes = absurd takes.consumed
-  same_script input (Some rest) taken takes =
-      elim (cases_lt (length taken) most_taken) [
-        | inl lt ↦ sym (ap script_of (takes.consumed ∙ ap (λ (l : List ℕ). taken ++ l) (takes.ended lt) ∙ append-nil taken))
-        | inr le ↦ long_is taken (omega arith) ∙ sym (long_is input (omega (arith, ap length takes.consumed, length-append taken rest)))
-      ]
-
-  -- what was run is the script of the whole input
-  same_run : (input taken : List ℕ) {old new : Option (List ℕ)} (result : Answer) → script_of taken ≡ script_of input
-      → WritesOf text_of taken old new result → WritesOf text_of input old new result
-  same_run input taken {old} {new} result same runs = record {
-    faults = subst (λ (read : Result ScriptModel Fault). AgreesWith read result) same runs.faults;
-    writes = subst (λ (read : Result ScriptModel Fault). MatchResult result (λ _. WritesText text_of old new read)
-        (WritesAtFault text_of old new read)) same runs.writes;
-  }
-
-  -- if a known input was taken, it was run
-  taken_known : (left rest old new : Option (List ℕ)) (result : Answer) → RunsTaken (WritesOf text_of) left rest old new result
-      → IfSome left (λ input. WritesOf text_of input old new result)
-  taken_known None rest old new result h = tt
-  taken_known (Some input) rest old new result h = same_run input h.taken result (same_script input rest h.taken h.takes) h.runs
-
-  -- if a known input was taken in part, it was run as far as that
-  stopped_known : (left : Option (List ℕ)) {rest old new : Option (List ℕ)} (result : Answer)
-      → ((input : List ℕ) → Keeps old new → WritesOf text_of input old new result)
-      → StopsReading left rest old new → IfSome left (λ input. WritesOf text_of input old new result)
-  stopped_known None result runs h = tt
-  stopped_known (Some input) result runs h = runs input h.keeps
-
-  -- if the input is known, it was run
-  pub input_known : (left rest old new : Option (List ℕ)) (result : Answer) → RunsInput (WritesOf text_of) left rest old new result
-      → IfSome left (λ input. WritesOf text_of input old new result)
-  input_known left rest old new (Ok done) h = taken_known left rest old new (Ok done) h
-  input_known left rest old new (Err (BadScript n)) h = taken_known left rest old new (Err (BadScript n)) h
-  input_known left rest old new (Err TooLong) h = taken_known left rest old new (Err TooLong) h
-  input_known left rest old new (Err OutOfMemory) (inl h) = stopped_known left (Err OutOfMemory)
-      (λ text keeps. record { faults = tt; writes = keeps }) h
-  input_known left rest old new (Err OutOfMemory) (inr h) = taken_known left rest old new (Err OutOfMemory) h
-  input_known left rest old new (Err ReadFailed) h = stopped_known left (Err ReadFailed)
-      (λ text keeps. record { faults = tt; writes = keeps }) h
-  input_known left rest old new (Err WriteFailed) h = taken_known left rest old new (Err WriteFailed) h

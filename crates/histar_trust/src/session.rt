@@ -6,8 +6,9 @@ ghost use Rattle.histar_trust.specs.Session.{SecretsText, TrustText};
 
 use crate::files::secret_lines;
 use crate::output::trust_lines;
+use histar_command::{Command, run_command};
 use histar_flat::Path;
-use histar_io::{Sink, Source, read_input, write_bytes};
+use histar_io::{Sink, Source, write_bytes};
 use histar_prefix::{discard, machine_before};
 use histar_script::Fault;
 use std::alloc::Global;
@@ -42,8 +43,30 @@ pub fn trust<R: Source, W: Sink>(
     ensures known { IfSome (R.left reader.old) (λ input.
         TrustText at path.now input (W.written writer.old) (W.written writer.new) result) }
 {
-    let input = read_input(alloc, reader)?;
-    trust_text(alloc, input.as_slice(), path, writer, at)
+    run_command(alloc, reader, writer, Trusted { path, at })
+}
+
+/// The command that writes the lines on what is at a path after the calls of the script in a text.
+#[derive(Drop)]
+struct Trusted<'a> {
+    path: &'a Path,
+    at: Option<u32>,
+}
+
+impl<'a> Command for Trusted<'a> {
+    ghost use Rattle.std.proofs.Common.{rules};
+
+    type Answer = ();
+
+    ghost Runs = { λ command. TrustText command.at command.path.now };
+
+    fn on_text<W: Sink>(self, alloc: Global, text: Vec<u8>, writer: &mut W) -> Result<(), Fault> {
+        trust_text(alloc, text.as_slice(), self.path, writer, self.at)
+    }
+
+    ghost unread = { Prim.search rules };
+
+    ghost long = { Prim.search rules };
 }
 
 /// Writes the lines on what is at a path after the calls of the script in a text.
@@ -97,8 +120,27 @@ pub fn secrets<R: Source, W: Sink>(
     ensures known { IfSome (R.left reader.old) (λ input.
         SecretsText input (W.written writer.old) (W.written writer.new) result) }
 {
-    let input = read_input(alloc, reader)?;
-    secrets_text(alloc, input.as_slice(), writer)
+    run_command(alloc, reader, writer, SecretFiles)
+}
+
+/// The command that writes the lines of the files after the calls of the script in a text.
+#[derive(Drop)]
+struct SecretFiles;
+
+impl Command for SecretFiles {
+    ghost use Rattle.std.proofs.Common.{rules};
+
+    type Answer = ();
+
+    ghost Runs = { λ _. SecretsText };
+
+    fn on_text<W: Sink>(self, alloc: Global, text: Vec<u8>, writer: &mut W) -> Result<(), Fault> {
+        secrets_text(alloc, text.as_slice(), writer)
+    }
+
+    ghost unread = { Prim.search rules };
+
+    ghost long = { Prim.search rules };
 }
 
 /// Writes the lines of the files after the calls of the script in a text.

@@ -1,2 +1,2 @@
 -- The lemmas of this crate.
-pub mod Pages
+pub mod KnownInputs
