@@ -2,7 +2,8 @@
 use Rattle.std.specs.Prelude.{Bool, true, [], ◌∷◌, Option, None, Some}
 use Rattle.histar_flat.specs.Words.{Path}
 use Rattle.histar_flat.specs.Accounts.{Accounts}
-use Rattle.histar_flat.specs.declared.replies.Reply.TheVariants.{Stats}
+use Rattle.histar_flat.specs.declared.replies.Errno.TheVariants.{ENOENT}
+use Rattle.histar_flat.specs.declared.replies.Reply.TheVariants.{Refused, Stats}
 use Rattle.histar_rules.specs.Sound.{root_number}
 use Rattle.histar_rules.specs.declared.raw.RawCall.TheVariants.{LabelOf}
 use Rattle.histar_layout.specs.Listing.{is_directory, object_of}
@@ -11,7 +12,7 @@ use Rattle.histar_layout.specs.declared.shown.ShownClass.{ShownClass}
 use Rattle.histar_calls.specs.declared.stat.FoundObject.{FoundObject}
 use Rattle.histar_layout.specs.ShownClass.{class_shown, stat_of}
 use Rattle.histar_programs.specs.Programs.{Program, Part}
-use Rattle.histar_programs.specs.Programs.Program.{Answers, Stops}
+use Rattle.histar_programs.specs.Programs.Program.{Answers}
 use Rattle.histar_programs.specs.Parts.{◌>>=◌, ask, given, entry_at, find_place, look_in}
 
 -- The object at a path, and the container that links it. `/` is linked by the root container; else the walk is made,
@@ -24,9 +25,9 @@ find_object roots (name ∷ parent) rest = do
   target ← given (entry_at found)
   rest (record { container = place.container; object = object_of target; is_directory = is_directory target })
 
--- the reply to a `stat` of an object of this class; for a label that is of no class there is none
+-- the reply to a `stat` of an object of this class; an object whose label is of no class is neither a file nor a directory
 abbrev pub class_reply : Bool → Option ShownClass → Program
-class_reply is_directory None = Stops
+class_reply is_directory None = Answers (Refused ENOENT)
 class_reply is_directory (Some class) = Answers (Stats (stat_of class is_directory))
 
 -- the object is found, and its label is asked for, which determines the class

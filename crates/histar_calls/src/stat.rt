@@ -3,7 +3,7 @@ ghost use Rattle.histar_programs.specs.Programs.{Runs, RunsPart};
 ghost use Rattle.histar_programs.specs.Refusals.{settled};
 ghost use Rattle.histar_calls.specs.StatCall.{find_object, stat_program};
 
-use histar_flat::{Name, Reply};
+use histar_flat::{Errno, Name, Reply};
 use histar_label::LabelStore;
 use histar_layout::shown_class;
 use histar_object::ObjId;
@@ -35,7 +35,7 @@ pub fn stat<S: LabelStore + Drop>(
     let found = find_object(kernel, unix.roots, thread, path)?;
     let label = kernel.label_of(thread, found.container, found.object)?;
     let Some(class) = shown_class(&label, unix.users) else {
-        return Err(CallError::Stopped);
+        return Err(CallError::Refused(Errno::ENOENT));
     };
     Ok(Reply::Stats(class.stat(found.is_directory)))
 }

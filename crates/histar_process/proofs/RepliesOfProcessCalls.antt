@@ -3,6 +3,7 @@ use Rattle.std.proofs.Common.{ℕ, Bool, true, false, [], ◌∷◌, ◌+◌, le
 use Rattle.std.specs.Prelude.{nat_lt, not}
 use Rattle.histar_flat.specs.Words.{ProcName, most_children, most_numbers}
 use Rattle.histar_flat.specs.Accounts.{Accounts}
+use Rattle.histar_flat.specs.declared.replies.Errno.TheVariants.{ESRCH}
 use Rattle.histar_flat.specs.declared.replies.Reply.TheVariants as replies
 use Rattle.histar_level.specs.Levels.{Levels}
 use Rattle.histar_rules.specs.Sound.{root_number}
@@ -34,11 +35,11 @@ status_replies : (home : Home) (rest : ProcessStatus → Program)
     → ((status : ProcessStatus) → RepliesToRefusals (rest status)) → RepliesToRefusals (read_status home rest)
 unfolding read_status
 status_replies home rest obeys =
-    ask_replies (Read home.container home.segment) (λ bytes. if_there rest (status_in bytes))
+    ask_replies (Read home.container home.segment) (λ bytes. if_there ESRCH rest (status_in bytes))
     (λ bytes. by (status_in bytes))
   where
-    by : (found : Option ProcessStatus) → RepliesToRefusals (if_there rest found)
-    by None = tt
+    by : (found : Option ProcessStatus) → RepliesToRefusals (if_there ESRCH rest found)
+    by None = (refl, refl)
     by (Some status) = obeys status
 
 -- finding a process replies to its refusals, if what comes after it does

@@ -8,17 +8,17 @@ use Rattle.std.proofs.lemmas.Option.{same_Some}
 use Rattle.std.proofs.lemmas.Result.{err_from_is_err_and}
 use Rattle.histar_flat.specs.Words.{ProcName}
 use Rattle.histar_flat.specs.declared.replies.Errno.{Errno}
+use Rattle.histar_flat.specs.declared.replies.Errno.TheVariants.{ESRCH}
 use Rattle.histar_rules.specs.declared.raw.RawCall.TheVariants.{Read}
 use Rattle.histar_rules.specs.declared.raw.Refusal.{Refusal}
 use Rattle.histar_rules.specs.RawAnswers.{IsAnswer}
 use Rattle.histar_syscall.specs.KernelModel.{KernelModel, ReadsLent, state}
-use Rattle.histar_syscall.proofs.Runs.{same_kernel}
 use Rattle.histar_layout.specs.Status.{ProcessStatus, child_at, head_of, look_for, status_in}
 use Rattle.histar_layout.specs.declared.status.Child.{Child}
 use Rattle.histar_layout.specs.declared.status.NotAStatus.{NotAStatus}
 use Rattle.histar_layout.specs.declared.status.StatusHead.{StatusHead}
 use Rattle.histar_programs.specs.declared.call_error.CallError.{CallError}
-use Rattle.histar_programs.specs.declared.call_error.CallError.TheVariants.{Refused, Stopped}
+use Rattle.histar_programs.specs.declared.call_error.CallError.TheVariants.{Refused}
 use Rattle.histar_programs.specs.declared.roots.Home.{Home}
 use Rattle.histar_programs.specs.Programs.{Program, Part, RunsPart}
 use Rattle.histar_programs.specs.Parts.{ask, given, if_there}
@@ -76,7 +76,7 @@ module _ (t : ℕ) (old new : KernelModel) (home : Home) (result : Result (Bor (
 
 -- what comes after the bytes of a process segment
 abbrev after_bytes : List ℕ → Part ProcessStatus
-after_bytes bytes rest = if_there rest (status_in bytes)
+after_bytes bytes rest = if_there ESRCH rest (status_in bytes)
 
 module _ (t : ℕ) (old new : KernelModel) (home : Home) where
   -- the segment was not read
@@ -108,13 +108,13 @@ module _ (t : ℕ) (old new : KernelModel) (home : Home) where
 
   module _ (bytes : List ℕ) (first : RunsPart (ask (Read home.container home.segment)) old new t (Ok bytes)) where
     -- the segment's bytes spell no status
-    reads_none : status_in bytes ≡ None → RunsPart (read_status home) old new t (Err Stopped)
+    reads_none : status_in bytes ≡ None → RunsPart (read_status home) old new t (Err (Refused ESRCH))
     unfolding read_status RunsPart
     reads_none none =
-        then_part t (ask (Read home.container home.segment)) old new after_bytes new bytes first (Err Stopped)
+        then_part t (ask (Read home.container home.segment)) old new after_bytes new bytes first (Err (Refused ESRCH))
         (subst (λ (o : Option ProcessStatus).
-        RunsPart {A = ProcessStatus} (λ rest. if_there rest o) new new t (Err Stopped)) (sym none)
-        (λ rest. same_kernel new))
+        RunsPart {A = ProcessStatus} (λ rest. if_there ESRCH rest o) new new t (Err (Refused ESRCH))) (sym none)
+        (refuses_at_once t ProcessStatus new ESRCH))
 
     -- the segment's bytes spell this status
     reads : (status : ProcessStatus) → status_in bytes ≡ Some status → RunsPart (read_status home) old new t (Ok status)
@@ -122,18 +122,18 @@ module _ (t : ℕ) (old new : KernelModel) (home : Home) where
     reads status is =
         then_part t (ask (Read home.container home.segment)) old new after_bytes new bytes first (Ok status)
         (subst (λ (o : Option ProcessStatus).
-        RunsPart {A = ProcessStatus} (λ rest. if_there rest o) new new t (Ok status)) (sym is)
+        RunsPart {A = ProcessStatus} (λ rest. if_there ESRCH rest o) new new t (Ok status)) (sym is)
         (hands t new status))
 
     -- the bytes have no head
-    pub segment_none : None ≡ option_map head_of (status_in bytes) → RunsPart (read_status home) old new t (Err Stopped)
+    pub segment_none : None ≡ option_map head_of (status_in bytes) → RunsPart (read_status home) old new t (Err (Refused ESRCH))
     segment_none none = reads_none (nothing_revealed (status_in bytes) none)
 
-    pub head_none : None ≡ option_map head_of (status_in bytes) → RunsPart (read_head home) old new t (Err Stopped)
+    pub head_none : None ≡ option_map head_of (status_in bytes) → RunsPart (read_head home) old new t (Err (Refused ESRCH))
     unfolding read_head
     head_none none =
         part_fails t (read_status home) old new
-        (λ (status : ProcessStatus) (rest : StatusHead → Program). rest (head_of status)) Stopped
+        (λ (status : ProcessStatus) (rest : StatusHead → Program). rest (head_of status)) (Refused ESRCH)
         (segment_none none)
 
     -- the bytes have this head
@@ -154,11 +154,11 @@ module _ (t : ℕ) (old new : KernelModel) (home : Home) where
 
     -- the bytes are no status to look a child up in
     pub look_none : (number : ℕ) (fault : NotAStatus) → Err fault ≡ look_for (status_in bytes) number
-        → RunsPart (look_up home number) old new t (Err Stopped)
+        → RunsPart (look_up home number) old new t (Err (Refused ESRCH))
     unfolding look_up
     look_none number fault is =
         part_fails t (read_status home) old new
-        (λ (status : ProcessStatus) (rest : Option Child → Program). rest (child_at status.children number)) Stopped
+        (λ (status : ProcessStatus) (rest : Option Child → Program). rest (child_at status.children number)) (Refused ESRCH)
         (reads_none (nothing_looked (status_in bytes) number fault is))
 
     -- the child of this number is looked up

@@ -10,11 +10,11 @@ use Rattle.histar_programs.specs.declared.roots.Home.{Home}
 use Rattle.histar_programs.specs.Programs.{Part}
 use Rattle.histar_programs.specs.Parts.{◌>>=◌, ask, given, if_there}
 
--- a process segment is read, and its bytes must spell a status
+-- a process segment is read; where its bytes spell no status, there is no process
 unfoldable pub read_status : Home → Part ProcessStatus
 read_status home rest = do
   bytes ← ask (Read home.container home.segment)
-  if_there rest (status_in bytes)
+  if_there ESRCH rest (status_in bytes)
 
 -- a child must be there
 abbrev pub must_be_there : Option Child → Result Child Errno

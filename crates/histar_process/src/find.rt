@@ -62,7 +62,7 @@ pub fn read_head<S: LabelStore + Drop>(
 {
     let bytes = kernel.read(thread, home.container, home.segment)?;
     let Some(head) = read_status(bytes) else {
-        return Err(CallError::Stopped);
+        return Err(CallError::Refused(Errno::ESRCH));
     };
     Ok(head)
 }
@@ -79,7 +79,7 @@ pub fn read_segment<S: LabelStore + Drop>(
 {
     let bytes = kernel.read_copy(alloc, thread, home.container, home.segment)?;
     let Some(head) = read_status(bytes.as_slice()) else {
-        return Err(CallError::Stopped);
+        return Err(CallError::Refused(Errno::ESRCH));
     };
     Ok(Segment { head, bytes })
 }

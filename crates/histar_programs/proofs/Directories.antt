@@ -33,7 +33,7 @@ module _ (t : ℕ) (old new : KernelModel) (place : Place) where
   read_fails call_error first = part_fails t (ask (Read place.container place.listing)) old new (after_bytes place) call_error first
 
   module _ (bytes : List ℕ) (first : RunsPart (ask (Read place.container place.listing)) old new t (Ok bytes)) where
-    -- the bytes of the segment are no directory, or memory ran out
+    -- the bytes of the segment are no directory
     pub list_fails : (call_error : CallError) → RunsPart (list bytes) new new t (Err call_error)
         → RunsPart (read_directory place) old new t (Err call_error)
     unfolding read_directory

@@ -3,6 +3,7 @@ use Rattle.std.proofs.Common.{Bool, true, false, [], ◌∷◌, Option, None, So
 use Rattle.std.specs.Prelude.{◌==◌}
 use Rattle.std.specs.FinMap as map
 use Rattle.histar_flat.specs.Words.{Name, Path}
+use Rattle.histar_flat.specs.declared.replies.Errno.TheVariants.{ENOTDIR}
 use Rattle.histar_rules.specs.declared.raw.Denied.{Denied}
 use Rattle.histar_rules.specs.declared.raw.Denied.TheVariants.{Observe, Modify, Range, Gate, NoEntry, NoThread, BadKind, TooBig}
 use Rattle.histar_rules.specs.declared.raw.RawCall.{RawCall}
@@ -30,9 +31,9 @@ denial_has_reply Observe = (refl, refl)
 denial_has_reply Modify = (refl, refl)
 denial_has_reply Range = (refl, refl)
 denial_has_reply Gate = (refl, refl)
-denial_has_reply NoEntry = tt
+denial_has_reply NoEntry = (refl, refl)
 denial_has_reply NoThread = tt
-denial_has_reply BadKind = tt
+denial_has_reply BadKind = (refl, refl)
 denial_has_reply TooBig = tt
 
 pub denial_of_write_has_reply : (d : Denied) → RepliesToDenial d (refused_with (write_errno_of d))
@@ -40,9 +41,9 @@ denial_of_write_has_reply Observe = (refl, refl)
 denial_of_write_has_reply Modify = (refl, refl)
 denial_of_write_has_reply Range = (refl, refl)
 denial_of_write_has_reply Gate = (refl, refl)
-denial_of_write_has_reply NoEntry = tt
+denial_of_write_has_reply NoEntry = (refl, refl)
 denial_of_write_has_reply NoThread = tt
-denial_of_write_has_reply BadKind = tt
+denial_of_write_has_reply BadKind = (refl, refl)
 denial_of_write_has_reply TooBig = (refl, refl)
 
 pub denial_of_call_has_reply : (call : RawCall) (d : Denied) → RepliesToDenial d (refused_with (errno_for call d))
@@ -70,8 +71,8 @@ pub read_replies : (place : Place) (rest : Directory → Program)
 unfolding read_directory
 read_replies place rest obeys = ((λ bytes listed. by listed), denial_of_call_has_reply (Read place.container place.listing))
   where
-    by : (listed : Option Entries) → RepliesToRefusals (if_there (λ (entries : Entries). rest (record { place = place; entries = entries })) listed)
-    by None = tt
+    by : (listed : Option Entries) → RepliesToRefusals (if_there ENOTDIR (λ (entries : Entries). rest (record { place = place; entries = entries })) listed)
+    by None = (refl, refl)
     by (Some entries) = obeys (record { place = place; entries = entries })
 
 -- a look-up replies to its refusals

@@ -3,6 +3,7 @@ use Rattle.std.proofs.Common.{◌≡◌, ℕ, List, Option, None, Some, Result, 
 use Rattle.std.specs.Result.{IsErrAnd}
 use Rattle.std.proofs.lemmas.Result.{err_from_is_err_and}
 use Rattle.histar_flat.specs.declared.replies.Errno.{Errno}
+use Rattle.histar_flat.specs.declared.replies.Errno.TheVariants.{ENOTDIR}
 use Rattle.histar_flat.specs.declared.replies.Reply.{Reply}
 use Rattle.histar_flat.specs.declared.replies.Reply.TheVariants as replies
 use Rattle.histar_rules.specs.declared.raw.RawCall.{RawCall}
@@ -16,7 +17,7 @@ use Rattle.histar_programs.specs.declared.call_error.CallError.{CallError}
 use Rattle.histar_programs.specs.declared.call_error.CallError.TheVariants.{Refused, Stopped as HasStopped}
 use Rattle.histar_programs.specs.Refusals.{errno_for, call_error_with, call_error_of, or_call_error, settled}
 use Rattle.histar_programs.specs.Programs.{AnswerOf, IsAnswer, Outcome, Program, Asked, IsListed, Runs, Part, LeadsTo, RunsPart}
-use Rattle.histar_programs.specs.Programs.Program.{Answers, Asks, Lists, Stops}
+use Rattle.histar_programs.specs.Programs.Program.{Answers, Asks, Lists}
 use Rattle.histar_programs.specs.Parts.{refused_with, or_refused, ask, if_there, list, given}
 
 module _ (t : ℕ) where
@@ -85,14 +86,14 @@ module _ (t : ℕ) where
   unfolding RunsPart
   before_ask call k = λ rest. inl (same_kernel k)
 
-  -- bytes spell a directory, or spell none, or memory ran out before that was known
+  -- bytes spell a directory, or spell none
   pub lists : (bytes : List ℕ) (k : KernelModel) (dir : Entries) → IsDirectory bytes dir → RunsPart (list bytes) k k t (Ok dir)
   unfolding RunsPart
-  lists bytes k dir is = λ rest. listed bytes (if_there rest) k (Some dir) is
+  lists bytes k dir is = λ rest. listed bytes (if_there ENOTDIR rest) k (Some dir) is
 
-  pub lists_none : (bytes : List ℕ) (k : KernelModel) → ((dir : Entries) → IsDirectory bytes dir → ⊥) → RunsPart (list bytes) k k t (Err HasStopped)
+  pub lists_none : (bytes : List ℕ) (k : KernelModel) → ((dir : Entries) → IsDirectory bytes dir → ⊥) → RunsPart (list bytes) k k t (Err (Refused ENOTDIR))
   unfolding RunsPart
-  lists_none bytes k none = λ rest. (listed bytes (if_there rest) k None none).begins k (same_kernel k)
+  lists_none bytes k none = λ rest. listed bytes (if_there ENOTDIR rest) k None none
 
   -- what was decided is passed on, or refuses the call
   pub gives : {A : Type 0} (k : KernelModel) (x : A) → RunsPart (given (Ok x)) k k t (Ok x)
@@ -174,8 +175,3 @@ module _ (t : ℕ) where
   pub replies_so : (k : KernelModel) (due reply : Reply) → reply ≡ due → Runs (Answers due) k k t (Ok reply)
   unfolding Runs
   replies_so k due reply is = (same_kernel k, is)
-
-  -- a call that stops
-  pub stops : (k : KernelModel) → Runs Stops k k t (settled (Err HasStopped))
-  unfolding Runs
-  stops k = same_kernel k

@@ -1,11 +1,12 @@
 -- Where processes are found in a state, by the bytes of process segments and the labels of containers alone.
-use Rattle.std.specs.Prelude.{ℕ, Bool, true, false, not, ◌&&◌, [], ◌∷◌, Option, None, Some, option_map}
+use Rattle.std.specs.Prelude.{ℕ, Bool, true, false, not, ◌&&◌, [], ◌∷◌, Option, None, Some, option_map, if◌then◌else◌}
 use Rattle.std.specs.List.{find}
+use Rattle.std.specs.FinSet as set
 use Rattle.histar_flat.specs.Words.{ProcName}
 use Rattle.histar_level.specs.declared.level.Level.{Level}
 use Rattle.histar_level.specs.declared.level.Level.TheVariants.{L0}
 use Rattle.histar_level.specs.Levels.{Levels, level_of, exceptions_of}
-use Rattle.histar_object.specs.Objects.{label_there}
+use Rattle.histar_object.specs.Objects.{is_thread, label_there, links_in}
 use Rattle.histar_object.specs.State.{State}
 use Rattle.histar_syscall.specs.KernelModel.{lent_bytes}
 use Rattle.histar_layout.specs.Reading.{◌>>=◌}
@@ -32,37 +33,49 @@ read_category_in outer inner = option_map (λ e. e.0) (find (λ e. is_three e.1 
 abbrev pub status_at : State → ℕ → Option ProcessStatus
 status_at s segment = status_in (lent_bytes s segment)
 
--- Where a process is found: process 0 where boot left it, and a child where the process segment above it lists it.
+-- a container links an object
+abbrev pub is_linked : State → ℕ → ℕ → Bool
+is_linked s container object = set.contains (links_in (s.objects container)) object
+
+-- where the child of this number is: the segment of the process lists it, and its container links the child's
+abbrev pub child_home : State → Home → ℕ → Option Home
+child_home s home n = do
+  status ← status_at s home.segment
+  child ← child_at status.children n
+  if is_linked s home.container child.container then Some (record { container = child.container; segment = child.segment }) else None
+
+-- where a process is found: process 0 where boot left it, and each other one as a child of the process above it
 abbrev pub home_at : State → Home → ProcName → Option Home
 home_at s first [] = Some first
 home_at s first (n ∷ above) = do
   home ← home_at s first above
-  status ← status_at s home.segment
-  child ← child_at status.children n
-  Some (record { container = child.container; segment = child.segment })
+  child_home s home n
 
 -- a value, where the process runs
 abbrev pub if_runs : {A : Type 0} → Option ℕ → Option A → Option A
 if_runs None x = x
 if_runs (Some number) x = None
 
--- a process that runs with this internal container and this thread, with its own two categories
-abbrev pub running_caller : State → Home → ℕ → ℕ → Option Caller
-running_caller s home internal thread = do
+-- a process with this internal container and this thread, and with its own two categories
+abbrev pub labelled_caller : State → Home → ℕ → ℕ → Option Caller
+labelled_caller s home internal thread = do
   outer ← label_there (s.objects home.container)
   inner ← label_there (s.objects internal)
   write ← write_category_in outer
   read ← read_category_in outer inner
   Some (record { home = home; thread = thread; read = read; write = write })
 
+-- a container links another one, which links this thread
+abbrev pub leads_to : State → ℕ → ℕ → ℕ → Bool
+leads_to s container internal thread = is_linked s container internal && is_linked s internal thread && is_thread (s.objects thread)
+
+-- a process that runs with this internal container and this thread, if its container leads to them
+abbrev pub running_caller : State → Home → ℕ → ℕ → Option Caller
+running_caller s home internal thread = if leads_to s home.container internal thread then labelled_caller s home internal thread else None
+
 -- a process that runs, with its thread and its own two categories, by the status in its segment
 abbrev pub caller_by : State → Home → ProcessStatus → Option Caller
-caller_by s home status = if_runs status.exited (do
-  outer ← label_there (s.objects home.container)
-  inner ← label_there (s.objects status.internal)
-  write ← write_category_in outer
-  read ← read_category_in outer inner
-  Some (record { home = home; thread = status.thread; read = read; write = write }))
+caller_by s home status = if_runs status.exited (running_caller s home status.internal status.thread)
 
 -- the process that is found there, if it runs
 abbrev pub caller_in : State → Home → Option Caller

@@ -46,14 +46,14 @@ or_refused errno rest (Err denied) = refused_with (errno denied)
 abbrev pub ask : (call : RawCall) → Part (AnswerOf call)
 ask call rest = Asks call (or_refused (errno_for call) rest)
 
--- goes on with what was found; without it, the program stops
-abbrev pub if_there : {A : Type 0} → (A → Program) → Option A → Program
-if_there rest None = Stops
-if_there rest (Some found) = rest found
+-- goes on with what was found; without it, the call is refused
+abbrev pub if_there : {A : Type 0} → Errno → (A → Program) → Option A → Program
+if_there errno rest None = Answers (Refused errno)
+if_there errno rest (Some found) = rest found
 
--- the entries of the directory that these bytes spell; where they spell none, the program stops
+-- the entries of the directory that these bytes spell; where they spell none, it is no directory
 abbrev pub list : List ℕ → Part Entries
-list bytes rest = Lists bytes (if_there rest)
+list bytes rest = Lists bytes (if_there ENOTDIR rest)
 
 -- what was decided with no raw call: the program goes on with it, or the call is refused
 abbrev pub given : {A : Type 0} → Result A Errno → Part A

@@ -7,9 +7,8 @@ use histar_layout::NotAStatus;
 use histar_syscall::{Denied, Refusal};
 use std::alloc::{AllocError, AllocFailed};
 
-/// A call ends without a reply: memory ran out, the kernel denied what has no errno, or a segment doesn't
-/// spell the directory or the process status that it should. The machine makes no more calls then. On a
-/// machine that represents a flat state, only lack of memory and a counter at its greatest value do this.
+/// A call ends without a reply: memory ran out, or the kernel denied what has no errno. The machine makes no more calls then. On
+/// a machine that represents a flat state, only lack of memory and a counter at its greatest value do this.
 #[derive(Clone, Copy, Debug, PartialEq, Eq)]
 pub struct Stopped;
 
@@ -46,7 +45,8 @@ impl From<Errno> for CallError {
 }
 
 /// A denial that has no errno stops the call. On a machine that represents a flat state the objects that
-/// the library's calls name are there. A write has `written` for its own errno.
+/// the library's calls name are there; an entry that a job has forged may lead to what isn't there (ENOENT). A write has
+/// `written` for its own errno.
 impl From<Refusal> for CallError {
     ghost use Rattle.std.specs.Prelude.{◌≡◌};
     ghost use Rattle.histar_programs.specs.Refusals.{errno_of, call_error_of};
@@ -72,15 +72,17 @@ impl From<AllocError> for CallError {
     }
 }
 
-/// The bytes of a process segment are no status. A machine that represents a flat state has no such segment.
+/// The bytes of a process segment are no status, so there is no process. A machine that represents a flat state has no such
+/// segment, but a job may write one of its own.
 impl From<NotAStatus> for CallError {
     ghost use Rattle.std.specs.Prelude.{◌≡◌};
-    ghost use Rattle.histar_programs.specs.declared.call_error.CallError.TheVariants.{Stopped};
+    ghost use Rattle.histar_flat.specs.declared.replies.Errno.TheVariants.{ESRCH};
+    ghost use Rattle.histar_programs.specs.declared.call_error.CallError.TheVariants.{Refused};
 
-    ghost from_gives = { λ _ e. e ≡ Stopped };
+    ghost from_gives = { λ _ e. e ≡ Refused ESRCH };
 
     fn from(_error: NotAStatus) -> Self {
-        CallError::Stopped
+        CallError::Refused(Errno::ESRCH)
     }
 }
 
@@ -135,6 +137,7 @@ fn errno_of(denied: Denied) -> Option<Errno>
     match denied {
         Denied::Observe | Denied::Modify | Denied::Gate => Some(Errno::EACCES),
         Denied::Range => Some(Errno::EPERM),
-        Denied::NoEntry | Denied::NoThread | Denied::BadKind | Denied::TooBig => None,
+        Denied::NoEntry | Denied::BadKind => Some(Errno::ENOENT),
+        Denied::NoThread | Denied::TooBig => None,
     }
 }

@@ -2,7 +2,8 @@
 ghost use Rattle.std.specs.Prelude.{◌≡◌, ◌&&◌, not};
 ghost use Rattle.histar_level.specs.Levels.{level_of};
 ghost use Rattle.histar_syscall.specs.KernelModel.{state};
-ghost use Rattle.histar_programs.specs.Caller.{caller_at, caller_in, home_at, is_zero, read_category_in, running_caller, write_category_in};
+ghost use Rattle.histar_programs.specs.Caller.{caller_at, caller_in, child_home, home_at, is_zero, leads_to, read_category_in};
+ghost use Rattle.histar_programs.specs.Caller.{running_caller, write_category_in};
 ghost use Rattle.histar_layout.specs.Jobs.{is_three};
 
 use crate::roots::Home;
@@ -24,9 +25,9 @@ pub struct Caller {
     pub write: Category,
 }
 
-/// Finds the process of this name, if it was born, was not killed and has not exited. It is found by the
-/// bytes of process segments from that of process 0 on, which are read in place, and by the labels of its
-/// containers, with no raw call.
+/// Finds the process of this name, if it was born, was not killed and has not exited. It is found with no raw
+/// call: from process 0 on, the segment of each process lists its children, and its container links theirs. So
+/// bytes that a job has forged lead into the containers of that job alone.
 pub fn find_caller<S: LabelStore + Drop>(
     kernel: &Kernel<S>,
     first: Home,
@@ -45,14 +46,24 @@ fn home_at<S: LabelStore + Drop>(kernel: &Kernel<S>, first: Home, numbers: &[u8]
     let mut home = first;
     let mut rest = numbers;
     'numbers: while let [below @ .., number] = rest {
-        let child = find_child(kernel.bytes(home.segment), *number).ok()??;
-        home = Home {
-            container: child.container,
-            segment: child.segment,
-        };
+        home = child_home(kernel, home, *number)?;
         rest = below;
     }
     Some(home)
+}
+
+// Finds where the child of this number is: its segment lists it, and its container links the child's.
+fn child_home<S: LabelStore + Drop>(kernel: &Kernel<S>, home: Home, number: u8) -> Option<Home>
+    ensures { result ≡ child_home (state kernel.now) home number }
+{
+    let child = find_child(kernel.bytes(home.segment), number).ok()??;
+    if !kernel.is_linked(home.container, child.container) {
+        return None;
+    }
+    Some(Home {
+        container: child.container,
+        segment: child.segment,
+    })
 }
 
 /// Returns the process that is found there, if it runs.
@@ -75,6 +86,9 @@ fn running_caller<S: LabelStore + Drop>(
 ) -> Option<Caller>
     ensures { result ≡ running_caller (state kernel.now) home internal thread }
 {
+    if !leads_to(kernel, home.container, internal, thread) {
+        return None;
+    }
     let outer = kernel.label(home.container)?;
     let inner = kernel.label(internal)?;
     let write = write_category_in(outer)?;
@@ -85,6 +99,20 @@ fn running_caller<S: LabelStore + Drop>(
         read,
         write,
     })
+}
+
+// Checks whether the container of a process links this internal container, and that one this thread.
+fn leads_to<S: LabelStore + Drop>(
+    kernel: &Kernel<S>,
+    container: ObjId,
+    internal: ObjId,
+    thread: ObjId,
+) -> bool
+    ensures { result ≡ leads_to (state kernel.now) container internal thread }
+{
+    kernel.is_linked(container, internal)
+        && kernel.is_linked(internal, thread)
+        && kernel.is_thread(thread)
 }
 
 // Returns the category by which a process writes, which the label of its container contains at 0.

@@ -44,7 +44,7 @@ impl Directory {
         Ok(())
     }
 
-    /// Reads a directory: EACCES where the kernel doesn't let the thread observe its segment.
+    /// Reads a directory: EACCES where the kernel doesn't let the thread observe its segment, ENOTDIR where that holds no directory.
     pub fn read<S: LabelStore + Drop>(
         alloc: Global,
         kernel: &mut Kernel<S>,
@@ -55,7 +55,7 @@ impl Directory {
     {
         let bytes = kernel.read_copy(alloc, thread, place.container, place.listing)?;
         let Some(entries) = Dir::from_bytes(bytes) else {
-            return Err(CallError::Stopped);
+            return Err(CallError::Refused(Errno::ENOTDIR));
         };
         Ok(Directory { place, entries })
     }

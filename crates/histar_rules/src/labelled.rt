@@ -31,7 +31,7 @@ use crate::own::{give_own, set_clearance_in, set_label_in};
 use crate::ranges::{check_new, check_new_owner};
 use crate::raw::{Denied, Refusal};
 use histar_base::Bytes;
-use histar_container::{link_new, remove_tree};
+use histar_container::{link_new, linked, remove_tree};
 use histar_label::{Label, LabelStore};
 use histar_object::{Entry, Kind, ObjId, Object, Table};
 use std::alloc::{AllocError, Global};
@@ -147,6 +147,13 @@ impl<S: LabelStore + Drop> LabelledObjects<S> {
             },
             None => false,
         }
+    }
+
+    /// Checks whether a container links an object.
+    pub fn is_linked(&self, container: ObjId, object: ObjId) -> bool
+        ensures { result ≡ set.contains (links_in (objects_of self.now.objects container)) object }
+    {
+        linked(&self.table, container, object)
     }
 
     /// Returns the label of an object.

@@ -2,7 +2,8 @@
 ghost use Rattle.std.specs.Prelude.{◌≡◌, ◌<◌, [], Some, IfOk, length};
 ghost use Rattle.histar_level.specs.Levels.{Levels};
 ghost use Rattle.std.specs.Option.{option_copied};
-ghost use Rattle.histar_object.specs.Objects.{objects_of, bytes_in, clearance_there, is_container, is_thread, label_there};
+ghost use Rattle.std.specs.FinSet as set;
+ghost use Rattle.histar_object.specs.Objects.{objects_of, bytes_in, clearance_there, is_container, is_thread, label_there, links_in};
 ghost use Rattle.histar_object.specs.State.{empty_state};
 ghost use Rattle.histar_rules.specs.Kinds.{kind_there};
 ghost use Rattle.histar_rules.specs.RawAnswers.{IsAnswer};
@@ -362,6 +363,13 @@ impl<S: LabelStore + Drop> Kernel<S> {
         ensures { result ≡ self.now.kept.next_category }
     {
         self.objects.next_category()
+    }
+
+    /// Checks whether a container links an object. This is no raw call either.
+    pub fn is_linked(&self, container: ObjId, object: ObjId) -> bool
+        ensures { result ≡ set.contains (links_in (objects_of self.now.kept.objects container)) object }
+    {
+        self.objects.is_linked(container, object)
     }
 
     /// Checks whether there is a container of this number. This is no raw call either.

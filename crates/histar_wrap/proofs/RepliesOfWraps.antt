@@ -34,9 +34,9 @@ denial_has_reply own Observe = (refl, (λ _. (refl, (λ _. (refl, refl)), (λ _.
 denial_has_reply own Modify = (refl, (λ _. (refl, (λ _. (refl, refl)), (λ _. refl))), (λ _. refl))
 denial_has_reply own Range = (refl, (λ _. (refl, (λ _. (refl, refl)), (λ _. refl))), (λ _. refl))
 denial_has_reply own Gate = (refl, (λ _. (refl, (λ _. (refl, refl)), (λ _. refl))), (λ _. refl))
-denial_has_reply own NoEntry = tt
+denial_has_reply own NoEntry = (refl, (λ _. (refl, (λ _. (refl, refl)), (λ _. refl))), (λ _. refl))
 denial_has_reply own NoThread = tt
-denial_has_reply own BadKind = tt
+denial_has_reply own BadKind = (refl, (λ _. (refl, (λ _. (refl, refl)), (λ _. refl))), (λ _. refl))
 denial_has_reply own TooBig = tt
 
 module _ (own : Levels × Levels) (rest : Program) (obeys : RepliesToRefusals rest) where

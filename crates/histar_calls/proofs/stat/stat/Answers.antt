@@ -2,13 +2,14 @@
 use Rattle.std.proofs.Common.{ℕ, None, Some, Ok, Err, sym, ap, ◌∙◌}
 use Rattle.histar_flat.specs.Accounts.{Accounts}
 use Rattle.histar_flat.specs.Words.{Path}
+use Rattle.histar_flat.specs.declared.replies.Errno.TheVariants.{ENOENT}
 use Rattle.histar_flat.specs.declared.replies.Reply.TheVariants.{Stats}
 use Rattle.histar_level.specs.Levels.{Levels}
 use Rattle.histar_rules.specs.declared.raw.RawCall.{RawCall}
 use Rattle.histar_rules.specs.declared.raw.RawCall.TheVariants.{LabelOf}
 use Rattle.histar_syscall.specs.KernelModel.{KernelModel}
 use Rattle.histar_layout.specs.ShownClass.{class_shown}
-use Rattle.histar_programs.specs.declared.call_error.CallError.TheVariants.{Stopped}
+use Rattle.histar_programs.specs.declared.call_error.CallError.TheVariants.{Refused}
 use Rattle.histar_programs.specs.declared.roots.Roots.{Roots}
 use Rattle.histar_programs.specs.Refusals.{settled}
 use Rattle.histar_programs.specs.Programs.{Program}
@@ -16,7 +17,7 @@ use Rattle.histar_programs.specs.Parts.{ask}
 use Rattle.histar_calls.specs.declared.stat.FoundObject.{FoundObject}
 use Rattle.histar_calls.specs.StatCall.{find_object, class_reply, stat_program}
 use Rattle.histar_programs.proofs.Exits.{Leaves, ends_so, further}
-use Rattle.histar_programs.proofs.Running.{grants, refuses, runs_as, replies_so, stops}
+use Rattle.histar_programs.proofs.Running.{grants, refuses, runs_as, replies_so, says}
 use Rattle.histar_calls.proofs.stat.stat.Given as given
 use Rattle.histar_calls.proofs.stat.stat.Goals as goal
 use Rattle.histar_calls.proofs.stat.stat.Goals.{In_ok-found, In_ok-label}
@@ -64,9 +65,9 @@ labelled g c =
 
 pub returns-in_default : goal.returns-in_default
 returns-in_default g c =
-    (labelled g (goal.at.returns-in_default g c).In_ok-label).leads c.label_of.new.self (settled (Err Stopped))
+    (labelled g (goal.at.returns-in_default g c).In_ok-label).leads c.label_of.new.self (settled (Err (Refused ENOENT)))
     (runs_as _ _ (class_reply c.in_ok-found.found.is_directory None) _ _ _
-    (ap (class_reply c.in_ok-found.found.is_directory) (sym c.shown_class.ensures ∙ c.in_default.is)) (stops _ _))
+    (ap (class_reply c.in_ok-found.found.is_directory) (sym c.shown_class.ensures ∙ c.in_default.is)) (says _ _ _))
 
 pub returns : goal.returns
 returns g c =

@@ -2,9 +2,10 @@
 use Rattle.std.proofs.Common.{Option, subst}
 use Rattle.std.specs.Prelude.{MatchOption}
 use Rattle.std.proofs.lemmas.Option.{MatchOption-at_some}
+use Rattle.histar_flat.specs.declared.replies.Errno.TheVariants.{ENOTDIR}
 use Rattle.histar_rules.specs.declared.raw.RawCall.TheVariants.{Read}
 use Rattle.histar_layout.specs.Directory.{Entries, IsDirectory}
-use Rattle.histar_programs.specs.declared.call_error.CallError.TheVariants.{Stopped}
+use Rattle.histar_programs.specs.declared.call_error.CallError.TheVariants.{Refused}
 use Rattle.histar_programs.specs.Parts.{read_directory}
 use Rattle.histar_programs.proofs.Running.{grants, refuses, lists, lists_none, fails_so}
 use Rattle.histar_programs.proofs.Directories.{read_fails, list_fails, reads}
@@ -27,7 +28,7 @@ returns-in_default g c =
     list_fails c.args.thread c.args.kernel.now c.read_copy.new.self c.args.place c.in_ok-bytes.bytes
     (grants c.args.thread call c.args.kernel.now c.read_copy.new.self c.in_ok-bytes.bytes c.in_ok-bytes.ensures.0
     c.in_ok-bytes.ensures.1)
-    Stopped (lists_none c.args.thread c.in_ok-bytes.bytes c.read_copy.new.self none)
+    (Refused ENOTDIR) (lists_none c.args.thread c.in_ok-bytes.bytes c.read_copy.new.self none)
 
 pub returns : goal.returns
 returns g c =
