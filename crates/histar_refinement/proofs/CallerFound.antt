@@ -1,6 +1,6 @@
 -- In a state that is represented exactly the processes that run are found, each with its thread and its own two categories.
 use Rattle.std.proofs.Common.{◌≡◌, ℕ, ◌≤◌, true, [], ◌∷◌, length, map, Option, None, Some, refl, sym, ap, ◌∙◌, arith}
-use Rattle.std.specs.Prelude.{is_some, option_map, option_and_then}
+use Rattle.std.specs.Prelude.{Bool, ◌&&◌, is_some, option_map, option_and_then, if◌then◌else◌}
 use Rattle.std.specs.List.{range_with_len}
 use Rattle.std.proofs.lemmas.List.{length-map}
 use Rattle.std.proofs.lemmas.List.FromFn.{length-range_with_len}
@@ -13,14 +13,15 @@ use Rattle.histar_flat.specs.Classes.{Process}
 use Rattle.histar_flat.specs.FlatState.{Flat}
 use Rattle.histar_flat.specs.FlatCalls.{if_running, running}
 use Rattle.histar_level.specs.Levels.{Levels}
-use Rattle.histar_object.specs.Objects.{bytes_in, label_there}
+use Rattle.histar_object.specs.Objects.{bytes_in, is_thread, label_there}
 use Rattle.histar_object.specs.State.{State}
 use Rattle.histar_layout.specs.declared.status.Child.{Child as Listed}
 use Rattle.histar_layout.specs.Status.{ProcessStatus, child_at, status_in}
 use Rattle.histar_layout.proofs.Statuses.{status_again}
 use Rattle.histar_programs.specs.declared.roots.Home.{Home as Where}
 use Rattle.histar_programs.specs.declared.caller.Caller.{Caller}
-use Rattle.histar_programs.specs.Caller.{status_at, home_at, if_runs, caller_by, caller_at, write_category_in, read_category_in}
+use Rattle.histar_programs.specs.Caller.{status_at, child_home, home_at, if_runs, is_linked, leads_to, labelled_caller, running_caller, caller_by, caller_at}
+use Rattle.histar_programs.specs.Caller.{write_category_in, read_category_in}
 use Rattle.histar_programs.specs.Start.{roots_of}
 use Rattle.histar_refinement.specs.Categories.CategoryName.{ReadsProcess, WritesProcess}
 use Rattle.histar_refinement.specs.Guards.{guard_label}
@@ -35,12 +36,16 @@ use Rattle.histar_refinement.proofs.CallerLabels.{write_found, read_found}
 use Rattle.histar_refinement.proofs.FileLabels.{label_bare}
 use Rattle.histar_refinement.proofs.Moving.{at_number}
 use Rattle.histar_refinement.proofs.Roots.{asked_home, asked_inside}
-use Rattle.histar_refinement.proofs.Agreeing.{some_of}
+use Rattle.histar_refinement.proofs.Agreeing.{some_of, step_linked, thread_found}
 use Rattle.histar_refinement.proofs.StatusFound.{child_range, listed_there, listed_back, numbered_home, numbered_status, numbered_runner}
 use Rattle.histar_refinement.proofs.StatusMatched.{holds_status}
 use Rattle.histar_refinement.proofs.Lent.{lent_status}
 use Rattle.histar_refinement.proofs.Steps.{step_tests_equality}
 use Rattle.histar_refinement.proofs.Agreement.{agreement}
+
+-- three tests that pass
+both_three : {a b c : Bool} → a ≡ true → b ≡ true → c ≡ true → (a && b && c) ≡ true
+both_three first second third = (λ i. first i && second i && third i)
 
 -- a number that is there
 pub is_or_zero : (o : Option ℕ) → is_some o ≡ true → o ≡ Some (or_zero o)
@@ -113,31 +118,37 @@ module _ (accounts : Accounts) (s : State) (f : Flat) (l : ObjectsMatch accounts
           let above = (agreement l).tree.held (Child n) (home_address me) numbered in
           absurd (true≢false (sym (sym (numbered_home accounts s f l me) ∙ above) ∙ ap is_some none))
 
-  -- from the process above on to a child
-  abbrev below : ℕ → Option Where → Option Where
-  below n o =
-      option_and_then (λ (home : Where). option_and_then (λ (status : ProcessStatus). option_and_then
-      (λ (child : Listed). Some (record { container = child.container; segment = child.segment }))
-      (child_at status.children n)) (status_at s home.segment)) o
+  -- the container of a process links those of its children
+  child_linked : (n : ℕ) (me : ProcName) → is_some (f.processes me) ≡ true → is_some (f.processes (n ∷ me)) ≡ true
+      → is_linked s (where_is me).container (where_is (n ∷ me)).container ≡ true
+  child_linked n me here below =
+      step_linked accounts s f l (Child n) (home_address me) _ _ (is_or_zero _ (numbered_home accounts s f l me ∙ here))
+      (is_or_zero _ (numbered_home accounts s f l (n ∷ me) ∙ below))
 
-  listed_is : (n : ℕ) (me : ProcName) (o : Option Process)
-      → option_and_then (λ (child : Listed). Some (record { container = child.container; segment = child.segment }))
-      (option_map (λ (q : Process). listed_by l.naming.number me n) o)
+  -- the home of a child that a process lists
+  abbrev linked_home : Where → Listed → Option Where
+  linked_home home child =
+      if is_linked s home.container child.container then Some (record { container = child.container; segment = child.segment }) else None
+
+  listed_is : (n : ℕ) (me : ProcName) → is_some (f.processes me) ≡ true → (o : Option Process) → f.processes (n ∷ me) ≡ o
+      → option_and_then (linked_home (where_is me)) (option_map (λ (q : Process). listed_by l.naming.number me n) o)
       ≡ option_map (λ (q : Process). where_is (n ∷ me)) o
-  listed_is n me None = refl
-  listed_is n me (Some q) = refl
+  listed_is n me here None is = refl
+  listed_is n me here (Some q) is =
+      ap (λ (b : Bool). if b then Some (where_is (n ∷ me)) else None) (child_linked n me here (ap is_some is))
 
   home_below : (n : ℕ) (me : ProcName) (o : Option Process) → f.processes me ≡ o
       → home_at s first me ≡ option_map (λ (p : Process). where_is me) o
       → home_at s first (n ∷ me) ≡ option_map (λ (p : Process). where_is (n ∷ me)) (f.processes (n ∷ me))
-  home_below n me None is above = ap (below n) above ∙ sym (ap (option_map (λ (p : Process). where_is (n ∷ me))) (parent_there n me is))
+  home_below n me None is above =
+      ap (option_and_then (λ (home : Where). child_home s home n)) above
+      ∙ sym (ap (option_map (λ (p : Process). where_is (n ∷ me))) (parent_there n me is))
   home_below n me (Some p) is above =
-      ap (below n) above
-      ∙ ap (option_and_then (λ (status : ProcessStatus). option_and_then
-      (λ (child : Listed). Some (record { container = child.container; segment = child.segment }))
-      (child_at status.children n))) (status_is me p is)
-      ∙ ap (option_and_then (λ (child : Listed). Some (record { container = child.container; segment = child.segment }))) (child_is n me p is)
-      ∙ listed_is n me (f.processes (n ∷ me))
+      ap (option_and_then (λ (home : Where). child_home s home n)) above
+      ∙ ap (option_and_then (λ (status : ProcessStatus).
+      option_and_then (linked_home (where_is me)) (child_at status.children n))) (status_is me p is)
+      ∙ ap (option_and_then (linked_home (where_is me))) (child_is n me p is)
+      ∙ listed_is n me (ap is_some is) (f.processes (n ∷ me)) refl
 
   -- Each process that is there is found, and no other.
   pub home_is : (me : ProcName) → home_at s first me ≡ option_map (λ (p : Process). where_is me) (f.processes me)
@@ -196,12 +207,21 @@ module _ (accounts : Accounts) (s : State) (f : Flat) (l : ObjectsMatch accounts
           ∙ ap label_there (asked_inside accounts l.category f l.naming.number me ∙ ap (inside_object accounts l.category me) here)
           ∙ ap (λ (e : Option ℕ). label_there (inside_object accounts l.category me (Some (record p { exited = e })))) runs
 
+      -- its container leads to its thread
+      leads : leads_to s (where_is me).container status.internal status.thread ≡ true
+      leads =
+          let runner = is_or_zero _ (numbered_runner accounts s f l me p here runs) in
+          let inside = is_or_zero _ inner_there in
+          both_three (step_linked accounts s f l Inside (home_address me) _ _
+          (is_or_zero _ (numbered_home accounts s f l me ∙ ap is_some here)) inside)
+          (step_linked accounts s f l Runner (Inside ∷ home_address me) _ _ inside runner)
+          (ap is_thread (thread_found accounts s f l me p here runs _ runner))
+
       -- a process that runs is found where it is
       pub runs_here : caller_by s (where_is me) status ≡ Some (caller_is me)
       runs_here =
-          ap (λ (e : Option ℕ). if_runs e (option_and_then
-          (λ outer. option_and_then (of_inner status outer) (label_there (s.objects status.internal)))
-          (label_there (s.objects (where_is me).container)))) runs
+          ap (λ (e : Option ℕ). if_runs e (running_caller s (where_is me) status.internal status.thread)) runs
+          ∙ ap (λ (b : Bool). if b then labelled_caller s (where_is me) status.internal status.thread else None) leads
           ∙ ap (option_and_then (λ outer. option_and_then (of_inner status outer) (label_there (s.objects status.internal)))) outer_label
           ∙ ap (option_and_then (of_inner status (guard_label l.category (process_guard me p)))) inner_label
           ∙ ap (option_and_then (λ write. option_and_then (λ read.
@@ -224,9 +244,7 @@ module _ (accounts : Accounts) (s : State) (f : Flat) (l : ObjectsMatch accounts
     exited_lost : (n : ℕ) → p.exited ≡ Some n → caller_at s first me ≡ None
     exited_lost n is =
         found_here
-        ∙ ap (λ (e : Option ℕ). if_runs e (option_and_then
-        (λ outer. option_and_then (of_inner status outer) (label_there (s.objects status.internal)))
-        (label_there (s.objects (where_is me).container)))) is
+        ∙ ap (λ (e : Option ℕ). if_runs e (running_caller s (where_is me) status.internal status.thread)) is
 
   -- a process that isn't there is not found
   no_process_lost : (me : ProcName) → f.processes me ≡ None → caller_at s first me ≡ None
