@@ -43,7 +43,7 @@ object_replies roots (name ∷ parent) rest obeys = place_replies roots parent _
 
 -- the reply that shows a class is no refusal
 class_replies : (is_directory : Bool) (class : Option ShownClass) → RepliesToRefusals (class_reply is_directory class)
-class_replies is_directory None = tt
+class_replies is_directory None = (refl, refl)
 class_replies is_directory (Some class) = (refl, refl)
 
 read_program_replies : (roots : Roots) (path : Path) → RepliesToRefusals (read_program roots path)

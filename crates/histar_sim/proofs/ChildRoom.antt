@@ -6,7 +6,7 @@ use Rattle.std.proofs.lemmas.Option.{same_Some}
 use Rattle.histar_base.specs.Refusals.{◌orelse◌, unless}
 use Rattle.histar_flat.specs.declared.calls.UnixCall.{UnixCall}
 use Rattle.histar_flat.specs.declared.replies.Errno.{Errno}
-use Rattle.histar_flat.specs.declared.replies.Errno.TheVariants.{EAGAIN}
+use Rattle.histar_flat.specs.declared.replies.Errno.TheVariants.{EAGAIN, ESRCH}
 use Rattle.histar_flat.specs.declared.replies.Reply.{Reply}
 use Rattle.histar_flat.specs.declared.replies.Reply.TheVariants.{Refused}
 use Rattle.histar_flat.specs.Words.{ProcName, most_children, most_numbers}
@@ -178,14 +178,14 @@ module _ (accounts : Accounts) (me : ProcName) (caller : Caller) (old new : Kern
 
     -- the process's own segment is read
     abbrev with_bytes : List ℕ → Program
-    with_bytes bytes = if_there with_status (status_in bytes)
+    with_bytes bytes = if_there ESRCH with_status (status_in bytes)
 
     read : nat_lt (length me) most_numbers ≡ true → Runs (ask reads with_bytes) old new t result → GoesOn → Refined
     read long runs go_on =
         granted_step accounts f me ready.caller call old new t ready.thread result [] old (same_kernel old) reads with_bytes read_said runs
         (λ later bytes called right longer goes.
         by_born (nat_lt p.born most_children) refl long later longer called.state
-        (subst (λ (o : Option ProcessStatus). Runs (if_there with_status o) later new t result) (ap status_in right ∙ status_revealed) goes) go_on)
+        (subst (λ (o : Option ProcessStatus). Runs (if_there ESRCH with_status o) later new t result) (ap status_in right ∙ status_revealed) goes) go_on)
 
     -- the name has 8 numbers, or there is room
     by_length : (b : Bool) → nat_lt (length me) most_numbers ≡ b

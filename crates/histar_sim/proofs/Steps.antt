@@ -4,6 +4,7 @@ use Rattle.std.proofs.lemmas.List.{map-append, append-nil}
 use Rattle.std.specs.Prelude.{IsErr}
 use Rattle.histar_flat.specs.declared.calls.UnixCall.{UnixCall}
 use Rattle.histar_flat.specs.declared.replies.Errno.{Errno}
+use Rattle.histar_flat.specs.declared.replies.Errno.TheVariants.{ENOTDIR}
 use Rattle.histar_flat.specs.declared.replies.Reply.{Reply}
 use Rattle.histar_flat.specs.declared.replies.Reply.TheVariants.{Refused}
 use Rattle.histar_flat.specs.Words.{ProcName}
@@ -75,11 +76,11 @@ module _ (t : ℕ) (old new : KernelModel) where
       → EndsHere old new result ⊎ Runs (rest dir) old new t result
   unfolding Runs
   listed_as bytes dir is rest (Ok reply) runs =
-      inr (subst (λ (o : Option Entries). Completes (if_there rest o) old new t reply)
+      inr (subst (λ (o : Option Entries). Completes (if_there ENOTDIR rest o) old new t reply)
       (found_directory bytes runs.0 dir runs.1 is) runs.2)
   listed_as bytes dir is rest (Err stopped) runs = elim runs [
     | inl same ↦ inl (record { unchanged = same; unanswered = refl })
-    | inr goes ↦ inr (subst (λ (o : Option Entries). Begins (if_there rest o) old new t) (found_directory bytes goes.0 dir goes.1 is) goes.2)
+    | inr goes ↦ inr (subst (λ (o : Option Entries). Begins (if_there ENOTDIR rest o) old new t) (found_directory bytes goes.0 dir goes.1 is) goes.2)
   ]
 
   module _ (call : RawCall) (rest : Outcome call → Program) where
