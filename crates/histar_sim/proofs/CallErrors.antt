@@ -17,18 +17,17 @@ use Rattle.histar_flat.specs.FlatCalls.{refused, changed, reply_or, flat_or, if_
 use Rattle.histar_object.specs.Objects.{bytes_in}
 use Rattle.histar_object.specs.State.{State}
 use Rattle.histar_rules.specs.declared.raw.Denied.{Denied}
-use Rattle.histar_rules.specs.declared.raw.Denied.TheVariants.{Observe, TooBig}
+use Rattle.histar_rules.specs.declared.raw.Denied.TheVariants.{Observe}
 use Rattle.histar_rules.specs.declared.raw.RawCall.{RawCall}
-use Rattle.histar_rules.specs.declared.raw.RawCall.TheVariants.{Read, Write}
+use Rattle.histar_rules.specs.declared.raw.RawCall.TheVariants.{Read}
 use Rattle.histar_trace.specs.declared.entries.TraceEntry.{TraceEntry}
 use Rattle.histar_syscall.specs.KernelModel.{KernelModel, state}
 use Rattle.histar_syscall.specs.Runs.{is_label_refusal, is_range_refusal, some_label_refusal, some_range_refusal}
 use Rattle.histar_syscall.proofs.Runs.{entry_of}
-use Rattle.histar_programs.specs.Refusals.{errno_for, errno_of, write_errno_of}
 use Rattle.histar_programs.specs.Replies.{is_access, is_permission, is_no_access, is_no_permission, IsRefusedOnce, sets_labels}
 use Rattle.histar_refinement.specs.Represents.{Represents}
 use Rattle.histar_refinement.specs.Lines.{IsThreadOf}
-use Rattle.histar_sim.specs.Simulation.{IsRunning, IsReplyOfDenial, EndsWithRead, IsLine, IsUnanswered, IsBrokenOff, FollowsRule}
+use Rattle.histar_sim.specs.Simulation.{IsRunning, errno_by_rule, IsReplyOfDenial, EndsWithRead, IsLine, IsUnanswered, IsBrokenOff, FollowsRule}
 use Rattle.histar_sim.specs.Reads.{HasReads}
 use Rattle.histar_sim.proofs.ReadsByCall.{HasReadsByCall, reads_due}
 use Rattle.histar_sim.proofs.Chains.{Step, all_granted, entries_of, Chain, chain_run, chain_own, all_restoring}
@@ -58,19 +57,10 @@ module _ (s : State) (entries : List TraceEntry) where
 
 -- the errno of a denial is EACCES exactly where it is by label, and EPERM exactly where it is by range
 revealed_by : (denied : Denied)
-    → (is_label_refusal (Some denied) ≡ is_some_and (write_errno_of denied) is_access)
-    × (is_range_refusal (Some denied) ≡ is_some_and (write_errno_of denied) is_permission)
+    → (is_label_refusal (Some denied) ≡ is_some_and (errno_by_rule denied) is_access)
+    × (is_range_refusal (Some denied) ≡ is_some_and (errno_by_rule denied) is_permission)
 revealed_by Observe = (refl, refl)
 revealed_by denied = (refl, refl)
-
--- an errno of a denial of any raw call is that of the same denial of a write
-shown_by : (denied : Denied) (errno : Errno) → errno_of denied ≡ Some errno → write_errno_of denied ≡ Some errno
-shown_by TooBig errno revealed = absurd cc
-shown_by denied errno revealed = revealed
-
-pub revealed_shown : (call : RawCall) (denied : Denied) (errno : Errno) → errno_for call denied ≡ Some errno → write_errno_of denied ≡ Some errno
-revealed_shown (Write container segment keep bytes) denied errno revealed = revealed
-revealed_shown call denied errno revealed = shown_by denied errno revealed
 
 -- the refusals among these entries are those that the reply shows
 pub record Agrees (r : Reply) (entries : List TraceEntry) : Type 0 where
@@ -99,7 +89,7 @@ module _ (line t : ℕ) where
   none_refused r (call ∷ calls) = let later = none_refused r calls in (later.0, later.1, (tt, later.2))
 
   -- granted raw calls, then one that was refused, then some that give the thread labels: they agree with the errno of the denial
-  refused_agree : (last : RawCall) (denied : Denied) (errno : Errno) → write_errno_of denied ≡ Some errno
+  refused_agree : (last : RawCall) (denied : Denied) (errno : Errno) → errno_by_rule denied ≡ Some errno
       → (restoring : List RawCall) → AllByRecursion (λ (c : RawCall). sets_labels c ≡ true) restoring
       → (calls : List RawCall) → Agrees (Refused errno) (entries_of line t (all_granted calls ++ (last, Some denied) ∷ all_granted restoring))
   refused_agree last denied errno revealed restoring sets [] =
@@ -241,7 +231,7 @@ module _ (accounts : Accounts) (f : Flat) (me : ProcName) (caller : IsRunning f 
   pub given_back_refined : (calls : List RawCall) (last : RawCall) (denied : Denied) (restoring : List RawCall)
       → AllByRecursion (λ (c : RawCall). sets_labels c ≡ true) restoring
       → Chain old t (all_granted calls ++ (last, Some denied) ∷ all_granted restoring) new → (errno : Errno)
-      → write_errno_of denied ≡ Some errno → refused accounts f me caller.process call ≡ Some errno
+      → errno_by_rule denied ≡ Some errno → refused accounts f me caller.process call ≡ Some errno
       → ReadsAmong (all_granted calls ++ (last, Some denied) ∷ all_granted restoring) (Refused errno)
       → Represents accounts (state new) f → FollowsRule accounts f me call old new t (Ok (Refused errno))
   given_back_refined calls last denied restoring sets chain errno revealed is reads represents =
@@ -264,7 +254,7 @@ module _ (accounts : Accounts) (f : Flat) (me : ProcName) (caller : IsRunning f 
 
     -- where only the last raw call was refused and nothing has changed, a call that the flat rules refuse with its errno refines its rule
     pub refused_refined : (calls : List RawCall) (last : RawCall) (denied : Denied) → Chain old t (all_granted calls ++ (last, Some denied) ∷ []) new
-        → (errno : Errno) → write_errno_of denied ≡ Some errno → refused accounts f me caller.process call ≡ Some errno
+        → (errno : Errno) → errno_by_rule denied ≡ Some errno → refused accounts f me caller.process call ≡ Some errno
         → ReadsAmong (all_granted calls ++ (last, Some denied) ∷ []) (Refused errno)
         → FollowsRule accounts f me call old new t (Ok (Refused errno))
     refused_refined calls last denied chain errno revealed is reads = given_back_refined calls last denied [] tt chain errno revealed is reads still

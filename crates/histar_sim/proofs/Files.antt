@@ -42,7 +42,7 @@ use Rattle.histar_refinement.specs.Directories.{directory_of}
 use Rattle.histar_refinement.specs.Processes.{or_zero}
 use Rattle.histar_refinement.specs.Represents.{Represents}
 use Rattle.histar_refinement.proofs.Writing.{represents_overwritten}
-use Rattle.histar_sim.specs.Simulation.{IsReady}
+use Rattle.histar_sim.specs.Simulation.{errno_by_rule, IsReady}
 use Rattle.histar_sim.specs.Reads.{AreAmong}
 use Rattle.histar_sim.proofs.ReadsByCall.{HasWalk, HasReadsByCall}
 use Rattle.histar_sim.proofs.Chains.{Step, all_granted, entries_of, Chain}
@@ -220,11 +220,11 @@ module _ (accounts : Accounts) (ok : AreAccounts accounts) (old new : KernelMode
           ∙ (λ i. unless (e i) Modify orelse unless ((kept_length keep (bytes_at f (m ∷ d)) bytes whole kept ∙ more) i) TooBig)
 
       -- a denial is replied
-      denied : (d : Denied) (errno : Errno) → check (state mid) t next ≡ Some d → write_errno_of d ≡ Some errno
+      denied : (d : Denied) (errno : Errno) → check (state mid) t next ≡ Some d → write_errno_of d ≡ Some errno → errno_by_rule d ≡ Some errno
           → refused accounts f me p call ≡ Some errno → Runs (ask next (λ _. Answers Done)) mid new t result → Refined
-      denied d errno fails revealed is on =
+      denied d errno fails revealed by_rule is on =
           refused_step accounts f me ready.caller call old new t ready.thread result walk mid chain stays
-          ready.represents errno is next (λ _. Answers Done) d fails revealed
+          ready.represents errno is next (λ _. Answers Done) d fails revealed by_rule
           (has_reads (refusal may fits) writing.reaches _ _
           (among_also old.line t walk walk ((next, Some d) ∷ []) (among_granted_all old.line t walk))) on
 
@@ -243,8 +243,8 @@ module _ (accounts : Accounts) (ok : AreAccounts accounts) (old new : KernelMode
           ∙ (λ i. with_segment_bytes (state old) file (take keep (there i) ++ bytes)) ∙ ap (with_segment_bytes (state old) file) kept
 
       by_right : (is_may is_fits : Bool) → may ≡ is_may → fits ≡ is_fits → Runs (ask next (λ _. Answers Done)) mid new t result → Refined
-      by_right false is_fits e more on = denied Modify EACCES (said_by false is_fits e more) refl (refused_by false is_fits e more) on
-      by_right true false e more on = denied TooBig EFBIG (said_by true false e more) refl (refused_by true false e more) on
+      by_right false is_fits e more on = denied Modify EACCES (said_by false is_fits e more) refl refl (refused_by false is_fits e more) on
+      by_right true false e more on = denied TooBig EFBIG (said_by true false e more) refl refl (refused_by true false e more) on
       by_right true true e more on =
           granted_step accounts f me ready.caller call old new t ready.thread result walk mid chain next
           (λ _. Answers Done) (said_by true true e more) on

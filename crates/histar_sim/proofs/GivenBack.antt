@@ -23,7 +23,7 @@ use Rattle.histar_rules.specs.Rules.{check}
 use Rattle.histar_syscall.specs.KernelModel.{KernelModel, state, Called}
 use Rattle.histar_syscall.proofs.Runs.{same_kernel}
 use Rattle.histar_programs.specs.declared.call_error.Stopped.{Stopped}
-use Rattle.histar_programs.specs.Refusals.{errno_for, write_errno_of}
+use Rattle.histar_programs.specs.Refusals.{errno_for}
 use Rattle.histar_programs.specs.Replies.{sets_labels}
 use Rattle.histar_programs.specs.Programs.{AnswerOf, Outcome, Program, Runs}
 use Rattle.histar_programs.specs.Programs.Program.{Answers, Asks}
@@ -31,9 +31,9 @@ use Rattle.histar_wrap.specs.Scratch.{or_stops, give_back, gives_back_with, or_g
 use Rattle.histar_refinement.specs.Represents.{Represents}
 use Rattle.histar_refinement.specs.Lines.{IsThreadOf}
 use Rattle.histar_refinement.proofs.Beside.{own_set}
-use Rattle.histar_sim.specs.Simulation.{IsRunning, IsReplyOfDenial, FollowsRule}
+use Rattle.histar_sim.specs.Simulation.{IsRunning, errno_by_rule, IsReplyOfDenial, FollowsRule}
 use Rattle.histar_sim.proofs.Chains.{Step, all_granted, Chain, chain_after, refused_broken_off}
-use Rattle.histar_sim.proofs.CallErrors.{ReadsAmong, reply_is, revealed_shown, chain_unanswered, given_back_refined}
+use Rattle.histar_sim.proofs.CallErrors.{ReadsAmong, reply_is, chain_unanswered, given_back_refined}
 use Rattle.histar_sim.proofs.Steps.{EndsHere, Goal, replied, granted_so, denied_step}
 
 module _ (accounts : Accounts) (f : Flat) (me : ProcName) (caller : IsRunning f me) (call : UnixCall)
@@ -43,7 +43,7 @@ module _ (accounts : Accounts) (f : Flat) (me : ProcName) (caller : IsRunning f 
 
   -- raw calls that were granted, the last one, which was refused, and the errno of its denial, which the flat rules reply
   module _ (calls : List RawCall) (last : RawCall) (denied : Denied) (errno : Errno)
-      (revealed : write_errno_of denied ≡ Some errno) (is : refused accounts f me caller.process call ≡ Some errno)
+      (revealed : errno_by_rule denied ≡ Some errno) (is : refused accounts f me caller.process call ≡ Some errno)
     where
       -- after the refused one come these, which are granted
       abbrev steps : List RawCall → List Step
@@ -130,7 +130,7 @@ module _ (accounts : Accounts) (f : Flat) (me : ProcName) (caller : IsRunning f 
   pub given_back_step : (calls : List RawCall) (mid : KernelModel) → Chain old t (all_granted calls) mid
       → (errno : Errno) → refused accounts f me caller.process call ≡ Some errno
       → (own : Levels × Levels) (next : RawCall) (rest : AnswerOf next → Program) (denied : Denied)
-      → check (state mid) t next ≡ Some denied → errno_for next denied ≡ Some errno
+      → check (state mid) t next ≡ Some denied → errno_for next denied ≡ Some errno → errno_by_rule denied ≡ Some errno
       → check (state mid) t (SetLabel own.0) ≡ None
       → check (with_changed (state mid) t (with_label own.0)) t (SetClearance own.1) ≡ None
       → Represents accounts (own_set t (state mid) own.0 own.1) f
@@ -138,11 +138,11 @@ module _ (accounts : Accounts) (f : Flat) (me : ProcName) (caller : IsRunning f 
       (all_granted calls ++ (next, Some denied) ∷ all_granted (SetLabel own.0 ∷ SetClearance own.1 ∷ []))
       (Refused errno)
       → Runs (ask_or_give_back own next rest) mid new t result → Refined
-  given_back_step calls mid so_far errno is own next rest denied fails revealed label_passes clearance_passes represents reads runs =
+  given_back_step calls mid so_far errno is own next rest denied fails revealed by_rule label_passes clearance_passes represents reads runs =
       denied_step accounts f me caller call old new t named result calls mid so_far next (or_given_back own (errno_for next) rest) denied fails runs
       (λ later called chain on.
       let same = called.state in
-      give_back_step calls next denied errno (revealed_shown next denied errno revealed) is own later chain
+      give_back_step calls next denied errno by_rule is own later chain
       (ap (λ (s : State). check s t (SetLabel own.0)) same ∙ label_passes)
       (ap (λ (s : State). check (with_changed s t (with_label own.0)) t (SetClearance own.1)) same
       ∙ clearance_passes)

@@ -169,7 +169,7 @@ module _ (accounts : Accounts) (ok : AreAccounts accounts) (old new : KernelMode
       (λ found first here seen mid stays chain on.
       refused_step accounts f me ready.caller (calls.Kill []) old new t ready.thread result (calls_to []) mid chain
       stays ready.represents EACCES refl unlinks (λ _. Answers Done) Modify
-      (ap (λ (s : State). check s t unlinks) stays ∙ first_kept accounts (state old) f l me p t (runs_as accounts (state old) f me t ready)) refl
+      (ap (λ (s : State). check s t unlinks) stays ∙ first_kept accounts (state old) f l me p t (runs_as accounts (state old) f me t ready)) refl refl
       (has_search accounts (state old) f me t ready [] _ (among_also old.line t (calls_to []) (calls_to []) ((unlinks, Some Modify) ∷ [])
       (among_granted_all old.line t (calls_to [])))) on)
 
@@ -277,7 +277,7 @@ module _ (accounts : Accounts) (ok : AreAccounts accounts) (old new : KernelMode
       by_kin : (b : Bool) → same above me ≡ b → Runs (ask unlinking (λ _. call_error)) mid new t result → Refined name
       by_kin false is on =
           refused_step accounts f me ready.caller call old new t ready.thread result (calls_to name) mid chain stays
-          ready.represents EACCES (refused_by false is) unlinking (λ _. call_error) Modify (said false is) refl
+          ready.represents EACCES (refused_by false is) unlinking (λ _. call_error) Modify (said false is) refl refl
           (has_search accounts (state old) f me t ready name _ (among_also old.line t (calls_to name) (calls_to name)
           ((unlinking, Some Modify) ∷ []) (among_granted_all old.line t (calls_to name)))) on
       by_kin true is on =

@@ -334,7 +334,7 @@ module _ (accounts : Accounts) (name : Name) (password : Password) (me : ProcNam
     kept_out jobbed asked chain stays runs =
         refused_step accounts f me ready.caller call old new t ready.thread result (OwnLabel ∷ []) asked chain stays
         ready.represents EACCES (refused_is (Some user.0) false user.1 jobbed) enters (λ _. reading) Gate
-        (ap (λ (s : State). check s t enters) stays ∙ enters_said ∙ ap (λ (b : Bool). unless b Gate) jobbed) refl
+        (ap (λ (s : State). check s t enters) stays ∙ enters_said ∙ ap (λ (b : Bool). unless b Gate) jobbed) refl refl
         (subst (λ (o : Option ℕ). AreAmong (reads_of_login accounts o false)
         (entries_of old.line t (all_granted (OwnLabel ∷ []) ++ (enters, Some Gate) ∷ []))) (sym at_place)
         tt) runs

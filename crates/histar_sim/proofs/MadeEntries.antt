@@ -49,7 +49,7 @@ use Rattle.histar_refinement.proofs.ClassTests.{observes_class, modifies_class}
 use Rattle.histar_refinement.proofs.DirectoryLaws.{spelling_fits}
 use Rattle.histar_refinement.proofs.Making.{count_entries, jobs_made}
 use Rattle.histar_refinement.proofs.RawChecks.{caller_passes}
-use Rattle.histar_sim.specs.Simulation.{IsReady}
+use Rattle.histar_sim.specs.Simulation.{errno_by_rule, IsReady}
 use Rattle.histar_sim.specs.Reads.{AreAmong}
 use Rattle.histar_sim.proofs.Chains.{all_granted, entries_of, Chain, Step}
 use Rattle.histar_sim.proofs.CallErrors.{IsBacked, ReadsAmong}
@@ -172,12 +172,12 @@ module _ (accounts : Accounts) (ok : AreAccounts accounts) (old new : KernelMode
 
       -- the make call is denied, and so the Unix call is refused
       denied : (x : Levels) (why : Denied) (errno : Errno) → check (state mid) t (make place.container x) ≡ Some why
-          → errno_of why ≡ Some errno → refused accounts f me p call ≡ Some errno → Runs (making x) mid new t result
-          → Refined
-      denied x why errno fails revealed is on =
+          → errno_of why ≡ Some errno → errno_by_rule why ≡ Some errno → refused accounts f me p call ≡ Some errno
+          → Runs (making x) mid new t result → Refined
+      denied x why errno fails revealed by_rule is on =
           refused_step accounts f me ready.caller call old new t ready.thread result calls mid chain stays
           ready.represents errno is (make place.container x) (within room_here x) why fails
-          (object.reveals x why ∙ revealed)
+          (object.reveals x why ∙ revealed) by_rule
           (has_reads_made _ _ (among_also old.line t reads calls ((make place.container x, Some why) ∷ [])
           (among_then old.line t reads reads (raw.OwnLabel ∷ []) (among_granted_all old.line t reads)))) on
 
@@ -188,9 +188,9 @@ module _ (accounts : Accounts) (ok : AreAccounts accounts) (old new : KernelMode
           ≡ (unless can Modify orelse unless makes Range orelse unless has TooBig)
           → (may ≡ true → makes ≡ true → has_number (state old) ≡ true → GoesOnWith mid x) → Runs (making x) mid new t result → Refined
       by_right x false makes has is_may is_makes is_has said go_on on =
-          denied x Modify EACCES said refl (refused_then open_so_far absent room false makes is_may is_makes) on
+          denied x Modify EACCES said refl refl (refused_then open_so_far absent room false makes is_may is_makes) on
       by_right x true false has is_may is_makes is_has said go_on on =
-          denied x Range EPERM said refl (refused_then open_so_far absent room true false is_may is_makes) on
+          denied x Range EPERM said refl refl (refused_then open_so_far absent room true false is_may is_makes) on
       by_right x true true false is_may is_makes is_has said go_on on =
           exhausted_step accounts f me ready.caller call old new t ready.thread result calls mid chain
           (make place.container x) (within room_here x) said (object.reveals x TooBig)

@@ -86,7 +86,7 @@ module _ (accounts : Accounts) (ok : AreAccounts accounts) (old new : KernelMode
     by_right false is on =
         refused_step accounts f me ready.caller call old new t ready.thread result walk mid chain stays ready.represents
         EACCES (refused_by false is) next (λ (b : List ℕ). Answers (Data b)) Observe
-        (said_by false is) refl (walked_also accounts ok (state old) f me t ready m d old.line ((next, Some Observe) ∷ [])) on
+        (said_by false is) refl refl (walked_also accounts ok (state old) f me t ready m d old.line ((next, Some Observe) ∷ [])) on
     by_right true is on =
         granted_step accounts f me ready.caller call old new t ready.thread result walk mid chain next
         (λ (b : List ℕ). Answers (Data b)) (said_by true is) on

@@ -148,7 +148,7 @@ module _ (accounts : Accounts) (ok : AreAccounts accounts) (old new : KernelMode
       by_right false is_may on =
           refused_step accounts f me ready.caller call old new t ready.thread result walk mid chain stays
           ready.represents EACCES (refused_by None false absent is_may) next (λ _. Answers Done) Modify
-          (said false is_may) refl
+          (said false is_may) refl refl
           (walked_also accounts ok (state old) f me t ready m d old.line ((next, Some Modify) ∷ [])) on
       by_right true is_may on =
           granted_step accounts f me ready.caller call old new t ready.thread result walk mid chain next (λ _. Answers Done) (said true is_may) on

@@ -29,9 +29,9 @@ use Rattle.histar_programs.specs.Programs.Program.{Answers, Asks, Stops}
 use Rattle.histar_programs.specs.Parts.{refused_with, or_refused, ask, if_there, list}
 use Rattle.histar_refinement.specs.Represents.{Represents}
 use Rattle.histar_refinement.specs.Lines.{IsThreadOf}
-use Rattle.histar_sim.specs.Simulation.{IsRunning, has_category, FollowsRule}
+use Rattle.histar_sim.specs.Simulation.{errno_by_rule, IsRunning, has_category, FollowsRule}
 use Rattle.histar_sim.proofs.Chains.{Step, all_granted, entries_of, Chain, chain_after, granted_broken_off, exhausted_broken_off}
-use Rattle.histar_sim.proofs.CallErrors.{IsBacked, ReadsAmong, revealed_shown, chain_unanswered, granted_refined, unchanged_refined, refused_refined}
+use Rattle.histar_sim.proofs.CallErrors.{IsBacked, ReadsAmong, chain_unanswered, granted_refined, unchanged_refined, refused_refined}
 
 -- the call ended here without a reply
 pub record EndsHere (old new : KernelModel) (result : Result Reply Stopped) : Type 0 where
@@ -240,10 +240,10 @@ module _ (accounts : Accounts) (f : Flat) (me : ProcName) (caller : IsRunning f 
         (is : refused accounts f me caller.process call ≡ Some errno) where
       -- a raw call that the rules refuse, as the flat rules refuse the call
       pub refused_step : (next : RawCall) (rest : AnswerOf next → Program) (denied : Denied)
-          → check (state mid) t next ≡ Some denied → errno_for next denied ≡ Some errno
+          → check (state mid) t next ≡ Some denied → errno_for next denied ≡ Some errno → errno_by_rule denied ≡ Some errno
           → ReadsAmong accounts f me caller call old new t named (all_granted calls ++ (next, Some denied) ∷ [])
           (Refused errno) → Runs (ask next rest) mid new t result → Goal
-      refused_step next rest denied fails revealed reads runs =
+      refused_step next rest denied fails revealed by_rule reads runs =
           elim (refused_so t mid new next (or_refused (errno_for next) rest) denied fails result runs) [
             | inl ends ↦ ends_here ends
             | inr end ↦
@@ -253,7 +253,7 @@ module _ (accounts : Accounts) (f : Flat) (me : ProcName) (caller : IsRunning f 
                 let chain = chain_after t old mid new (all_granted calls) ((next, Some denied) ∷ []) so_far (end.mid, end.called, said.0) in
                 subst (FollowsRule accounts f me call old new t) (sym said.1)
                 (refused_refined accounts f me caller call old new t named (said.0.state ∙ end.called.state ∙ stays)
-                represents calls next denied chain errno (revealed_shown next denied errno revealed) is reads)
+                represents calls next denied chain errno by_rule is reads)
           ]
 
       -- a call that is refused with no further raw call

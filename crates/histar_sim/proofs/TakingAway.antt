@@ -267,7 +267,7 @@ module _ (accounts : Accounts) (ok : AreAccounts accounts) (old new : KernelMode
     by_right : (may : Bool) → may_write accounts p root ≡ may → Runs (ask unlinks (λ _. call_error)) mid new t result → Refined
     by_right false is on =
         refused_step accounts f me ready.caller call old new t ready.thread result calls mid chain same ready.represents
-        EACCES (refused_so false is) unlinks (λ _. call_error) Modify (said false is) refl
+        EACCES (refused_so false is) unlinks (λ _. call_error) Modify (said false is) refl refl
         (has_reads _ _ (among_also old.line t calls calls ((unlinks, Some Modify) ∷ []) (among_granted_all old.line t calls))) on
     by_right true is on =
         granted_step accounts f me ready.caller call old new t ready.thread result calls mid chain unlinks (λ _. call_error) (said true is) on

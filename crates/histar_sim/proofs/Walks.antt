@@ -345,7 +345,7 @@ module _ (accounts : Accounts) (ok : AreAccounts accounts) (old new : KernelMode
       by false is =
           let end = refuses is in
           refused_step accounts f me ready.caller call old new t ready.thread result before mid chain stays
-          ready.represents EACCES end.0 (read d) rest Observe (said false is) refl end.1 run
+          ready.represents EACCES end.0 (read d) rest Observe (said false is) refl refl end.1 run
       by true is =
           granted_step accounts f me ready.caller call old new t ready.thread result before mid chain (read d) rest (said true is) run
           (λ later bytes called right longer on.

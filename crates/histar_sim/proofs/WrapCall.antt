@@ -44,7 +44,7 @@ use Rattle.histar_refinement.specs.Represents.{Represents}
 use Rattle.histar_refinement.proofs.Beside.{own_set}
 use Rattle.histar_refinement.proofs.Agreeing.{some_of}
 use Rattle.histar_refinement.proofs.WrapRefused.{represents_refused}
-use Rattle.histar_sim.specs.Simulation.{IsReady, has_category}
+use Rattle.histar_sim.specs.Simulation.{errno_by_rule, IsReady, has_category}
 use Rattle.histar_sim.specs.Reads.{AreAmong}
 use Rattle.histar_sim.proofs.ReadsByCall.{HasWalk, HasWalkUnlessFull}
 use Rattle.histar_sim.proofs.Chains.{all_granted, entries_of, Chain}
@@ -170,11 +170,11 @@ module _ (accounts : Accounts) (ok : AreAccounts accounts) (me : ProcName) (call
 
         -- the raw call is refused, and so is the Unix call
         given_back : (denied : Denied) (errno : Errno) → check (state mid) t next ≡ Some denied
-            → errno_for next denied ≡ Some errno → refused accounts f me p (Wrap (m ∷ d)) ≡ Some errno
-            → Runs (ask_or_give_back (own, clearance) next within) mid new t result → Refined
-        given_back denied errno fails revealed is on =
+            → errno_for next denied ≡ Some errno → errno_by_rule denied ≡ Some errno
+            → refused accounts f me p (Wrap (m ∷ d)) ≡ Some errno → Runs (ask_or_give_back (own, clearance) next within) mid new t result → Refined
+        given_back denied errno fails revealed by_rule is on =
             given_back_step accounts f me ready.caller (Wrap (m ∷ d)) old new t ready.thread result before mid chain
-            errno is (own, clearance) next within denied fails revealed
+            errno is (own, clearance) next within denied fails revealed by_rule
             (ap (λ (s : State). check s t (SetLabel own)) counted ∙ set_label_said accounts ok (state old) f me t ready)
             (ap (λ (s : State). check (with_changed s t (with_label own)) t (SetClearance clearance)) counted
             ∙ set_clearance_said accounts ok (state old) f me t ready)
@@ -190,9 +190,9 @@ module _ (accounts : Accounts) (ok : AreAccounts accounts) (me : ProcName) (call
         by_right : (can declared has : Bool) → may ≡ can → is_some (user_number accounts p.user) ≡ declared → has_number (state old) ≡ has
             → check (state mid) t next ≡ (unless can Modify orelse unless declared Range orelse unless has TooBig)
             → Runs (ask_or_give_back (own, clearance) next within) mid new t result → Refined
-        by_right false declared has is_may is_declared is_has said on = given_back Modify EACCES said refl (refused_is false is_may) on
+        by_right false declared has is_may is_declared is_has said on = given_back Modify EACCES said refl refl (refused_is false is_may) on
         by_right true false has is_may is_declared is_has said on =
-            given_back Range EPERM said refl (refused_is true is_may
+            given_back Range EPERM said refl refl (refused_is true is_may
             ∙ ap (λ (b : Bool). unless (not b) EPERM)
             (is_nobody accounts ok (state old) f me t ready is_declared)) on
         by_right true true false is_may is_declared is_has said on =

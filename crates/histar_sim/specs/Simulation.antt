@@ -4,6 +4,8 @@ use Rattle.std.specs.Prelude.{option_map, Result, Ok, Err}
 use Rattle.std.specs.List.{AllByRecursion}
 use Rattle.histar_flat.specs.declared.calls.CallLine.{CallLine}
 use Rattle.histar_flat.specs.declared.calls.UnixCall.{UnixCall}
+use Rattle.histar_flat.specs.declared.replies.Errno.{Errno}
+use Rattle.histar_flat.specs.declared.replies.Errno.TheVariants.{EACCES, EPERM, EFBIG}
 use Rattle.histar_flat.specs.declared.replies.Reply.{Reply}
 use Rattle.histar_flat.specs.declared.replies.Reply.TheVariants.{Data, Refused, Gone}
 use Rattle.histar_flat.specs.Words.{Path, ProcName}
@@ -16,14 +18,13 @@ use Rattle.histar_flat.specs.FlatCalls.{most_bytes, running, reply_to, flat_afte
 use Rattle.histar_object.specs.Objects.{bytes_in}
 use Rattle.histar_object.specs.State.{State}
 use Rattle.histar_rules.specs.declared.raw.Denied.{Denied}
-use Rattle.histar_rules.specs.declared.raw.Denied.TheVariants.{TooBig}
+use Rattle.histar_rules.specs.declared.raw.Denied.TheVariants.{Observe, Modify, Gate, Range, TooBig}
 use Rattle.histar_rules.specs.declared.raw.RawCall.TheVariants.{Read}
 use Rattle.histar_rules.specs.Rules.{check, Leaves, greatest, has_number}
 use Rattle.histar_trace.specs.declared.entries.TraceEntry.{TraceEntry}
 use Rattle.histar_syscall.specs.KernelModel.{KernelModel, state}
 use Rattle.histar_syscall.specs.Runs.{IsBy, IsRun, some_label_refusal, some_range_refusal}
 use Rattle.histar_programs.specs.declared.call_error.Stopped.{Stopped}
-use Rattle.histar_programs.specs.Refusals.{write_errno_of}
 use Rattle.histar_programs.specs.Replies.{is_no_access, is_no_permission, IsRefusedOnce, IsRestoring}
 use Rattle.histar_refinement.specs.Represents.{Represents}
 use Rattle.histar_refinement.specs.Lines.{IsThreadOf}
@@ -48,10 +49,19 @@ pub record EndsWithRead (s : State) (entries : List TraceEntry) (bytes : List �
   pub reads : last.call ≡ Read container segment
   pub holds : bytes_in (before.objects segment) ≡ bytes
 
--- the reply is that of a denial: EACCES if it is by label, EPERM if by range, EFBIG if there are too many bytes; no other has one
+-- the errno of a denial where a flat state is represented: EACCES if it is by label, EPERM if by range, EFBIG if there are too many bytes
+abbrev pub errno_by_rule : Denied → Option Errno
+errno_by_rule Observe = Some EACCES
+errno_by_rule Modify = Some EACCES
+errno_by_rule Gate = Some EACCES
+errno_by_rule Range = Some EPERM
+errno_by_rule TooBig = Some EFBIG
+errno_by_rule denied = None
+
+-- the reply is that of a denial by label, by range or for too many bytes; no other denial comes
 abbrev pub IsReplyOfDenial : Reply → Option Denied → Type 0
 IsReplyOfDenial reply None = Unit {0}
-IsReplyOfDenial reply (Some denied) = option_map Refused (write_errno_of denied) ≡ Some reply
+IsReplyOfDenial reply (Some denied) = option_map Refused (errno_by_rule denied) ≡ Some reply
 
 -- The entries of a line with this reply, between the state before the line and the one after it. They are a run of the
 -- kernel; each is of the line and of the thread that the process segment of the line's process names before it. Some is refused by
