@@ -22,7 +22,7 @@ pub struct FoundObject {
 }
 
 /// Returns kind, owner and mode of what is at a path. It is refused where the walk is, and with ENOENT
-/// where nothing is there.
+/// where nothing is there, or an object of another label than the library gives files.
 pub fn stat<S: LabelStore + Drop>(
     kernel: &mut Kernel<S>,
     unix: &Unix,

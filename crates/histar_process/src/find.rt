@@ -52,7 +52,7 @@ pub fn must_be_there(child: Option<Child>) -> Result<Child, Errno>
 }
 
 /// Reads the head of a process segment in place: EACCES where the kernel doesn't let the thread observe
-/// it.
+/// it, ESRCH where its bytes are no process.
 pub fn read_head<S: LabelStore + Drop>(
     kernel: &mut Kernel<S>,
     thread: ObjId,
@@ -68,7 +68,7 @@ pub fn read_head<S: LabelStore + Drop>(
 }
 
 /// Reads a process segment that is going to be written again: EACCES where the kernel doesn't let the
-/// thread observe it.
+/// thread observe it, ESRCH where its bytes are no process.
 pub fn read_segment<S: LabelStore + Drop>(
     alloc: Global,
     kernel: &mut Kernel<S>,

@@ -7,8 +7,9 @@ use histar_layout::NotAStatus;
 use histar_syscall::{Denied, Refusal};
 use std::alloc::{AllocError, AllocFailed};
 
-/// A call ends without a reply: memory ran out, or the kernel denied what has no errno. The machine makes no more calls then. On
-/// a machine that represents a flat state, only lack of memory and a counter at its greatest value do this.
+/// A call ends without a reply: memory ran out, or the kernel denied what has no errno. The machine makes
+/// no more calls then. On a machine that represents a flat state, only lack of memory and a counter at its
+/// greatest value do this. No bytes that a job writes into its own segments do it on any machine.
 #[derive(Clone, Copy, Debug, PartialEq, Eq)]
 pub struct Stopped;
 
@@ -45,8 +46,8 @@ impl From<Errno> for CallError {
 }
 
 /// A denial that has no errno stops the call. On a machine that represents a flat state the objects that
-/// the library's calls name are there; an entry that a job has forged may lead to what isn't there (ENOENT). A write has
-/// `written` for its own errno.
+/// the library's calls name are there, but an entry that a job has forged may lead to what isn't there: that
+/// is ENOENT, as if there were no such entry. A write has `written` for its own errno.
 impl From<Refusal> for CallError {
     ghost use Rattle.std.specs.Prelude.{◌≡◌};
     ghost use Rattle.histar_programs.specs.Refusals.{errno_of, call_error_of};
@@ -72,8 +73,8 @@ impl From<AllocError> for CallError {
     }
 }
 
-/// The bytes of a process segment are no status, so there is no process. A machine that represents a flat state has no such
-/// segment, but a job may write one of its own.
+/// The bytes of a process segment are no status, so there is no process. A machine that represents a flat
+/// state has no such segment, but a job may write one of its own.
 impl From<NotAStatus> for CallError {
     ghost use Rattle.std.specs.Prelude.{◌≡◌};
     ghost use Rattle.histar_flat.specs.declared.replies.Errno.TheVariants.{ESRCH};

@@ -44,7 +44,8 @@ impl Directory {
         Ok(())
     }
 
-    /// Reads a directory: EACCES where the kernel doesn't let the thread observe its segment, ENOTDIR where that holds no directory.
+    /// Reads a directory: EACCES where the kernel doesn't let the thread observe its segment, ENOTDIR where
+    /// the bytes of that segment are no directory.
     pub fn read<S: LabelStore + Drop>(
         alloc: Global,
         kernel: &mut Kernel<S>,

@@ -10,7 +10,7 @@ use histar_label::PlainStore;
 use histar_layout::{Chain, Target, UserTable};
 use histar_login::{boot, login};
 use histar_process::{exit, spawn};
-use histar_programs::{Roots, Unix, find_caller};
+use histar_programs::{Home, Roots, Unix, find_caller};
 use histar_readout::{Life, ProcessNode, procs_of, resolve};
 use histar_syscall::Kernel;
 use histar_wrap::wrap;
@@ -200,5 +200,38 @@ fn check_session(
     make_calls(alloc, kernel, roots, users)?;
     let ended = listed(alloc, kernel, roots, users)?;
     check_processes(rt, ended.as_slice(), AT_THE_END);
+    Ok(())
+}
+
+#[test]
+fn no_forged_thread_is_found(rt: HostRuntime) -> Result<(), Fail> {
+    let alloc = rt.alloc();
+    let accounts = accounts(alloc)?;
+    assert!(rt; !accounts.users().is_empty());
+    let users = UserTable::of(alloc, &accounts)?;
+    let (mut kernel, roots) = boot(alloc, PlainStore::new(alloc), &accounts)?;
+    let checked = check_forgery(&rt, alloc, &mut kernel, &roots, &users);
+    drop(kernel);
+    checked
+}
+
+/// Checks that a job which writes its wrapper's status into its own process segment is found no more. The
+/// status names the wrapper's internal container and thread, which the job's container doesn't link.
+fn check_forgery(
+    rt: &impl Abort,
+    alloc: Global,
+    kernel: &mut Kernel<PlainStore>,
+    roots: &Roots,
+    users: &UserTable,
+) -> Result<(), Fail> {
+    make_calls(alloc, kernel, roots, users)?;
+    let wrapper = find_caller(kernel, roots.home, &ProcName::zero()).ok_or("the wrapper")?;
+    let name = ProcName::zero().child(2);
+    let job = find_caller(kernel, roots.home, &name).ok_or("the job")?;
+    let Home { container, segment } = wrapper.home;
+    let status = kernel.read_copy(alloc, job.thread, container, segment)?;
+    let Home { container, segment } = job.home;
+    kernel.write(alloc, job.thread, container, segment, 0, status)?;
+    assert!(rt; find_caller(kernel, roots.home, &name).is_none());
     Ok(())
 }
