@@ -4,11 +4,10 @@ ghost use Rattle.histar_flat.specs.Words.{most_numbers};
 ghost use Rattle.histar_syscall.specs.KernelModel.{state};
 ghost use Rattle.histar_names.specs.Births.{births_after, child_of, last_child};
 
-use crate::homes::home_at;
 use histar_flat::{MOST_NUMBERS, ProcName};
 use histar_label::LabelStore;
 use histar_layout::read_status;
-use histar_programs::Roots;
+use histar_programs::{Roots, home_at};
 use histar_syscall::Kernel;
 use std::alloc::AllocError;
 

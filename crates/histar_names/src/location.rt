@@ -10,13 +10,13 @@ ghost use Rattle.histar_names.specs.Location.{at_path, is_inside, is_of_target, 
 ghost use Rattle.histar_names.specs.Location.{listing_in, of_process, path_up, process_up, location_of, target_at};
 ghost use Rattle.histar_names.specs.Location.{users_own};
 
-use crate::homes::{home_at, name_of};
+use crate::homes::name_of;
 use crate::names::Names;
 use histar_flat::{Name, Path, ProcName};
 use histar_label::LabelStore;
 use histar_layout::{Target, look_up, read_status};
 use histar_object::ObjId;
-use histar_programs::{Home, Roots};
+use histar_programs::{Home, Roots, home_at};
 use histar_syscall::Kernel;
 
 /// What an object is.

@@ -8,12 +8,12 @@ ghost use Rattle.histar_syscall.specs.KernelModel.{state};
 ghost use Rattle.histar_names.specs.Purposes.{boot_purpose, has_three, has_zero, inner_label, job_by, outer_label};
 ghost use Rattle.histar_names.specs.Purposes.{pair_purpose, purpose_born, purpose_by, purpose_of, purpose_up};
 
-use crate::homes::{home_at, name_of};
+use crate::homes::name_of;
 use crate::names::Names;
 use histar_flat::ProcName;
 use histar_label::{Category, Label, LabelStore, Level};
 use histar_layout::{UserTable, is_three, read_status};
-use histar_programs::Roots;
+use histar_programs::{Roots, home_at};
 use histar_syscall::Kernel;
 
 /// What a category is for.

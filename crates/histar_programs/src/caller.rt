@@ -39,8 +39,13 @@ pub fn find_caller<S: LabelStore + Drop>(
     caller_in(kernel, home)
 }
 
-// Finds where the process of these numbers is. The last number comes first in the list.
-fn home_at<S: LabelStore + Drop>(kernel: &Kernel<S>, first: Home, numbers: &[u8]) -> Option<Home>
+/// Finds where the process of these numbers is, whether it runs or has exited. The last number comes first
+/// in the list.
+pub fn home_at<S: LabelStore + Drop>(
+    kernel: &Kernel<S>,
+    first: Home,
+    numbers: &[u8],
+) -> Option<Home>
     ensures { result ≡ home_at (state kernel.now) first numbers.now }
 {
     let mut home = first;

@@ -17,7 +17,7 @@ mod roots;
 mod unix;
 
 pub use call_error::{CallError, Stopped, settle, written};
-pub use caller::{Caller, caller_in, find_caller};
+pub use caller::{Caller, caller_in, find_caller, home_at};
 pub use directory::{Directory, entry_at, file_at, find_place, look_in, walk, write_entries};
 pub use find::{FoundFile, Room, find_file, find_room};
 pub use kin::{categories_of, joined, owned_by, user_name};
