@@ -1,14 +1,9 @@
 -- The explained trace is the one that `run` returns.
 use Rattle.std.specs.Prelude.{◌≡◌, ℕ, List, Option, Ok}
-use Rattle.histar_script.specs.Script.{ScriptModel}
 use Rattle.histar_trace.specs.declared.entries.TraceEntry.{TraceEntry}
 use Rattle.histar_shell.specs.Run.{RunsText}
 use Rattle.histar_shell.specs.declared.session.Options.{Options}
-use Rattle.histar_run_explain.specs.Run.{ExplainsText, IsAnsweredTrace}
-
--- a script has one trace, whichever machine answers it
-abbrev pub ScriptsHaveOneTrace : Type 0
-ScriptsHaveOneTrace = (script : ScriptModel) (one other : List TraceEntry) → IsAnsweredTrace script one → IsAnsweredTrace script other → one ≡ other
+use Rattle.histar_run_explain.specs.Run.{ExplainsText}
 
 -- where a text is run, and run and explained, whatever else is asked for and wherever it is written, both have one trace
 abbrev pub ExplainsTheTrace : Type 0

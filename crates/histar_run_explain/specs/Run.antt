@@ -6,7 +6,7 @@ use Rattle.histar_flat.specs.declared.calls.CallLine.{CallLine}
 use Rattle.histar_flat.specs.Accounts.{Accounts}
 use Rattle.histar_flat.specs.FlatState.{Flat}
 use Rattle.histar_flat.specs.FlatCalls.{flat_after}
-use Rattle.histar_flat.specs.Meaning.{boot, RepliedCall}
+use Rattle.histar_flat.specs.Meaning.{boot}
 use Rattle.histar_object.specs.State.{State}
 use Rattle.histar_script.specs.Script.{ScriptModel}
 use Rattle.histar_script.specs.Reading.{script_of}
@@ -17,10 +17,8 @@ use Rattle.histar_layout.specs.UserTable.{without_passwords}
 use Rattle.histar_programs.specs.Start.{roots_of}
 use Rattle.histar_sim.specs.Simulation.{SimulatesLine}
 use Rattle.histar_shell.specs.declared.session.Options.{Options}
-use Rattle.histar_shell.specs.Answers.{calls_of}
-use Rattle.histar_shell.specs.AnsweredCalls.{AnswersInTurn}
 use Rattle.histar_shell.specs.Ending.{asked_trace}
-use Rattle.histar_shell.specs.Machine.{MachineModel, IsStart}
+use Rattle.histar_shell.specs.OneTrace.{IsAnsweredTrace}
 use Rattle.histar_shell.specs.Meaning.{IsMeantTrace, meaning_text}
 use Rattle.histar_shell.specs.Outcome.{AgreesWith}
 use Rattle.histar_raw_explain.specs.Texts.{Words}
@@ -48,17 +46,6 @@ ExplainsCallLines accounts s f births (asked ∷ more) entries text end =
     × SimulatesLine accounts s f asked own mid
     × ExplainsEntries (words_of accounts mid asked (births_of accounts mid asked births)) s own lines mid
     × ExplainsCallLines accounts mid (flat_after accounts f asked.process asked.call) (births_of accounts mid asked births) more later rest end
-
--- A machine that was booted with the users and groups of a script answered each of its call lines, and the trace is the one that it has at
--- the end: that of the raw calls of boot and of the programs of the lines, and of no others.
-pub record IsAnsweredTrace (script : ScriptModel) (trace : List TraceEntry) : Type 0 where
-  pub start : MachineModel
-  pub starts : IsStart script.accounts start
-  pub answers : List RepliedCall
-  pub each : calls_of answers ≡ script.calls
-  pub end : MachineModel
-  pub in_turn : AnswersInTurn start answers end
-  pub recorded : trace ≡ end.kernel.trace
 
 -- the trace is a machine's that answered the script, it is one of the script's meaning, and the text explains each denied entry of its lines
 pub record ExplainsTrace (script : ScriptModel) (trace : List TraceEntry) (text : List ℕ) : Type 0 where

@@ -21,4 +21,3 @@ pub mod Answered
 pub mod BadLines
 pub mod LeftOut
 pub mod Sinks
-pub mod Inputs

@@ -15,3 +15,4 @@ pub mod Starts
 pub mod ShallowPaths
 pub mod ShownTrees
 pub mod SessionMeanings
+pub mod SameTraces

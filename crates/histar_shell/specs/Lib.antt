@@ -8,3 +8,4 @@ pub mod Outcome
 pub mod Meaning
 pub mod Run
 pub mod AllAnswers
+pub mod OneTrace

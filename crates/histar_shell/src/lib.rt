@@ -6,6 +6,7 @@ mod ending;
 mod machine;
 mod output;
 mod session;
+pub mod trace_laws;
 
 pub use ending::write_ending;
 pub use histar_io::{Counted, Sink, Source};
