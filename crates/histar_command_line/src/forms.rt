@@ -177,7 +177,7 @@ pub(crate) fn trust<'a>() -> Form<'a>
   changer-login USER   a process that logs in as USER could
 
 Example:
-  histar trust /tmp/letters examples/scan.histar
+  histar trust --at 21 /tmp/letters examples/scan.histar
 prints, among others, the line
   confined 0.1.1 alice",
         arguments: &[
