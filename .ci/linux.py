@@ -320,6 +320,14 @@ class Machine:
     def enter(self, name, pid, channel):
         self.born[name], self.channels[name], self.pids[name], self.ends[name] = 0, channel, pid, os.pidfd_open(pid)
 
+    def number_of(self, name):
+        """Returns the id of a process, and no process's once that one is reaped, since the kernel gives an id again."""
+        try:
+            signal.pidfd_send_signal(self.ends[name], 0)
+        except (KeyError, ProcessLookupError):
+            return NO_PROCESS
+        return self.pids[name]
+
     def is_running(self, name):
         return name in self.ends and not select.select([self.ends[name]], [], [], 0)[0]
 
@@ -340,7 +348,7 @@ class Machine:
             return "no counterpart"
         if call == "spawn":
             return self.spawn(name)
-        target = self.pids.get(argument, NO_PROCESS) if call in ("status", "kill") else argument
+        target = self.number_of(argument) if call in ("status", "kill") else argument
         self.channels[name].send(f"{call} {target}".encode())
         # A process that killed itself sends nothing.
         reply = self.channels[name].recv(MOST_OF_A_MESSAGE).decode() or "ok"
