@@ -1,8 +1,7 @@
 -- A job is sealed: what is found below one of its processes is inside, and all that hangs below the container of a process is of its jobs.
-use Rattle.std.proofs.Common.{◌≡◌, ◌≢◌, ℕ, ◌<◌, ◌==◌, Bool, true, false, ◌||◌, List, [], ◌∷◌, ◌++◌, length, map, Option, None, Some, inl, inr, arith}
+use Rattle.std.proofs.Common.{◌≡◌, ℕ, ◌<◌, ◌==◌, Bool, true, false, ◌||◌, List, [], ◌∷◌, ◌++◌, map, Option, None, Some, inl, inr}
 use Rattle.std.proofs.Common.{refl, sym, ap, ◌∙◌, subst, if◌then◌else◌}
 use Rattle.std.specs.Prelude.{◌&&◌, option_and_then}
-use Rattle.std.specs.FinSet as set
 use mathlib.Core.Bool.{true≢false, false≢true}
 use Rattle.std.proofs.lemmas.Bool.{and_parts, or_left, or_right}
 use Rattle.std.proofs.lemmas.Bool.Decides.{eqb_tells, leb_tells}
@@ -12,12 +11,11 @@ use Rattle.histar_flat.specs.Accounts.{Accounts}
 use Rattle.histar_flat.specs.Classes.{Process}
 use Rattle.histar_flat.specs.FlatState.{Flat}
 use Rattle.histar_secrecy.specs.Leaks.{IsFamily}
-use Rattle.histar_level.specs.declared.level.Level.{Level}
-use Rattle.histar_level.specs.declared.level.Level.TheVariants.{L0, L1, L3}
+use Rattle.histar_level.specs.declared.level.Level.TheVariants.{L3}
 use Rattle.histar_level.specs.Levels.{Levels, level_of}
 use Rattle.histar_object.specs.declared.objects.Object.{Object}
-use Rattle.histar_object.specs.Objects.{links_in, label_there, is_thread}
-use Rattle.histar_object.specs.State.{State, Found}
+use Rattle.histar_object.specs.Objects.{label_there, is_thread}
+use Rattle.histar_object.specs.State.{State}
 use Rattle.histar_container.specs.Tree.{Address, Reached, here, there, wanted, objects_at, same_steps, under}
 use Rattle.histar_container.proofs.Addresses.{same_is}
 use Rattle.histar_container.proofs.Reaching.{reached_under}
@@ -29,26 +27,24 @@ use Rattle.histar_layout.proofs.Members.{is_in}
 use Rattle.histar_syscall.specs.KernelModel.{state}
 use Rattle.histar_programs.specs.declared.roots.Home.{Home}
 use Rattle.histar_programs.specs.declared.caller.Caller.{Caller}
-use Rattle.histar_programs.specs.Caller.{home_at, child_home, caller_at, caller_by, caller_in, running_caller, labelled_caller, leads_to, is_linked, status_at}
+use Rattle.histar_programs.specs.Caller.{home_at, child_home, caller_by, caller_in, running_caller, labelled_caller, leads_to, is_linked, status_at}
 use Rattle.histar_programs.specs.Caller.{if_runs, write_category_in, read_category_in}
-use Rattle.histar_programs.specs.Start.{roots_of}
 use Rattle.histar_refinement.specs.Addresses.{Step, same_step, address_of, home_address}
 use Rattle.histar_refinement.specs.Addresses.Step.{Left, Listing, Status, Inside, Runner}
 use Rattle.histar_refinement.specs.Agrees.{bare, kind_bare}
 use Rattle.histar_refinement.specs.Asked.{AsksFor}
 use Rattle.histar_refinement.specs.Asked.AsksFor.{AtRoot, AtLeft, AtFile, AtDirectory, AtListing, AtHome, AtStatus, AtInside, AtRunner}
-use Rattle.histar_refinement.specs.Categories.{CategoryName, Categories}
+use Rattle.histar_refinement.specs.Categories.{Categories}
 use Rattle.histar_refinement.specs.Categories.CategoryName.{OfJob, WritesProcess, ReadsProcess}
 use Rattle.histar_refinement.specs.Guards.{guard_label, rights_label}
 use Rattle.histar_refinement.specs.Labels.{process_guard, inside_guard, thread_rights}
-use Rattle.histar_refinement.specs.Represents.{ObjectsMatch, Represents}
+use Rattle.histar_refinement.specs.Represents.{ObjectsMatch}
 use Rattle.histar_refinement.proofs.Agreeing.{home_found}
 use Rattle.histar_refinement.proofs.Roots.{same_home}
 use Rattle.histar_refinement.proofs.Steps.{step_tests_equality}
 use Rattle.histar_unwinding.specs.Sealed.{IsSealed}
 use Rattle.histar_unwinding.proofs.Moves.{or_case}
-use Rattle.histar_outside.specs.Search.{IsInsideCaller}
-use Rattle.histar_outside.specs.SealedJobs.{SealedSearch, JobsAreSealed, IsTaintedHome, JobLinesStayInside}
+use Rattle.histar_outside.specs.SealedJobs.{SealedSearch, JobsAreSealed, JobLinesStayInside}
 use Rattle.histar_outside.proofs.Searches.{found_there, at_container}
 use Rattle.histar_outside.proofs.AllPrograms.{attacks_keep_seals}
 

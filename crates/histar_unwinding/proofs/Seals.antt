@@ -1,5 +1,5 @@
 -- A seal stays where a thread makes a raw call that is tainted in the category, or neither is tainted in it nor owns it.
-use Rattle.std.proofs.Common.{◌≡◌, ◌≢◌, ℕ, ◌<◌, ◌≤◌, nat_eq, Bool, true, false, ◌||◌, ◌&&◌, not, List, ◌++◌, Option, None, Some, ◌⊎◌, inl, inr, take}
+use Rattle.std.proofs.Common.{◌≡◌, ◌≢◌, ℕ, ◌<◌, ◌≤◌, nat_eq, true, not, ◌++◌, None, Some, ◌⊎◌, inl, inr, take}
 use Rattle.std.proofs.Common.{arith, refl, sym, ap, ◌∙◌, subst}
 use Rattle.std.specs.Prelude.{option_map}
 use Rattle.std.specs.FinSet as set
@@ -13,7 +13,7 @@ use Rattle.histar_object.specs.declared.objects.Kind.TheVariants.{Segment, Conta
 use Rattle.histar_object.specs.declared.objects.Kind.TheVariants as gates
 use Rattle.histar_object.specs.declared.objects.Object.{Object}
 use Rattle.histar_object.specs.Objects.{Objects, put, changed_at, with_new, holding, linking, unlinking, thread_of}
-use Rattle.histar_object.specs.Objects.{links_in, kind_links, bytes_in, is_thread, is_present, is_container}
+use Rattle.histar_object.specs.Objects.{links_in, kind_links, bytes_in, is_thread, is_present}
 use Rattle.histar_object.specs.State.{State, Found, observes, with_object, with_own, with_segment_bytes}
 use Rattle.histar_container.specs.ObjectsModel.{CutsOff}
 use Rattle.histar_container.specs.Tree.{Reached, here, there, wanted as expected_at, objects_at}
@@ -21,12 +21,11 @@ use Rattle.histar_container.proofs.Links.{none_linked, linked_links, unlinked_li
 use Rattle.histar_container.proofs.TableMoves.{put_here, put_other, changed_here, changed_other, new_there, new_holder, new_other}
 use Rattle.histar_container.proofs.Trees.{kind_held_links, none_next, linked_there, reached_decided}
 use Rattle.histar_rules.specs.Rights.{kind_with_three_at, kind_with_clearance, with_star_at, with_label, with_clearance, with_changed, with_category}
-use Rattle.histar_rules.specs.declared.raw.Denied.{Denied}
 use Rattle.histar_rules.specs.declared.raw.Denied.TheVariants.{NoEntry}
 use Rattle.histar_rules.specs.declared.raw.RawCall.{RawCall}
 use Rattle.histar_rules.specs.declared.raw.RawCall.TheVariants.{MakeCategory, OwnLabel, SetLabel, SetClearance, MakeSegment, MakeContainer}
 use Rattle.histar_rules.specs.declared.raw.RawCall.TheVariants.{MakeThread, MakeGate, Enter, Read, Write, Unlink, LabelOf}
-use Rattle.histar_rules.specs.Rules.{no_thread, no_container, no_link, no_segment, no_gate, no_making, check, Changes, Leaves}
+use Rattle.histar_rules.specs.Rules.{no_thread, no_container, no_link, no_gate, no_making, check, Changes}
 use Rattle.histar_rules.specs.Sound.{root_number, IsSound}
 use Rattle.histar_rules.specs.Visible.{IsTaintedCaller}
 use Rattle.histar_rules.proofs.Passing.{unless_none, first, rest, caller_is, container_is}
