@@ -115,7 +115,8 @@ module _ (s : State) where
       let outer =
       and_parts (is_linked s home.container internal && is_linked s internal thread) (is_thread (s.objects thread)) is.0 in
       let both = and_parts (is_linked s home.container internal) (is_linked s internal thread) outer.0 in
-      subst (Reached s.objects d) (same_thread home internal thread caller is.1) (there internal thread (there home.container internal r both.0) both.1)
+      subst (Reached s.objects d) (same_thread home internal thread caller is.1)
+      (there internal thread (there home.container internal r both.0) both.1)
 
   found_reached : (d : ℕ) (home : Home) (caller : Caller) → Reached s.objects d home.container → caller_in s home ≡ Some caller
       → Reached s.objects d caller.thread
@@ -210,7 +211,8 @@ module _ (accounts : Accounts) (v : ℕ) (s : State) (f : Flat) (l : ObjectsMatc
   module _ (p : Process) (at_me : f.processes me ≡ Some p) (of_one : IsOfOne l.category v p.chain) where
     same_process : (q : ProcName) (x : Process) → me ≡ q → f.processes q ≡ Some x → IsOfOne l.category v x.chain
     same_process q x same is =
-        let one : Some p ≡ Some x = sym at_me ∙ ap f.processes same ∙ is in subst (λ (y : Process). IsOfOne l.category v y.chain) (same_Some p x one) of_one
+        let one : Some p ≡ Some x = sym at_me ∙ ap f.processes same ∙ is in
+        subst (λ (y : Process). IsOfOne l.category v y.chain) (same_Some p x one) of_one
 
     of_job : (q : ProcName) (x : Process) → f.processes q ≡ Some x → under same_step (home_address me) (home_address q) ≡ true
         → IsOfOne l.category v x.chain
@@ -220,7 +222,8 @@ module _ (accounts : Accounts) (v : ℕ) (s : State) (f : Flat) (l : ObjectsMatc
     ]
     of_job (n ∷ q) x is u =
         elim (or_case (same_steps same_step (home_address me) (home_address (n ∷ q))) (under same_step (home_address me) (home_address q)) u) [
-          | inl h ↦ same_process (n ∷ q) x (same_home me (n ∷ q) (same_is same_step step_tests_equality (home_address me) (home_address (n ∷ q)) h)) is
+          | inl h ↦ same_process (n ∷ q) x (same_home me (n ∷ q) (same_is same_step step_tests_equality (home_address me) (home_address (n ∷ q)) h))
+              is
           | inr h ↦
               let above = family n q x is in
               subst (IsOfOne l.category v) (sym above.3) (one_more l.category v above.0.chain above.2 (of_job q above.0 above.1 h))
@@ -244,7 +247,8 @@ module _ (accounts : Accounts) (v : ℕ) (s : State) (f : Flat) (l : ObjectsMatc
         at_guarded (l.category (ReadsProcess q) ∷ map l.category (map OfJob x.chain)) (l.category (WritesProcess q) ∷ []) v
         ∙ three_level _ _ (or_right (v == l.category (ReadsProcess q)) (is_in (map l.category (map OfJob x.chain)) v) of) (not_written q)
 
-    runner_three : (q : ProcName) (x : Process) → IsOfOne l.category v x.chain → level_of (rights_label l.category (thread_rights accounts q x)) v ≡ L3
+    runner_three : (q : ProcName) (x : Process) → IsOfOne l.category v x.chain
+        → level_of (rights_label l.category (thread_rights accounts q x)) v ≡ L3
     runner_three q x of =
         at_owning (map l.category (thread_rights accounts q x).owned) (map l.category (map OfJob x.chain)) v
         ∙ ap (owning_level (is_in (map l.category (thread_rights accounts q x).owned) v)) of
@@ -265,7 +269,8 @@ module _ (accounts : Accounts) (v : ℕ) (s : State) (f : Flat) (l : ObjectsMatc
     module _ (d : ℕ) (at_home : l.naming.number (home_address me) ≡ Some d) where
       given_number : d < s.next_object
       given_number = elim (leb_tells s.next_object d) [
-        | inl h ↦ let no : None ≡ Some (home_address me) = sym (l.agrees.tree.unused d h.1) ∙ l.agrees.tree.addressed (home_address me) d at_home in cc
+        | inl h ↦ let no : None ≡ Some (home_address me) = sym (l.agrees.tree.unused d h.1)
+            ∙ l.agrees.tree.addressed (home_address me) d at_home in cc
         | inr h ↦ h.1
       ]
 
@@ -290,7 +295,8 @@ jobs_sealed accounts v s f me home rep family at tainted =
     let label : guard_label l.category (process_guard me p) ≡ tainted.0.label =
     ap (λ (x : Object Levels). x.label) (same_Some _ tainted.0 (sym object.1 ∙ tainted.1)) in
     let level : guarded_level (is_in (map l.category (map OfJob p.chain)) v) (is_in (l.category (WritesProcess me) ∷ []) v) ≡ L3 =
-    sym (at_guarded (map l.category (map OfJob p.chain)) (l.category (WritesProcess me) ∷ []) v) ∙ ap (λ (L : Levels). level_of L v) label ∙ tainted.2 in
+    sym (at_guarded (map l.category (map OfJob p.chain)) (l.category (WritesProcess me) ∷ []) v) ∙ ap (λ (L : Levels). level_of L v) label
+    ∙ tainted.2 in
     let of_one = secret_three (is_in (map l.category (map OfJob p.chain)) v) (is_in (l.category (WritesProcess me) ∷ []) v) level in
     record {
       given = given_number accounts v s f l family me p there_is.1 of_one home.container number;

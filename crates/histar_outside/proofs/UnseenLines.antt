@@ -103,7 +103,8 @@ module _ (accounts : Accounts) (v : ℕ) where
       → Unseen m mid f
   raw_step m mid clean f t call alike caller step =
       let called = step.made.1 in
-      let now = unseen v (state m.kernel) (state clean.kernel) (state mid.kernel) t call step.made.0 alike.alike alike.closed caller called.outcome called.state in
+      let now = unseen v (state m.kernel) (state clean.kernel) (state mid.kernel)
+      t call step.made.0 alike.alike alike.closed caller called.outcome called.state in
       let rep = alike.shows.represents in
       let fit = rep.matched.numbered in
       let same = alike.alike.next_object in

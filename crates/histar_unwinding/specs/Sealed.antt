@@ -19,10 +19,13 @@ pub record IsSealed (s : State) (v d : ℕ) : Type 0 where
 
 -- the object at t, if one is there, neither is tainted in v nor owns v
 abbrev pub IsPlainCaller : State → ℕ → ℕ → Type 0
-IsPlainCaller s v t = (o : Object Levels) → s.objects t ≡ Some o → (level_of o.label v ≢ L3) × (level_of o.label v ≢ Star)
+IsPlainCaller s v t = (o : Object Levels) → s.objects t ≡ Some o → (level_of o.label v ≢ L3)
+    × (level_of o.label v ≢ Star)
 
--- A seal stays, whatever raw call a thread makes, granted or denied, that is tainted in v, or that neither is tainted in v nor owns v.
+-- A seal stays, whatever raw call a thread makes, granted or denied, that is tainted in v, or that neither is tainted
+-- in v nor owns v.
 abbrev pub SealsStay : Type 0
 SealsStay = (v d : ℕ) (s new : State) (t : ℕ) (call : RawCall) (denied : Option Denied) → IsSound s → IsClosed s v
-    → IsTaintedCaller s v t ⊎ IsPlainCaller s v t → IsSealed s v d → check s t call ≡ denied → Leaves denied s t call new
+    → IsTaintedCaller s v t ⊎ IsPlainCaller s v t → IsSealed s v d → check s t call ≡ denied
+    → Leaves denied s t call new
     → IsSealed new v d
