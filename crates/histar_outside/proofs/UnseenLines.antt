@@ -97,56 +97,55 @@ module _ (accounts : Accounts) (v : ℕ) where
     pub seals : (d : ℕ) → IsSealed (state m.kernel) v d → IsSealed (state mid.kernel) v d
     pub threads : (t : ℕ) → IsTaintedCaller (state m.kernel) v t → IsTaintedCaller (state mid.kernel) v t
 
-  -- after a raw call of a tainted thread the clean machine has the new counters, and nothing else has changed
-  pub raw_step : (m mid clean : MachineModel) (f : Flat) (t : ℕ) (call : RawCall) → AreAlikeMachines accounts v m clean f
-      → IsTaintedCaller (state m.kernel) v t → IsRawStep m mid t call
-      → Unseen m mid f
-  raw_step m mid clean f t call alike caller step =
-      let called = step.made.1 in
-      let now = unseen v (state m.kernel) (state clean.kernel) (state mid.kernel)
-      t call step.made.0 alike.alike alike.closed caller called.outcome called.state in
-      let rep = alike.shows.represents in
-      let fit = rep.matched.numbered in
-      let same = alike.alike.next_object in
-      let grown = counts (state m.kernel) t call step.made.0 (state mid.kernel) (omega (arith, fit, same)) called.outcome called.state in
-      let categories = alike.alike.next_category in
-      record {
-        after = record {
-          kernel = record {
-            kept = record {
-              objects = clean.kernel.kept.objects;
-              next_object = (state mid.kernel).next_object;
-              next_category = (state mid.kernel).next_category;
+  module _ (m mid clean : MachineModel) (f : Flat) (alike : AreAlikeMachines accounts v m clean f) where
+    -- after a raw call of a tainted thread the clean machine has the new counters, and nothing else has changed
+    pub raw_step : (t : ℕ) (call : RawCall) → IsTaintedCaller (state m.kernel) v t → IsRawStep m mid t call → Unseen m mid f
+    raw_step t call caller step =
+        let called = step.made.1 in
+        let now = unseen v (state m.kernel) (state clean.kernel) (state mid.kernel) t call
+        step.made.0 alike.alike alike.closed caller called.outcome called.state in
+        let rep = alike.shows.represents in
+        let fit = rep.matched.numbered in
+        let same = alike.alike.next_object in
+        let grown = counts (state m.kernel) t call step.made.0 (state mid.kernel) (omega (arith, fit, same)) called.outcome called.state in
+        let categories = alike.alike.next_category in
+        record {
+          after = record {
+            kernel = record {
+              kept = record {
+                objects = clean.kernel.kept.objects;
+                next_object = (state mid.kernel).next_object;
+                next_category = (state mid.kernel).next_category;
+              };
+              line = clean.kernel.line;
+              trace = clean.kernel.trace;
             };
-            line = clean.kernel.line;
-            trace = clean.kernel.trace;
+            roots = clean.roots;
+            users = clean.users;
+            is_stopped = clean.is_stopped;
           };
-          roots = clean.roots;
-          users = clean.users;
-          is_stopped = clean.is_stopped;
-        };
-        alike = record {
-          alike = now.0;
-          closed = now.1;
-          shows = record {
-            declared = alike.shows.declared;
-            users = alike.shows.users;
-            roots = alike.shows.roots;
-            represents = counters_rise accounts (state clean.kernel) f (state mid.kernel).next_object (state mid.kernel).next_category rep
-                (omega (arith, grown.more, same)) grown.fits_too (omega (arith, grown.later, categories));
-            first = alike.shows.first;
-            small = alike.shows.small;
-            shallow = alike.shows.shallow;
+          alike = record {
+            alike = now.0;
+            closed = now.1;
+            shows = record {
+              declared = alike.shows.declared;
+              users = alike.shows.users;
+              roots = alike.shows.roots;
+              represents = counters_rise accounts (state clean.kernel) f (state mid.kernel).next_object (state mid.kernel).next_category rep
+                  (omega (arith, grown.more, same)) grown.fits_too (omega (arith, grown.later, categories));
+              first = alike.shows.first;
+              small = alike.shows.small;
+              shallow = alike.shows.shallow;
+            };
+            roots = step.roots ∙ alike.roots;
+            users = step.users ∙ alike.users;
+            runs = alike.runs;
           };
-          roots = step.roots ∙ alike.roots;
-          users = step.users ∙ alike.users;
-          runs = alike.runs;
-        };
-        seals = λ d sealed. seals_stay v d (state m.kernel) (state mid.kernel) t call step.made.0 alike.alike.sound alike.closed (inl caller) sealed
-            called.outcome called.state;
-        threads = tainted_after v (state m.kernel) (state mid.kernel) t alike.alike.sound alike.closed caller call step.made.0 called.outcome
-            called.state;
-      }
+          seals = λ d sealed. seals_stay v d (state m.kernel) (state mid.kernel) t call step.made.0 alike.alike.sound alike.closed (inl caller) sealed
+              called.outcome called.state;
+          threads = tainted_after v (state m.kernel) (state mid.kernel) t alike.alike.sound alike.closed caller call step.made.0 called.outcome
+              called.state;
+        }
 
   module _ (roots : Roots) (users : Accounts) (t : ℕ) (reply : Reply) (f : Flat) where
     -- a machine that runs with this kernel
@@ -181,7 +180,7 @@ module _ (accounts : Accounts) (v : ℕ) where
         → IsTaintedCaller (state old) v t → Completes program old new t reply → Unseen (with_kernel old) (with_kernel new) f
     inside_run (Answers said) old new clean alike caller made = stays old new clean alike made.0.state
     inside_run (Asks call next) old new clean alike caller made =
-        let step = raw_step (with_kernel old) (with_kernel made.0) clean f t call alike caller (asked_step call made.1 old made.0 made.2) in
+        let step = raw_step (with_kernel old) (with_kernel made.0) clean f alike t call caller (asked_step call made.1 old made.0 made.2) in
         let more = inside_run (next made.1) made.0 new step.after step.alike (step.threads t caller) made.3 in
         record {
           after = more.after;
