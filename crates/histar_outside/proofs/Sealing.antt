@@ -1,6 +1,6 @@
 -- A job is sealed: what is found below one of its processes is inside, and all that hangs below the container of a process is of its jobs.
 use Rattle.std.proofs.Common.{◌≡◌, ℕ, ◌<◌, ◌==◌, Bool, true, false, ◌||◌, List, [], ◌∷◌, ◌++◌, map, Option, None, Some, inl, inr}
-use Rattle.std.proofs.Common.{refl, sym, ap, ◌∙◌, subst, if◌then◌else◌}
+use Rattle.std.proofs.Common.{length, refl, sym, ap, ◌∙◌, subst, if◌then◌else◌}
 use Rattle.std.specs.Prelude.{◌&&◌, option_and_then}
 use mathlib.Core.Bool.{true≢false, false≢true}
 use Rattle.std.proofs.lemmas.Bool.{and_parts, or_left, or_right}
@@ -29,6 +29,7 @@ use Rattle.histar_programs.specs.declared.roots.Home.{Home}
 use Rattle.histar_programs.specs.declared.caller.Caller.{Caller}
 use Rattle.histar_programs.specs.Caller.{home_at, child_home, caller_by, caller_in, running_caller, labelled_caller, leads_to, is_linked, status_at}
 use Rattle.histar_programs.specs.Caller.{if_runs, write_category_in, read_category_in}
+use Rattle.histar_programs.specs.Start.{roots_of}
 use Rattle.histar_refinement.specs.Addresses.{Step, same_step, address_of, home_address}
 use Rattle.histar_refinement.specs.Addresses.Step.{Left, Listing, Status, Inside, Runner}
 use Rattle.histar_refinement.specs.Agrees.{bare, kind_bare}
@@ -44,6 +45,7 @@ use Rattle.histar_refinement.proofs.Roots.{same_home}
 use Rattle.histar_refinement.proofs.Steps.{step_tests_equality}
 use Rattle.histar_unwinding.specs.Sealed.{IsSealed}
 use Rattle.histar_unwinding.proofs.Moves.{or_case}
+use Rattle.histar_outside.specs.Search.{IsInsideCaller}
 use Rattle.histar_outside.specs.SealedJobs.{SealedSearch, JobsAreSealed, JobLinesStayInside}
 use Rattle.histar_outside.proofs.Searches.{found_there, at_container}
 use Rattle.histar_outside.proofs.AllPrograms.{attacks_keep_seals}
@@ -303,11 +305,31 @@ jobs_sealed accounts v s f me home rep family at tainted =
       tainted = below_three accounts v s f l family me p there_is.1 of_one home.container number;
     }
 
+-- where a process is not found, none below it is
+none_below : (s : State) (first : Home) (me : ProcName) → home_at s first me ≡ None → (below : ProcName) → home_at s first (below ++ me) ≡ None
+none_below s first me none [] = none
+none_below s first me none (n ∷ below) = ap (option_and_then (λ (up : Home). child_home s up n)) (none_below s first me none below)
+
 pub lines_stay_inside : JobLinesStayInside
-lines_stay_inside accounts v m end f lines job home now later alike family made at tainted at_end same below =
-    let roots = ap (λ r. r.home) alike.shows.roots in
-    let sealed =
-    jobs_sealed accounts v (state m.kernel) f job home alike.shows.represents family
-    (subst (λ (h : Home). home_at (state m.kernel) h job ≡ Some home) roots at) tainted in
-    let still = attacks_keep_seals accounts v home.container m m end f lines later alike made sealed in
-    sealed_search (state end.kernel) v end.roots.home job now at_end (subst (IsSealed (state end.kernel) v) (sym same) still) below
+lines_stay_inside accounts v m end f lines job home later alike family made at tainted same below =
+    by (home_at (state end.kernel) end.roots.home job) refl
+  where
+    roots : m.roots.home ≡ (roots_of (length accounts.users)).home
+    roots = ap (λ r. r.home) alike.shows.roots
+
+    sealed : IsSealed (state m.kernel) v home.container
+    sealed =
+        jobs_sealed accounts v (state m.kernel) f job home alike.shows.represents family
+        (subst (λ (h : Home). home_at (state m.kernel) h job ≡ Some home) roots at) tainted
+
+    still : IsSealed (state end.kernel) v home.container
+    still = attacks_keep_seals accounts v home.container m m end f lines later alike made sealed
+
+    by : (o : Option Home) → home_at (state end.kernel) end.roots.home job ≡ o
+        → IsInsideCaller (state end.kernel) v end.roots.home (below ++ job)
+    by None lost caller found =
+        let none = ap (option_and_then (caller_in (state end.kernel))) (none_below (state end.kernel) end.roots.home job lost below) in
+        let no : None ≡ Some caller = sym none ∙ found in cc
+    by (Some now) is caller found =
+        sealed_search (state end.kernel) v end.roots.home job now is
+        (subst (IsSealed (state end.kernel) v) (sym (same now is)) still) below caller found

@@ -45,12 +45,12 @@ JobsAreSealed = (accounts : Accounts) (v : ℕ) (s : State) (f : Flat) (me : Pro
     → IsSealed s v home.container
 
 -- A job's Unix lines stay inside: where the container of a process was tainted in v at the start of an attack, and the
--- process is found in the same container at the end, each process that is found at its name or below it is inside,
--- whatever bytes were forged.
+-- process is found in the same container at the end, if it is found, each process that is found at its name or below it
+-- is inside, whatever bytes were forged.
 abbrev pub JobLinesStayInside : Type 0
 JobLinesStayInside = (accounts : Accounts) (v : ℕ) (m end : MachineModel) (f : Flat) (lines : List MixedLine)
-    (job : ProcName) (home now : Home)
+    (job : ProcName) (home : Home)
     → 6 + 2 * declared accounts ≤ v → AreAlikeMachines accounts v m m f → IsFamily f → MakesAttack v m lines end
     → home_at (state m.kernel) m.roots.home job ≡ Some home → IsTaintedHome (state m.kernel) v home
-    → home_at (state end.kernel) end.roots.home job ≡ Some now → now.container ≡ home.container
+    → ((now : Home) → home_at (state end.kernel) end.roots.home job ≡ Some now → now.container ≡ home.container)
     → (below : ProcName) → IsInsideCaller (state end.kernel) v end.roots.home (below ++ job)
