@@ -30,7 +30,8 @@ use Rattle.histar_refinement.specs.Represents.{Represents}
 use Rattle.histar_refinement.specs.KeptNames.{RepresentsStill}
 use Rattle.histar_refinement.proofs.KeepingNames.{still_represents}
 use Rattle.histar_refinement.specs.Lines.{IsThreadOf}
-use Rattle.histar_sim.specs.Simulation.{IsRunning, IsReady, errno_by_rule, IsReplyOfDenial, EndsWithRead, IsLine, IsUnanswered, IsBrokenOff, FollowsRule}
+use Rattle.histar_sim.specs.Simulation.{IsRunning, IsReady, errno_by_rule, IsReplyOfDenial, EndsWithRead, IsLine, IsUnanswered}
+use Rattle.histar_sim.specs.Simulation.{IsBrokenOff, FollowsRule}
 use Rattle.histar_sim.specs.Reads.{HasReads}
 use Rattle.histar_sim.proofs.ReadsByCall.{HasReadsByCall, reads_due}
 use Rattle.histar_sim.proofs.Chains.{Step, all_granted, entries_of, Chain, chain_run, chain_own, all_restoring}
@@ -298,4 +299,5 @@ module _ (accounts : Accounts) (f : Flat) (me : ProcName) (caller : IsRunning f 
         → (errno : Errno) → errno_by_rule denied ≡ Some errno → refused accounts f me caller.process call ≡ Some errno
         → ReadsAmong (all_granted calls ++ (last, Some denied) ∷ []) (Refused errno)
         → Follows (Ok (Refused errno))
-    refused_refined calls last denied chain errno revealed is reads = given_back_refined calls last denied [] tt chain errno revealed is reads unchanged
+    refused_refined calls last denied chain errno revealed is reads =
+        given_back_refined calls last denied [] tt chain errno revealed is reads unchanged

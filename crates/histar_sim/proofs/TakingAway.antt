@@ -245,7 +245,8 @@ module _ (accounts : Accounts) (ok : AreAccounts accounts) (old new : KernelMode
           (state cut) cuts sees may
           (map.remove entries m) (listable_remove entries m (ready.represents.matched.listable d is_dir_here))
 
-      matched_after : RepresentsStill ready.represents (with_segment_bytes (state cut) listing (spelling (map.remove entries m))) (without_below f (m ∷ d))
+      matched_after : RepresentsStill ready.represents (with_segment_bytes (state cut) listing (spelling (map.remove entries m)))
+          (without_below f (m ∷ d))
       matched_after =
           still_removed accounts (state old) f ready.represents.matched m d container listing o at_D at_N at_O
           (state cut) cuts ready.represents.jobs_given is_dir_here
