@@ -1,7 +1,7 @@
 -- How each process that is trusted with a file tells what is in it, and to whom; how each login reads it; and how each changer changes what is
 -- at a path: the text of a flat state. Each line is a comment, a call, or `#= ` and the reply to the call before it.
-use Rattle.std.specs.Prelude.{◌≡◌, ℕ, ◌+◌, ◌-◌, Bool, true, false, not, ◌&&◌, ◌||◌, nat_le, nat_lt, List, [], ◌∷◌, ◌++◌, length, Option, None, Some, is_some}
-use Rattle.std.specs.Prelude.{codes, filter, map, if◌then◌else◌}
+use Rattle.std.specs.Prelude.{ℕ, ◌+◌, ◌-◌, Bool, false, not, ◌&&◌, ◌||◌, nat_le, nat_lt, List, [], ◌∷◌, ◌++◌, length, Option, None, Some, is_some}
+use Rattle.std.specs.Prelude.{codes, if◌then◌else◌}
 use Rattle.std.specs.List.{flat_map}
 use Rattle.std.specs.Fmt.{decimal}
 use Rattle.histar_base.specs.Paths.{same}
@@ -10,7 +10,7 @@ use Rattle.histar_flat.specs.declared.calls.User.{User}
 use Rattle.histar_flat.specs.declared.calls.UnixCall.{UnixCall}
 use Rattle.histar_flat.specs.declared.calls.UnixCall.TheVariants.{Exit, Login, Mkdir, Read, Rmtree, Status, Write}
 use Rattle.histar_flat.specs.declared.replies.Reply.{Reply}
-use Rattle.histar_flat.specs.Words.{Name, Password, Path, ProcName, most_names}
+use Rattle.histar_flat.specs.Words.{Name, Path, ProcName, most_names}
 use Rattle.histar_flat.specs.Accounts.{Accounts}
 use Rattle.histar_flat.specs.Files.{get}
 use Rattle.histar_flat.specs.Classes.{Process, is_free, sees}
