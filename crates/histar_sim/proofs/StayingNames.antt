@@ -112,7 +112,8 @@ module _ {accounts : Accounts} {s t u : State} {f h : Flat} (asked : CallLine) (
   abbrev g : Flat
   g = flat_after accounts f asked.process asked.call
 
-  returns_then : (c : CategoryName) → IsUsed accounts f c → IsUsed accounts h c → (new.category c ≡ old.category c) ⊎ (s.next_category ≤ new.category c)
+  returns_then : (c : CategoryName) → IsUsed accounts f c → IsUsed accounts h c
+      → (new.category c ≡ old.category c) ⊎ (s.next_category ≤ new.category c)
   returns_then c before after = by (nat_le s.next_category (new.category c)) (nat_eq (new.category c) (old.category c)) refl refl
     where
       by : (is_late is_same : Bool) → nat_le s.next_category (new.category c) ≡ is_late → nat_eq (new.category c) (old.category c) ≡ is_same
