@@ -85,7 +85,7 @@ pub(crate) fn check<'a>() -> Form<'a>
 prints
   same
 
-With --why what each run prints there stands behind a difference, the run with the job first:
+--why adds what each run prints there; the run with the job comes first:
   line 14: ok j/ | ok
 
 With --all the one word is FILE, and each job that the script starts has a line:
@@ -167,7 +167,7 @@ pub(crate) fn trust<'a>() -> Form<'a>
 {
     Form {
         name: "trust",
-        about: "Run a script and print on whom it depends that what is at a path stays secret, and as it is",
+        about: "Run a script and print which processes could leak or change what is at a path",
         after_help: "After what is at PATH comes a line for each running process and for each user:
   trusted PROC USER    it may read the file, and may hand on what it read
   confined PROC USER   it may read the file, and what it writes only those read who may read the file

@@ -23,13 +23,13 @@ is_rmdir_or_wrap (Rmdir q) = true
 is_rmdir_or_wrap (Wrap q) = true
 is_rmdir_or_wrap _ = false
 
--- the process that started the job calls neither of these two
-abbrev pub is_quiet : ProcName → List RepliedCall → Bool
-is_quiet job = list_all (λ (a : RepliedCall). not (same (parent job) a.call.process && is_rmdir_or_wrap a.call.call))
-
 -- the process that started the job calls one of these two
 abbrev pub may_reveal : ProcName → RepliedCall → Bool
 may_reveal job a = same (parent job) a.call.process && is_rmdir_or_wrap a.call.call
+
+-- it calls neither of them
+abbrev pub is_quiet : ProcName → List RepliedCall → Bool
+is_quiet job = list_all (λ (a : RepliedCall). not (may_reveal job a))
 
 -- such calls after the one that started the job, with their replies
 abbrev pub revealing : ProcName → List RepliedCall → List RepliedCall

@@ -71,7 +71,8 @@ pub read_replies : (place : Place) (rest : Directory → Program)
 unfolding read_directory
 read_replies place rest obeys = ((λ bytes listed. by listed), denial_of_call_has_reply (Read place.container place.listing))
   where
-    by : (listed : Option Entries) → RepliesToRefusals (if_there ENOTDIR (λ (entries : Entries). rest (record { place = place; entries = entries })) listed)
+    by : (listed : Option Entries)
+        → RepliesToRefusals (if_there ENOTDIR (λ (entries : Entries). rest (record { place = place; entries = entries })) listed)
     by None = (refl, refl)
     by (Some entries) = obeys (record { place = place; entries = entries })
 

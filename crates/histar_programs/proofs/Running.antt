@@ -91,7 +91,8 @@ module _ (t : ℕ) where
   unfolding RunsPart
   lists bytes k dir is = λ rest. listed bytes (if_there ENOTDIR rest) k (Some dir) is
 
-  pub lists_none : (bytes : List ℕ) (k : KernelModel) → ((dir : Entries) → IsDirectory bytes dir → ⊥) → RunsPart (list bytes) k k t (Err (Refused ENOTDIR))
+  pub lists_none : (bytes : List ℕ) (k : KernelModel) → ((dir : Entries) → IsDirectory bytes dir → ⊥)
+      → RunsPart (list bytes) k k t (Err (Refused ENOTDIR))
   unfolding RunsPart
   lists_none bytes k none = λ rest. listed bytes (if_there ENOTDIR rest) k None none
 

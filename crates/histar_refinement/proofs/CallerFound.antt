@@ -20,7 +20,8 @@ use Rattle.histar_layout.specs.Status.{ProcessStatus, child_at, status_in}
 use Rattle.histar_layout.proofs.Statuses.{status_again}
 use Rattle.histar_programs.specs.declared.roots.Home.{Home as Where}
 use Rattle.histar_programs.specs.declared.caller.Caller.{Caller}
-use Rattle.histar_programs.specs.Caller.{status_at, child_home, home_at, if_runs, is_linked, leads_to, labelled_caller, running_caller, caller_by, caller_at}
+use Rattle.histar_programs.specs.Caller.{status_at, child_home, home_at, if_runs, is_linked, leads_to, labelled_caller, running_caller}
+use Rattle.histar_programs.specs.Caller.{caller_by, caller_at}
 use Rattle.histar_programs.specs.Caller.{write_category_in, read_category_in}
 use Rattle.histar_programs.specs.Start.{roots_of}
 use Rattle.histar_refinement.specs.Categories.CategoryName.{ReadsProcess, WritesProcess}

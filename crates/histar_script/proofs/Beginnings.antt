@@ -27,7 +27,7 @@ abbrev with_ends : List (List ℕ) → List ℕ
 with_ends lines = flat_map (λ line. line ++ 10 ∷ []) lines
 
 -- a line ends at its line end
-line_back : (line rest : List ℕ) → IsOneLine line → lines_of (line ++ 10 ∷ rest) ≡ line ∷ lines_of rest
+pub line_back : (line rest : List ℕ) → IsOneLine line → lines_of (line ++ 10 ∷ rest) ≡ line ∷ lines_of rest
 unfolding lines_of
 line_back [] rest h = refl
 line_back (b ∷ bs) rest h =
@@ -58,7 +58,7 @@ plain_bytes [] h = refl
 plain_bytes (b ∷ bs) h = let p = and_parts (is_plain_byte b) (list_all is_plain_byte bs) h in rw (plain_is_no_end b p.0, plain_bytes bs p.1) refl
 
 -- a line that says something is one line
-said_is_one_line : (line : List ℕ) (i : Item) → Says line i → IsOneLine line
+pub said_is_one_line : (line : List ℕ) (i : Item) → Says line i → IsOneLine line
 unfolding is_plain
 said_is_one_line line i (inl h) = rw h.0 refl
 said_is_one_line line i (inr h) = plain_bytes line (and_parts (leb (length line) most_line_bytes) (list_all is_plain_byte line) h.0).1

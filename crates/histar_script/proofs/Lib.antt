@@ -21,3 +21,4 @@ pub mod Answered
 pub mod BadLines
 pub mod LeftOut
 pub mod Sinks
+pub mod MoreLines

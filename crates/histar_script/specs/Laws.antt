@@ -1,5 +1,6 @@
 -- What reading guarantees, whatever memory does: the grammar, and its first bad lines.
-use Rattle.std.specs.Prelude.{◌≡◌, ◌↔◌, ◌⊎◌, ℕ, Bool, false, Any, List, map, codes, Option, None, Some, Ok, Err, if◌then◌else◌}
+use Rattle.std.specs.Prelude.{◌≡◌, ◌↔◌, ◌⊎◌, ℕ, ◌+◌, Bool, false, IsTrue, Any, List, [], ◌∷◌, ◌++◌, length, map, codes, Option, None, Some, Ok, Err}
+use Rattle.std.specs.Prelude.{if◌then◌else◌}
 use Rattle.histar_flat.specs.declared.calls.UnixCall.{UnixCall}
 use Rattle.histar_flat.specs.Words.{ProcName}
 use Rattle.histar_flat.specs.PathOrder.{under_process}
@@ -7,10 +8,10 @@ use Rattle.histar_script.specs.declared.items.Item.{Item}
 use Rattle.histar_script.specs.declared.items.Item.TheVariants as items
 use Rattle.histar_script.specs.declared.fault.Fault.TheVariants.{BadScript}
 use Rattle.histar_script.specs.CallForms.{Value, CallForm, alone, one, two, call_forms}
-use Rattle.histar_script.specs.Script.{ScriptModel, without_job}
-use Rattle.histar_script.specs.Lines.{lines_of}
-use Rattle.histar_script.specs.Reading.{item_of, reading}
-use Rattle.histar_script.specs.Grammar.{IsScript, IsFirstBad}
+use Rattle.histar_script.specs.Script.{ScriptModel, is_declared_call, without_job}
+use Rattle.histar_script.specs.Lines.{is_too_long, lines_of}
+use Rattle.histar_script.specs.Reading.{item_of, reading, script_of}
+use Rattle.histar_script.specs.Grammar.{IsScript, IsFirstBad, Says}
 
 -- the form makes the call of some values of its arguments
 abbrev pub Makes : UnixCall → CallForm → Type 0
@@ -53,3 +54,15 @@ line_without job line = if is_job_item job (item_of line) then codes "#" else li
 -- a script in which each line of a job is made the comment `#` is the script without the job's calls
 abbrev pub CommentsLeaveOut : Type 0
 CommentsLeaveOut = (job : ProcName) (text other : List ℕ) (s : ScriptModel) → IsScript text s → lines_of other ≡ map (line_without job) (lines_of text) → IsScript other (without_job job s)
+
+-- the text has no line, or its last line has its end
+abbrev pub EndsItsLines : List ℕ → Type 0
+EndsItsLines text = (text ≡ []) ⊎ ((front : List ℕ) × (text ≡ front ++ 10 ∷ []))
+
+-- One more line: behind a script whose last line has its end, a line that says a call of no group that isn't declared adds this call, within
+-- the limits of a script.
+abbrev pub OneMoreLine : Type 0
+OneMoreLine = (text line : List ℕ) (s : ScriptModel) (p : ProcName) (call : UnixCall) → script_of text ≡ Ok s → EndsItsLines text
+    → Says line (items.Call p call) → IsTrue (is_declared_call s.accounts call) → is_too_long (text ++ (line ++ 10 ∷ [])) ≡ false
+    → script_of (text ++ (line ++ 10 ∷ []))
+    ≡ Ok (record { accounts = s.accounts; calls = s.calls ++ record { line = length (lines_of text) + 1; process = p; call = call } ∷ [] })

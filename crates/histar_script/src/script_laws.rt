@@ -1,6 +1,7 @@
 //! What reading a script means, whatever memory does. Each law is the contract of a function that does
 //! nothing.
 ghost use Rattle.histar_script.specs.Laws.{EachCallHasForm, ReadingIsGrammar, BadLineIsFirst, ScriptOrBadLine, OneReading, CommentsLeaveOut};
+ghost use Rattle.histar_script.specs.Laws.{OneMoreLine};
 
 /// Shows that each call has a form in the table of calls.
 pub fn each_call_has_a_form()
@@ -31,4 +32,9 @@ pub fn one_reading()
 /// calls.
 pub fn comments_leave_out()
     ensures { CommentsLeaveOut }
+{}
+
+/// Shows that a line which says a call adds this call behind a script, within the limits of scripts.
+pub fn one_more_line()
+    ensures { OneMoreLine }
 {}

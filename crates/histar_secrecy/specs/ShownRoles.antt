@@ -1,5 +1,5 @@
 -- Computed roles: the role of each process and user towards a file, and which are changers. Jobs are known by numbers.
-use Rattle.std.specs.Prelude.{◌≡◌, ℕ, Bool, true, false, ◌&&◌, ◌||◌, List, [], ◌∷◌, None, Option, Some, map, option_map, if◌then◌else◌}
+use Rattle.std.specs.Prelude.{◌≡◌, ℕ, Bool, true, false, ◌&&◌, ◌||◌, List, [], ◌∷◌, ◌++◌, None, Option, Some, map, if◌then◌else◌}
 use Rattle.std.specs.List.{list_all}
 use Rattle.histar_flat.specs.Words.{Name, Path, ProcName}
 use Rattle.histar_flat.specs.Accounts.{Group, Accounts}
@@ -107,15 +107,15 @@ module _ (number : ProcName → ℕ) where
   class_by_number (Scratch owner jobs) = Scratch owner (jobs_by_number jobs)
   class_by_number class = class
 
-  -- the node has this class
-  abbrev pub IsOfClass : Option Node → FileClass → Type 0
-  IsOfClass there class = option_map (λ (n : Node). class_by_number n.class) there ≡ Some (flat_class class)
+  -- the class of the node, if there is one
+  abbrev pub class_on : Option Node → List Class
+  class_on None = []
+  class_on (Some n) = class_by_number n.class ∷ []
 
-  -- these are the classes of what is at the path, and of each directory above it
-  abbrev pub AreClassesTo : Flat → Path → List FileClass → Type 0
-  AreClassesTo f path [] = ⊥
-  AreClassesTo f [] (c ∷ classes) = IsOfClass (get f.files []) c × (classes ≡ [])
-  AreClassesTo f (n ∷ d) (c ∷ classes) = IsOfClass (get f.files (n ∷ d)) c × AreClassesTo f d classes
+  -- the classes of what is at the path, and of each directory above it, of all of these that are there
+  abbrev pub classes_on : Flat → Path → List Class
+  classes_on f [] = class_on (get f.files [])
+  classes_on f (n ∷ d) = class_on (get f.files (n ∷ d)) ++ classes_on f d
 
   -- the process that is shown is this one of the state
   pub record IsShownProcess (f : Flat) (m : Member) (p : Process) : Type 0 where
@@ -127,14 +127,14 @@ module _ (number : ProcName → ℕ) where
   -- What is shown is that of the state: the role of each running process towards a file, if calls lead to the state, and whether it is a
   -- changer of what is at a path; and for each user, whether a login makes a reader or a changer.
   pub record ShowsAState (accounts : Accounts) (f : Flat) : Type 0 where
-    pub role : IsReached accounts f → (path : Path) (classes : List FileClass) → AreClassesTo f path classes
+    pub role : IsReached accounts f → (path : Path) (m : Member) (p : Process) → IsShownProcess f m p
+        → member_role accounts.groups (classes_on f path) m ≡ role_in accounts (way_to f path) f m.name
+    pub changer : (path : Path) (classes : List FileClass) → map flat_class classes ≡ classes_on f path
         → (m : Member) (p : Process) → IsShownProcess f m p
-        → member_role accounts.groups (map flat_class classes) m ≡ role_in accounts (way_to f path) f m.name
-    pub changer : (path : Path) (classes : List FileClass) → AreClassesTo f path classes → (m : Member) (p : Process) → IsShownProcess f m p
         → is_shown_changer accounts.groups classes m ≡ is_changer accounts f path m.name
-    pub reader_login : (path : Path) (classes : List FileClass) → AreClassesTo f path classes
-        → (user : Name) → is_login_reader accounts.groups (map flat_class classes) user ≡ reaches accounts f (logged_in user) path
-    pub changer_login : (path : Path) (classes : List FileClass) → AreClassesTo f path classes
+    pub reader_login : (path : Path) (user : Name)
+        → is_login_reader accounts.groups (classes_on f path) user ≡ reaches accounts f (logged_in user) path
+    pub changer_login : (path : Path) (classes : List FileClass) → map flat_class classes ≡ classes_on f path
         → (user : Name) → is_login_changer accounts.groups classes user ≡ may_change accounts f (logged_in user) path
 
 -- What is shown is that of each state, however the jobs are numbered.

@@ -185,7 +185,8 @@ module _ (accounts : Accounts) (me : ProcName) (caller : Caller) (old new : Kern
         granted_step accounts f me ready.caller call old new t ready.thread result [] old (same_kernel old) reads with_bytes read_said runs
         (λ later bytes called right longer goes.
         by_born (nat_lt p.born most_children) refl long later longer called.state
-        (subst (λ (o : Option ProcessStatus). Runs (if_there ESRCH with_status o) later new t result) (ap status_in right ∙ status_revealed) goes) go_on)
+        (subst (λ (o : Option ProcessStatus). Runs (if_there ESRCH with_status o) later new t result)
+        (ap status_in right ∙ status_revealed) goes) go_on)
 
     -- the name has 8 numbers, or there is room
     by_length : (b : Bool) → nat_lt (length me) most_numbers ≡ b

@@ -217,7 +217,8 @@ module _ (accounts : Accounts) (ok : AreAccounts accounts) (old new : KernelMode
           let reveals : status_in bytes ≡ Some (status name other) =
           ap status_in (right ∙ ap (λ (s : State). bytes_in (s.objects (place name).segment)) stays)
           ∙ revealed accounts (state old) f me t ready name other here in
-          go_on is later (called.state ∙ stays) longer (subst (λ (o : Option ProcessStatus). Runs (if_there ESRCH rest o) later new t result) reveals on))
+          go_on is later (called.state ∙ stays) longer
+          (subst (λ (o : Option ProcessStatus). Runs (if_there ESRCH rest o) later new t result) reveals on))
 
   -- from a process that was found on to a child of it
   module _ (n : ℕ) (above : ProcName) (rest : Home → ProcessStatus → Program) (refuses : Refuses (n ∷ above))

@@ -2,6 +2,7 @@
 pub mod Pieces
 pub mod Runners
 pub mod Places
+pub mod Descent
 pub mod ShownTrust
 pub mod ShownSecrets
 pub mod Runs

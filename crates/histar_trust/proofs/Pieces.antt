@@ -1,7 +1,7 @@
 -- Lists that are made item by item, and the classes on the way to a path.
 use Rattle.std.proofs.Common.{◌≡◌, ℕ, zero, suc, ◌+◌, ◌<◌, List, [], ◌∷◌, ◌++◌, Option, Some, None, Result, Ok, Err, take, length, get_or}
 use Rattle.std.proofs.Common.{arith, sym, ap, ◌∙◌, refl}
-use Rattle.std.specs.Prelude.{map, option_map, slice_get, IfOk}
+use Rattle.std.specs.Prelude.{Bool, true, false, not, is_ok, map, option_map, slice_get, if◌then◌else◌, IfOk, OnOk}
 use Rattle.std.specs.List.{cons_option, filter_map}
 use Rattle.std.proofs.lemmas.List.{map-append, take_more}
 use Rattle.std.proofs.lemmas.List.Elements.{filter_map-append}
@@ -48,3 +48,17 @@ names_more users i name new old e before pushed =
 pub made_so : {A E : Type 0} {P Q : A → Type 0} (r : Result A E) → ((x : A) → P x → Q x) → IfOk r P → IfOk r Q
 made_so (Ok x) so h = so x h
 made_so (Err e) so h = tt
+
+-- what holds of what was done holds if it was done
+pub done_so : {E : Type 0} (new one other : List ℕ) (r : Result (Unit {0}) E) → new ≡ (if is_ok r then one else other) → OnOk r (new ≡ one)
+done_so new one other (Ok u) h = h
+done_so new one other (Err e) h = tt
+
+-- if `not b` is true, b is false
+pub from_not : (b : Bool) → not b ≡ true → b ≡ false
+from_not true h = sym h
+from_not false h = refl
+
+pub from_not_false : (b : Bool) → not b ≡ false → b ≡ true
+from_not_false true h = refl
+from_not_false false h = sym h

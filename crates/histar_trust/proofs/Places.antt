@@ -1,11 +1,10 @@
 -- What a tree has at a path is what the flat state has there.
-use Rattle.std.specs.Prelude.{◌≡◌, ℕ, ◌&&◌, cond, List, [], ◌∷◌, ◌++◌, map, Option, None, Some, option_map, if◌then◌else◌, refl}
+use Rattle.std.specs.Prelude.{◌≡◌, ℕ, true, ◌&&◌, cond, List, [], ◌∷◌, ◌++◌, map, Option, None, Some, if◌then◌else◌, refl}
 use Rattle.std.proofs.Common.{ap, sym, ◌∙◌, subst, inl, inr}
 use Rattle.std.specs.FinMap.{find}
 use Rattle.std.specs.Ordering.{eq_by_cmp}
 use Rattle.histar_flat.specs.Words.{Path, ProcName}
 use Rattle.histar_base.specs.Paths.{path_cmp, same_path}
-use Rattle.histar_flat.specs.Accounts.{Accounts}
 use Rattle.histar_flat.specs.Files.{get}
 use Rattle.histar_flat.specs.Classes.{Class as FlatClass}
 use Rattle.histar_flat.specs.Classes.Class.{Private as FlatPrivate, Readable as FlatReadable, Open as FlatOpen, Scratch as FlatScratch}
@@ -17,12 +16,9 @@ use Rattle.histar_layout.specs.Listing.{is_directory}
 use Rattle.histar_refinement.specs.Categories.{Categories}
 use Rattle.histar_refinement.specs.Categories.CategoryName.{OfJob}
 use Rattle.histar_refinement.specs.NumberedClasses.{numbered_class}
-use Rattle.histar_refinement.specs.Represents.{ObjectsMatch}
-use Rattle.histar_refinement.proofs.LinesMatched.{node_there}
-use Rattle.histar_refinement.proofs.Agreeing.{parent_is_dir}
 use Rattle.histar_secrecy.specs.Ways.{way_to}
 use Rattle.histar_secrecy.specs.declared.file_class.FileClass.{FileClass}
-use Rattle.histar_secrecy.specs.ShownRoles.{AreClassesTo, IsOfClass, class_by_number, flat_class}
+use Rattle.histar_secrecy.specs.ShownRoles.{class_by_number, class_on, classes_on, flat_class}
 use Rattle.histar_secrecy.proofs.NumberedJobs.{in_two_steps}
 use Rattle.histar_readout.specs.declared.tree.TreeNode.{TreeNode}
 use Rattle.histar_readout.specs.TreeEntries.{TreeEntry, flat_entry, tree_entry}
@@ -50,12 +46,14 @@ same_everyone number FlatOpen = refl
 same_everyone number (FlatScratch owner jobs) = refl
 same_everyone number (FlatGrouped group) = refl
 
-everyone_there : (number : ProcName → ℕ) (o : Option Node) (class : FileClass) → IsOfClass number o class
-    → is_for_everyone (flat_class class) ≡ is_for_everyone (class_of o)
-everyone_there number None class e = absurd (cc)
-everyone_there number (Some n) class e =
-    let same_classes : class_by_number number n.class ≡ flat_class class = cc in
-    ap is_for_everyone (sym same_classes) ∙ same_everyone number n.class
+everyone_on : (number : ProcName → ℕ) (o : Option Node) (rest : List FlatClass)
+    → is_open_way (class_on number o ++ rest) ≡ (is_for_everyone (class_of o) && is_open_way rest)
+everyone_on number None rest = refl
+everyone_on number (Some n) rest = ap (λ b. b && is_open_way rest) (same_everyone number n.class)
+
+everyone_root : (number : ProcName → ℕ) (o : Option Node) → is_open_way (class_on number o) ≡ (is_for_everyone (class_of o) && true)
+everyone_root number None = refl
+everyone_root number (Some n) = ap (λ b. b && true) (same_everyone number n.class)
 
 -- the same of a list and of a way
 pub open_mapped : (classes : List FileClass) → are_for_everyone classes ≡ is_open_way (map flat_class classes)
@@ -63,12 +61,11 @@ open_mapped [] = refl
 open_mapped (c ∷ classes) = ap (λ b. is_for_everyone (flat_class c) && b) (open_mapped classes)
 
 -- the way is everyone's exactly if the classes that are shown are
-pub open_by_number : (number : ProcName → ℕ) (f : Flat) (path : Path) (classes : List FileClass) → AreClassesTo number f path classes
-    → is_open_way (map flat_class classes) ≡ is_open_way (way_to f path)
-open_by_number number f path [] h = absurd h
-open_by_number number f [] (c ∷ classes) h = λ i. everyone_there number (get f.files []) c h.0 i && is_open_way (map flat_class (h.1 i))
-open_by_number number f (n ∷ d) (c ∷ classes) h =
-    λ i. everyone_there number (get f.files (n ∷ d)) c h.0 i && open_by_number number f d classes h.1 i
+pub open_by_number : (number : ProcName → ℕ) (f : Flat) (path : Path) → is_open_way (classes_on number f path) ≡ is_open_way (way_to f path)
+open_by_number number f [] = everyone_root number (get f.files [])
+open_by_number number f (n ∷ d) =
+    everyone_on number (get f.files (n ∷ d)) (classes_on number f d)
+    ∙ ap (λ b. is_for_everyone (class_of (get f.files (n ∷ d))) && b) (open_by_number number f d)
 
 unfoldable pub first_of_list : {A : Type 0} → A → List A → A
 first_of_list x [] = x
@@ -123,42 +120,17 @@ module _ (s : State) (category : Categories) where
       subst (λ (p : Path). AreAlike q (if same_path q p then Some node else node_at q tree) (find path_cmp q (e ∷ es))) (sym path)
       (one_alike q node e (node_at q tree) (find path_cmp q es) path entry line rest)
 
-module _ (accounts : Accounts) (s : State) (f : Flat) (l : ObjectsMatch accounts s f) (tree : List TreeNode)
-    (each : (q : Path) → AreAlike s l.category q (node_at q tree) (get f.files q)) where
-  -- the tree has a node if the flat state has one
-  pub found_at : (q : Path) (there : Node) → get f.files q ≡ Some there → (node : TreeNode) × (node_at q tree ≡ Some node)
-      × IsAt s l.category q node there
-  found_at q there at = by (node_at q tree) refl (subst (AreAlike s l.category q (node_at q tree)) at (each q))
-    where
-      by : (o : Option TreeNode) → node_at q tree ≡ o → AreAlike s l.category q (node_at q tree) (Some there)
-          → (node : TreeNode) × (node_at q tree ≡ Some node) × IsAt s l.category q node there
-      by None e h = absurd (subst (λ (x : Option TreeNode). AreAlike s l.category q x (Some there)) e h)
-      by (Some node) e h = (node, e, subst (λ (x : Option TreeNode). AreAlike s l.category q x (Some there)) e h)
+  -- both have the same class there, or none
+  pub class_is : (q : Path) (found : Option TreeNode) (there : Option Node) → AreAlike q found there
+      → class_there found ≡ class_on (number_of category) there
+  class_is q None None h = refl
+  class_is q None (Some there) h = absurd h
+  class_is q (Some node) None h = absurd h
+  class_is q (Some node) (Some there) h = ap (λ c. class_flat c ∷ []) h.class ∙ ap (λ c. c ∷ []) (same_class category there.class)
 
-  class_is : (q : Path) (there : Node) → get f.files q ≡ Some there → class_there (node_at q tree)
-      ≡ class_by_number (number_of l.category) there.class ∷ []
-  class_is q there at =
-      let found = found_at q there at in
-      ap class_there found.1 ∙ ap (λ c. class_flat c ∷ []) found.2.class ∙ ap (λ c. c ∷ []) (same_class l.category there.class)
-
-  -- these are the classes of what is at a path and of the directories above it
-  pub classes_are : (q : Path) (there : Node) → get f.files q ≡ Some there → (classes : List FileClass) → map flat_class classes ≡ classes_to tree q
-      → AreClassesTo (number_of l.category) f q classes
-  unfolding first_of_list rest_of_list
-  classes_are [] there at [] same = absurd (let e : [] ≡ class_by_number (number_of l.category) there.class ∷ [] = same ∙ class_is [] there at in cc)
-  classes_are [] there at (c ∷ []) same =
-      let e : flat_class c ∷ [] ≡ class_by_number (number_of l.category) there.class ∷ [] = same ∙ class_is [] there at in
-      (ap (option_map (λ (n : Node). class_by_number (number_of l.category) n.class)) at ∙ ap Some (sym (ap (first_of_list (flat_class c)) e)), refl)
-  classes_are [] there at (c ∷ d ∷ classes) same =
-      absurd (let e : flat_class c ∷ flat_class d ∷ map flat_class classes ≡ class_by_number (number_of l.category) there.class ∷ [] = same
-      ∙ class_is [] there at in cc)
-  classes_are (n ∷ above) there at [] same =
-      absurd (let e : [] ≡ class_by_number (number_of l.category) there.class ∷ classes_to tree above = same
-      ∙ ap (λ cs. cs ++ classes_to tree above) (class_is (n ∷ above) there at) in cc)
-  classes_are (n ∷ above) there at (c ∷ classes) same =
-      let e : flat_class c ∷ map flat_class classes ≡ class_by_number (number_of l.category) there.class ∷ classes_to tree above = same
-      ∙ ap (λ cs. cs ++ classes_to tree above) (class_is (n ∷ above) there at) in
-      let parent = node_there (get f.files above) (parent_is_dir accounts s f l n above there at) in (
-        ap (option_map (λ (x : Node). class_by_number (number_of l.category) x.class)) at ∙ ap Some (sym (ap (first_of_list (flat_class c)) e)),
-        classes_are above parent.0 parent.1 classes (ap rest_of_list e),
-      )
+  -- so both have the same classes on the way to each path
+  pub classes_are : (f : Flat) (tree : List TreeNode) → ((q : Path) → AreAlike q (node_at q tree) (get f.files q)) → (q : Path)
+      → classes_to tree q ≡ classes_on (number_of category) f q
+  classes_are f tree each [] = class_is [] (node_at [] tree) (get f.files []) (each [])
+  classes_are f tree each (n ∷ d) =
+      λ i. class_is (n ∷ d) (node_at (n ∷ d) tree) (get f.files (n ∷ d)) (each (n ∷ d)) i ++ classes_are f tree each d i

@@ -1,19 +1,21 @@
 -- The lines on the files of a machine are those of the flat state that it represents.
-use Rattle.std.specs.Prelude.{◌≡◌, ℕ, Bool, true, false, not, ◌&&◌, List, [], ◌∷◌, ◌++◌, codes, filter, is_ok, map, OnOk, Some, if◌then◌else◌, refl}
-use Rattle.std.proofs.Common.{Result, Ok, Err, ap, ap₂, sym, ◌∙◌, append_assoc, append-nil}
-use Rattle.std.proofs.lemmas.Bool.{and_parts}
-use Rattle.std.proofs.lemmas.List.{map-append}
-use Rattle.std.proofs.lemmas.List.Concat.{flat_map-append}
+use Rattle.std.specs.Prelude.{◌≡◌, ℕ, ◌+◌, Bool, true, false, not, ◌&&◌, List, [], ◌∷◌, ◌++◌, Option, None, Some, codes, filter, is_some, length}
+use Rattle.std.specs.Prelude.{map, take, if◌then◌else◌, refl}
+use Rattle.std.proofs.Common.{ap, ap₂, sym, ◌∙◌, subst, append_assoc, append-nil, arith}
+use Rattle.std.proofs.Math.Seq.{take-append_seam}
+use Rattle.std.proofs.lemmas.Bool.{and_parts, true≢false}
+use Rattle.std.proofs.lemmas.List.{length-append}
+use Rattle.std.proofs.lemmas.List.Folds.{list_all-append}
 use Rattle.std.specs.FinMap.{find, is_sorted}
 use Rattle.std.specs.FinMap.Entries.{below_all}
-use Rattle.std.specs.List.{flat_map}
+use Rattle.std.specs.List.{flat_map, list_all}
 use Rattle.std.specs.Ordering.{is_lt}
 use Rattle.std.specs.declared.cmp.Ordering.TheVariants.{Less}
-use Rattle.histar_flat.specs.Words.{Path}
+use Rattle.histar_flat.specs.Words.{Path, ProcName}
 use Rattle.histar_base.specs.Paths.{path_cmp}
 use Rattle.histar_flat.specs.Accounts.{Accounts}
 use Rattle.histar_flat.specs.Files.{get}
-use Rattle.histar_flat.specs.Classes.{Class}
+use Rattle.histar_flat.specs.Classes.{Class, Process, is_free, may_read}
 use Rattle.histar_flat.specs.FlatState.{Flat, Node}
 use Rattle.histar_flat.specs.Texts.{path_text}
 use Rattle.histar_flat.proofs.Finding.{is_less}
@@ -23,25 +25,29 @@ use Rattle.histar_object.specs.State.{State}
 use Rattle.histar_syscall.specs.KernelModel.{state}
 use Rattle.histar_layout.specs.Listing.{is_directory}
 use Rattle.histar_layout.specs.UserTable.{without_passwords}
-use Rattle.histar_refinement.specs.Categories.{Categories}
-use Rattle.histar_secrecy.specs.declared.file_class.FileClass.{FileClass}
+use Rattle.histar_refinement.specs.Represents.{ObjectsMatch}
+use Rattle.histar_refinement.proofs.LinesMatched.{node_there}
+use Rattle.histar_refinement.proofs.Agreeing.{parent_is_dir}
 use Rattle.histar_secrecy.specs.declared.role.Member.{Member}
-use Rattle.histar_secrecy.specs.declared.role.Role.TheVariants.{Trusted, Confined}
+use Rattle.histar_secrecy.specs.declared.role.Role.{Role}
+use Rattle.histar_secrecy.specs.declared.role.Role.TheVariants.{Trusted, Confined, Outside}
+use Rattle.histar_secrecy.specs.Logins.{logged_in}
 use Rattle.histar_secrecy.specs.Ways.{way_to}
-use Rattle.histar_secrecy.specs.Roles.{is_confined, is_trusted}
-use Rattle.histar_secrecy.specs.ShownRoles.{AreClassesTo, flat_class, has_role}
+use Rattle.histar_secrecy.specs.Roles.{holding_none, is_confined, is_trusted}
+use Rattle.histar_secrecy.specs.ShownRoles.{class_on, classes_on, has_role, is_same_role, of_groups, role_of, with_rights, with_user}
 use Rattle.histar_readout.specs.declared.tree.TreeNode.{TreeNode}
 use Rattle.histar_readout.specs.TreeEntries.{TreeEntry, flat_entry, tree_entry}
 use Rattle.histar_readout.specs.TreeLines.{TreeLine, flat_line, line_at}
 use Rattle.histar_shell.specs.Ending.{IsTreeIn}
 use Rattle.histar_shell.specs.Machine.{MachineModel}
-use Rattle.histar_trust.specs.Findings.{AddsSecrets, AreMembers, ShowsReached, classes_to, shown_members, shown_runners}
-use Rattle.histar_trust.specs.Findings.{shown_secret, shown_secret_by}
+use Rattle.histar_trust.specs.Findings.{AreMembers, ShowsReached, names_of, next_way, shown_members, shown_runners, shown_secret}
+use Rattle.histar_trust.specs.Findings.{shown_secrets, those_of}
 use Rattle.histar_trust.specs.Secrets.{is_secret, members_text, process_mark, runners_line, secret_text, secrets_text, user_mark}
-use Rattle.histar_trust.proofs.Places.{IsAt, classes_are, first_of_list, number_of, open_by_number, rest_of_list}
+use Rattle.histar_trust.specs.TrustText.{is_for_everyone}
+use Rattle.histar_trust.proofs.Descent.{AreNext, IsNext, rooted}
+use Rattle.histar_trust.proofs.Places.{IsAt, class_is, first_of_list, number_of, open_by_number, rest_of_list}
 use Rattle.histar_trust.proofs.Runners.{AllOf, runners_shown}
-use Rattle.histar_trust.proofs.ShownTrust.{chosen, confined_same, each, members_are as all_members, is_so, own_tree, same_names, same_tree}
-use Rattle.histar_trust.proofs.ShownTrust.{trusted_same}
+use Rattle.histar_trust.proofs.ShownTrust.{chosen, confined_same, is_so, members_are as all_members, own_tree, same_names, same_tree, trusted_same}
 
 -- ---- entries
 
@@ -70,96 +76,103 @@ each_found (e ∷ es) h =
     let parts = and_parts (below_all path_cmp e.0 es) (is_sorted path_cmp es) h in
     (find_here e es, found_past e es es (all_above e.0 es parts.0) (each_found es parts.1))
 
--- ---- what was added
+-- ---- the order of the classes on a way
 
--- nothing was added
-pub adds_none : (users : Accounts) (members : List Member) (tree : List TreeNode) (text : List ℕ) → AddsSecrets users members tree [] text text
-adds_none users members tree text = record { ways = []; are = refl; added = sym (append-nil text) }
+-- each test holds of all classes of both lists, or of neither
+abbrev AreAlike : List Class → List Class → Type 0
+AreAlike way other = (test : Class → Bool) → list_all test way ≡ list_all test other
 
--- the text of one more node was added
-pub adds_more : {users : Accounts} {members : List Member} {tree done one all : List TreeNode} {old mid new : List ℕ} → all ≡ done ++ one
-    → AddsSecrets users members tree done old mid → AddsSecrets users members tree one mid new → AddsSecrets users members tree all old new
-adds_more {users} {members} {tree} {done} {one} {all} {old} is h k = rw is (record {
-  ways = h.ways ++ k.ways;
-  are =
-      map-append (map flat_class) h.ways k.ways ∙ ap₂ (λ (a b : List (List Class)). a ++ b) h.are k.are
-      ∙ sym (map-append (λ (node : TreeNode). classes_to tree node.path) done one);
-  added =
-      k.added ∙ ap (λ t. t ++ flat_map (shown_secret users members tree) one) h.added
-      ∙ append_assoc old (flat_map (shown_secret users members tree) done) (flat_map (shown_secret users members tree) one)
-      ∙ ap (λ t. old ++ t) (sym (flat_map-append (shown_secret users members tree) done one));
-})
+module _ (users : Accounts) (members : List Member) (way other : List Class) (alike : AreAlike way other) where
+  role_same : (p : Process) → role_of users.groups way p ≡ role_of users.groups other p
+  role_same p = λ i. if alike (may_read (of_groups users.groups) p) i then (if not (is_free p)
+      && alike (may_read (of_groups users.groups) (holding_none p)) i then Confined else Trusted) else Outside
 
--- the same was added for equal lists
-pub adds_as : {users others : Accounts} {members all : List Member} {tree nodes : List TreeNode}
-    {old older new : List ℕ} → others ≡ users → all ≡ members
-    → nodes ≡ tree → older ≡ old → AddsSecrets others all nodes nodes older new → AddsSecrets users members tree tree old new
-adds_as eu em et eo h = rw (← eu, ← em, ← et, ← eo) h
+  those_same : (role : Role) → those_of users members way role ≡ those_of users members other role
+  those_same role =
+      λ i. map with_user (filter (λ (m : Member). is_same_role role (role_same (with_rights m.user m.jobs.items m.held.items) i)) members)
 
--- the text of one node was added
-pub adds_one : {users : Accounts} {members : List Member} {tree : List TreeNode} {node : TreeNode} {old new : List ℕ} (classes : List FileClass)
-    → map flat_class classes ≡ classes_to tree node.path
-    → new ≡ old ++ shown_secret users members tree node → AddsSecrets users members tree (node ∷ []) old new
-adds_one {users} {members} {tree} {node} {old} classes of_node e = record {
-  ways = classes ∷ [];
-  are = ap (λ (c : List Class). c ∷ []) of_node;
-  added = e ∙ ap (λ t. old ++ t) (sym (append-nil (shown_secret users members tree node)));
-}
+  members_same : shown_members users members way ≡ shown_members users members other
+  members_same = λ i.
+      flat_map (process_mark (codes "trusted")) (those_same Trusted i)
+      ++ flat_map (process_mark (codes "confined")) (those_same Confined i)
+      ++ flat_map (user_mark (codes "login")) (filter (λ user. alike (may_read (of_groups users.groups) (logged_in user)) i) (names_of users))
 
--- a node that is no secret has no text
-pub none_shown : (users : Accounts) (members : List Member) (tree : List TreeNode) (node : TreeNode) (classes : List FileClass)
-    → map flat_class classes ≡ classes_to tree node.path
-    → is_secret (is_directory node.target) (map flat_class classes) ≡ false → shown_secret users members tree node ≡ []
-none_shown users members tree node classes of_node e =
-    ap (λ b. if b then path_text node.path ++ shown_members users members (classes_to tree node.path) ++ codes "\n" else [])
-    (ap (is_secret (is_directory node.target)) (sym of_node) ∙ e)
-
--- the text of a secret is its path and its members
-pub one_shown : (users : Accounts) (members : List Member) (tree : List TreeNode) (node : TreeNode) (classes : List FileClass)
-    → map flat_class classes ≡ classes_to tree node.path
-    → is_secret (is_directory node.target) (map flat_class classes) ≡ true
-    → shown_secret users members tree node ≡ path_text node.path ++ shown_members users members (map flat_class classes) ++ codes "\n"
-one_shown users members tree node classes of_node e =
-    ap (λ b. if b then path_text node.path ++ shown_members users members (classes_to tree node.path) ++ codes "\n" else [])
-    (ap (is_secret (is_directory node.target)) (sym of_node) ∙ e)
-    ∙ ap (λ c. path_text node.path ++ shown_members users members c ++ codes "\n") (sym of_node)
-
--- what holds of what was done holds if it was done
-pub done_so : {E : Type 0} (new one other : List ℕ) (r : Result (Unit {0}) E) → new ≡ (if is_ok r then one else other) → OnOk r (new ≡ one)
-done_so new one other (Ok u) h = h
-done_so new one other (Err e) h = tt
-
--- if `not b` is true, b is false
-pub from_not : (b : Bool) → not b ≡ true → b ≡ false
-from_not true h = sym h
-from_not false h = refl
-
-pub from_not_false : (b : Bool) → not b ≡ false → b ≡ true
-from_not_false true h = refl
-from_not_false false h = sym h
-
--- a node that is no secret is passed over
-pub nothing_added : (users : Accounts) (members : List Member) (tree : List TreeNode) (node : TreeNode) (classes : List FileClass) (text : List ℕ)
-    → map flat_class classes ≡ classes_to tree node.path → is_secret (is_directory node.target) (map flat_class classes) ≡ false
-    → AddsSecrets users members tree (node ∷ []) text text
-nothing_added users members tree node classes text of_node is_none =
-    adds_one classes of_node (sym (append-nil text) ∙ ap (λ t. text ++ t) (sym (none_shown users members tree node classes of_node is_none)))
+  -- a secret is shown alike by both
+  secret_same : (node : TreeNode) → shown_secret users members node way ≡ shown_secret users members node other
+  secret_same node = λ i.
+      if (not (is_directory node.target) && not (alike is_for_everyone i)) then path_text node.path ++ members_same i ++ codes "\n" else []
 
 -- appending three lists one after another, or at once
 behind_three : (old p m n : List ℕ) → ((old ++ p) ++ m) ++ n ≡ old ++ ((p ++ m) ++ n)
 behind_three old p m n = append_assoc (old ++ p) m n ∙ append_assoc old p (m ++ n) ∙ ap (λ t. old ++ t) (sym (append_assoc p m n))
 
--- the path, the members and a line end were added
-pub secret_added : {users : Accounts} {members : List Member} {tree : List TreeNode} {node : TreeNode} {old mid late new : List ℕ}
-    (classes : List FileClass) → map flat_class classes ≡ classes_to tree node.path
-    → is_secret (is_directory node.target) (map flat_class classes) ≡ true
-    → mid ≡ old ++ path_text node.path → late ≡ mid ++ shown_members users members (map flat_class classes) → new ≡ late ++ codes "\n"
-    → AddsSecrets users members tree (node ∷ []) old new
-secret_added {users} {members} {tree} {node} {old} classes of_node is_one path shown end =
-    let all = shown_members users members (map flat_class classes) in
-    adds_one classes of_node (end ∙ ap (λ t. t ++ codes "\n") (shown ∙ ap (λ t. t ++ all) path)
-    ∙ behind_three old (path_text node.path) all (codes "\n")
-    ∙ ap (λ t. old ++ t) (sym (one_shown users members tree node classes of_node is_one)))
+-- ---- what was added
+
+module _ (users : Accounts) (members : List Member) where
+  -- a node that is no secret is passed over
+  pub none_added : (node : TreeNode) (way : List Class) (text : List ℕ) → is_secret (is_directory node.target) way ≡ false
+      → text ≡ text ++ shown_secret users members node way
+  none_added node way text none =
+      sym (append-nil text)
+      ∙ ap (λ b. text ++ (if b then path_text node.path ++ shown_members users members way ++ codes "\n" else [])) (sym none)
+
+  -- the path, the members and a line end of a secret were added
+  pub one_added : (node : TreeNode) (way : List Class) (old : List ℕ) {mid late new : List ℕ} → is_secret (is_directory node.target) way ≡ true
+      → mid ≡ old ++ path_text node.path → late ≡ mid ++ shown_members users members way → new ≡ late ++ codes "\n"
+      → new ≡ old ++ shown_secret users members node way
+  one_added node way old is_one path shown end =
+      let all = shown_members users members way in
+      end ∙ ap (λ t. t ++ codes "\n") (shown ∙ ap (λ t. t ++ all) path) ∙ behind_three old (path_text node.path) all (codes "\n")
+      ∙ ap (λ b. old ++ (if b then path_text node.path ++ all ++ codes "\n" else [])) (sym is_one)
+
+  -- the text of one more node was added
+  pub one_more : (way : List Class) (text : List ℕ) {later : List Class} {nodes rest : List TreeNode} {node : TreeNode} {whole new : List ℕ}
+      → nodes ≡ node ∷ rest → later ≡ next_way way node → new ≡ text ++ shown_secret users members node later
+      → whole ≡ text ++ shown_secrets users members way nodes → whole ≡ new ++ shown_secrets users members later rest
+  one_more way text {later} {nodes} {rest} {node} turn go added before =
+      before ∙ ap (λ (left : List TreeNode). text ++ shown_secrets users members way left) turn
+      ∙ ap (λ (w : List Class). text ++ (shown_secret users members node w ++ shown_secrets users members w rest)) (sym go)
+      ∙ sym (append_assoc text (shown_secret users members node later) (shown_secrets users members later rest))
+      ∙ ap (λ t. t ++ shown_secrets users members later rest) (sym added)
+
+-- ---- the way of a path
+
+module _ (number : ProcName → ℕ) (f : Flat) where
+  -- the classes of the directories above a path, from `/` on
+  abbrev above : Path → List Class
+  above [] = []
+  above (n ∷ d) = above d ++ class_on number (get f.files d)
+
+  -- the classes on the way to a path, from `/` on
+  abbrev down : Path → List Class
+  down q = above q ++ class_on number (get f.files q)
+
+  both_ways : (x y : Bool) → (x && y) ≡ (y && x)
+  both_ways true true = refl
+  both_ways true false = refl
+  both_ways false true = refl
+  both_ways false false = refl
+
+  -- they are the same classes in the other order
+  down_alike : (q : Path) → AreAlike (down q) (classes_on number f q)
+  down_alike [] test = refl
+  down_alike (n ∷ d) test =
+      list_all-append test (down d) (class_on number (get f.files (n ∷ d)))
+      ∙ both_ways (list_all test (down d)) (list_all test (class_on number (get f.files (n ∷ d))))
+      ∙ ap (λ b. list_all test (class_on number (get f.files (n ∷ d))) && b) (down_alike d test)
+      ∙ sym (list_all-append test (class_on number (get f.files (n ∷ d))) (classes_on number f d))
+
+  -- the way to what is in a directory begins with that to the directory
+  down_within : (s d : Path) → (more : List Class) × (down (s ++ d) ≡ down d ++ more)
+  down_within [] d = ([], sym (append-nil (down d)))
+  down_within (m ∷ s) d =
+      let rest = down_within s d in
+      let one = class_on number (get f.files (m ∷ (s ++ d))) in
+      (rest.0 ++ one, ap (λ (t : List Class). t ++ one) rest.1 ∙ append_assoc (down d) rest.0 one)
+
+  one_class : (o : Option Node) → is_some o ≡ true → length (class_on number o) ≡ 1
+  one_class None h = absurd (true≢false (sym h))
+  one_class (Some n) h = refl
 
 -- ---- a machine
 
@@ -168,65 +181,110 @@ module _ {accounts : Accounts} {m : MachineModel} {f : Flat} (r : ShowsReached a
   abbrev s : State
   s = state m.kernel
 
-  abbrev category : Categories
-  category = r.shows.represents.matched.category
+  abbrev l : ObjectsMatch accounts s f
+  l = r.shows.represents.matched
+
+  abbrev number : ProcName → ℕ
+  number = number_of l.category
 
   -- the members with their roles towards a file, and the login readers, are those of the flat state
-  members_are : (path : Path) (classes : List FileClass) → AreClassesTo (number_of category) f path classes
-      → shown_members (without_passwords accounts) members (map flat_class classes) ≡ members_text accounts f (way_to f path)
-  members_are path classes to = λ i.
+  members_are : (path : Path)
+      → shown_members (without_passwords accounts) members (classes_on number f path) ≡ members_text accounts f (way_to f path)
+  members_are path = λ i.
       flat_map (process_mark (codes "trusted")) (chosen r members found
-      (has_role accounts.groups (map flat_class classes) Trusted) (is_trusted accounts (way_to f path) f)
-      (λ member c same runs. trusted_same r members found member c same runs path classes to) i)
+      (has_role accounts.groups (classes_on number f path) Trusted) (is_trusted accounts (way_to f path) f)
+      (λ member c same runs. trusted_same r members found member c same runs path) i)
       ++ flat_map (process_mark (codes "confined")) (chosen r members found
-      (has_role accounts.groups (map flat_class classes) Confined) (is_confined accounts (way_to f path) f)
-      (λ member c same runs. confined_same r members found member c same runs path classes to) i)
-      ++ flat_map (user_mark (codes "login")) (filter (λ user. (is_so r).reader_login path classes to user i) (same_names accounts.users i))
+      (has_role accounts.groups (classes_on number f path) Confined) (is_confined accounts (way_to f path) f)
+      (λ member c same runs. confined_same r members found member c same runs path) i)
+      ++ flat_map (user_mark (codes "login")) (filter (λ user. (is_so r).reader_login path user i) (same_names accounts.users i))
 
-  module _ (tree : List TreeNode) (is_tree : IsTreeIn m tree) where
-    -- a file's line is that of the flat state
-    one_secret : (node : TreeNode) (e : Path × Node) (classes : List FileClass) → IsAt s category e.0 node e.1 → get f.files e.0 ≡ Some e.1
-        → map flat_class classes ≡ classes_to tree node.path → shown_secret (without_passwords accounts) members tree node ≡ secret_text accounts f e
-    one_secret node e classes is at of_node =
-        let to : AreClassesTo (number_of category) f e.0 classes =
-        classes_are accounts s f r.shows.represents.matched tree (each r tree is_tree) e.0 e.1 at classes
-        (of_node ∙ ap (classes_to tree) is.path) in
-        ap (shown_secret_by (without_passwords accounts) members node) (sym of_node)
-        ∙ (λ i. if (not (is.kind i) && not (open_by_number (number_of category) f e.0 classes to i)) then path_text (is.path i)
-        ++ members_are e.0 classes to i ++ codes "\n" else [])
+  -- a file's line, by the way from `/` on, is that of the flat state
+  one_secret : (node : TreeNode) (e : Path × Node) → IsAt s l.category e.0 node e.1
+      → shown_secret (without_passwords accounts) members node (down number f e.0) ≡ secret_text accounts f e
+  one_secret node e is =
+      secret_same (without_passwords accounts) members (down number f e.0) (classes_on number f e.0) (down_alike number f e.0) node
+      ∙ (λ i. if (not (is.kind i) && not (open_by_number number f e.0 i)) then path_text (is.path i) ++ members_are e.0 i ++ codes "\n" else [])
 
-    -- the lines of all files are those of the flat state
-    secrets_are : (nodes : List TreeNode) (es : List (Path × Node)) → map (tree_entry s) nodes ≡ map (flat_entry category) es
-        → map (line_at s) nodes ≡ map flat_line es → AllOf (IsIn f.files.entries) es
-        → (ways : List (List FileClass)) → map (map flat_class) ways ≡ map (λ (node : TreeNode). classes_to tree node.path) nodes
-        → flat_map (shown_secret (without_passwords accounts) members tree) nodes ≡ flat_map (secret_text accounts f) es
-    unfolding first_of_list rest_of_list
-    secrets_are [] [] entries lines all ways same = refl
-    secrets_are [] (e ∷ es) entries lines all ways same = absurd (cc)
-    secrets_are (node ∷ nodes) [] entries lines all ways same = absurd (cc)
-    secrets_are (node ∷ nodes) (e ∷ es) entries lines all [] same = absurd (cc)
-    secrets_are (node ∷ nodes) (e ∷ es) entries lines all (classes ∷ ways) same =
-        let entry : tree_entry s node ≡ flat_entry category e = ap (first_of_list (tree_entry s node)) entries in
-        let line : line_at s node ≡ flat_line e = ap (first_of_list (line_at s node)) lines in
-        let is : IsAt s category e.0 node e.1 = record {
-          path = ap (λ (x : TreeEntry). x.path) entry;
-          class = ap (λ (x : TreeEntry). x.class) entry;
-          kind = ap (λ (x : TreeEntry). x.is_directory) entry;
-          stat = ap (λ (x : TreeLine). x.stat) line;
-        } in
-        ap₂ (λ (a b : List ℕ). a ++ b) (one_secret node e classes is all.0 (ap (first_of_list (map flat_class classes)) same))
-        (secrets_are nodes es (ap rest_of_list entries) (ap rest_of_list lines) all.1 ways (ap rest_of_list same))
+  -- of what is there the directories above are there, so each has a class
+  length_above : (q : Path) (there : Node) → get f.files q ≡ Some there → length (above number f q) ≡ length q
+  length_above [] there at = refl
+  length_above (n ∷ d) there at =
+      let parent = node_there (get f.files d) (parent_is_dir accounts s f l n d there at) in
+      length-append (above number f d) (class_on number (get f.files d))
+      ∙ (λ i. length_above d parent.0 parent.1 i + one_class number f (get f.files d) (ap is_some parent.1) i)
+      ∙ omega arith
+
+  -- the way to a node, if that to the node before begins with the classes of the directories above it
+  way_is : (before : List Class) (node : TreeNode) (e : Path × Node) → IsAt s l.category e.0 node e.1 → get f.files e.0 ≡ Some e.1
+      → take (length e.0) before ≡ above number f e.0 → next_way before node ≡ down number f e.0
+  way_is before node e is at front =
+      (λ i. take (length (is.path i)) before ++ class_is s l.category e.0 (Some node) (Some e.1) is i)
+      ∙ (λ i. front i ++ class_on number (sym at i))
+
+  -- the way to a path begins with the classes of the directories above the next one
+  front_is : (p q : Path) (there : Node) → get f.files q ≡ Some there → IsNext p q → take (length q) (down number f p) ≡ above number f q
+  front_is p q there at next =
+      let d = next.directory in
+      let rest = down_within number f next.within.0 d in
+      let own : above number f q ≡ down number f d = ap (above number f) next.is in
+      ap (λ k. take k (down number f p)) (sym (length_above q there at) ∙ ap length own)
+      ∙ ap (take (length (down number f d))) (ap (down number f) next.within.1 ∙ rest.1)
+      ∙ take-append_seam (down number f d) rest.0 ∙ sym own
+
+  -- a node that shows the same as an entry matches it
+  matches : (node : TreeNode) (e : Path × Node) → tree_entry s node ≡ flat_entry l.category e → line_at s node ≡ flat_line e
+      → IsAt s l.category e.0 node e.1
+  matches node e entry line = record {
+    path = ap (λ (x : TreeEntry). x.path) entry;
+    class = ap (λ (x : TreeEntry). x.class) entry;
+    kind = ap (λ (x : TreeEntry). x.is_directory) entry;
+    stat = ap (λ (x : TreeLine). x.stat) line;
+  }
+
+  -- the lines of files are those of the flat state, where the way to a path is known, and the first node is next to it
+  lines_are : (p : Path) (before : List Class) → before ≡ down number f p → (nodes : List TreeNode) (es : List (Path × Node)) → AreNext p nodes
+      → map (tree_entry s) nodes ≡ map (flat_entry l.category) es → map (line_at s) nodes ≡ map flat_line es → AllOf (IsIn f.files.entries) es
+      → shown_secrets (without_passwords accounts) members before nodes ≡ flat_map (secret_text accounts f) es
+  unfolding first_of_list rest_of_list
+  lines_are p before known [] [] next entries lines all = refl
+  lines_are p before known [] (e ∷ es) next entries lines all = absurd (cc)
+  lines_are p before known (node ∷ nodes) [] next entries lines all = absurd (cc)
+  lines_are p before known (node ∷ nodes) (e ∷ es) next entries lines all =
+      let is = matches node e (ap (first_of_list (tree_entry s node)) entries) (ap (first_of_list (line_at s node)) lines) in
+      let front = ap (take (length e.0)) known ∙ front_is p e.0 e.1 all.0 (subst (IsNext p) is.path next.0) in
+      let way : next_way before node ≡ down number f e.0 = way_is before node e is all.0 front in
+      ap₂ (λ (a b : List ℕ). a ++ b) (ap (shown_secret (without_passwords accounts) members node) way ∙ one_secret node e is)
+      (lines_are node.path (next_way before node) (way ∙ ap (down number f) (sym is.path)) nodes es next.1
+      (ap rest_of_list entries) (ap rest_of_list lines) all.1)
+
+  -- the lines of all files are those of the flat state
+  all_lines_are : (slash : TreeNode) (nodes : List TreeNode) (es : List (Path × Node)) → slash.path ≡ [] → AreNext [] nodes
+      → map (tree_entry s) (slash ∷ nodes) ≡ map (flat_entry l.category) es → map (line_at s) (slash ∷ nodes) ≡ map flat_line es
+      → AllOf (IsIn f.files.entries) es
+      → shown_secrets (without_passwords accounts) members [] (slash ∷ nodes) ≡ flat_map (secret_text accounts f) es
+  unfolding first_of_list rest_of_list
+  all_lines_are slash nodes [] root next entries lines all = absurd (cc)
+  all_lines_are slash nodes (e ∷ es) root next entries lines all =
+      let is = matches slash e (ap (first_of_list (tree_entry s slash)) entries) (ap (first_of_list (line_at s slash)) lines) in
+      let here : e.0 ≡ [] = sym is.path ∙ root in
+      let way : next_way [] slash ≡ down number f e.0 = way_is [] slash e is all.0
+      (subst (λ (q : Path). take (length q) [] ≡ above number f q) (sym here) refl) in
+      ap₂ (λ (a b : List ℕ). a ++ b) (ap (shown_secret (without_passwords accounts) members slash) way ∙ one_secret slash e is)
+      (lines_are [] (next_way [] slash) (way ∙ ap (down number f) here) nodes es next (ap rest_of_list entries) (ap rest_of_list lines) all.1)
 
   -- the line of the processes is that of the flat state
   runners_are : shown_runners members ≡ runners_line f
-  runners_are = λ i. codes "running" ++ runners_shown f category members (running_in f) (all_members r members found) i ++ codes "\n"
+  runners_are = λ i. codes "running" ++ runners_shown f l.category members (running_in f) (all_members r members found) i ++ codes "\n"
 
-  pub secrets_there : (tree : List TreeNode) → IsTreeIn m tree → {text : List ℕ} → AddsSecrets m.users members tree tree (shown_runners members) text
-      → text ≡ secrets_text accounts f
-  secrets_there tree is h =
-      let same : (own_tree r tree is).tree ≡ tree = same_tree r tree is in
-      h.added ∙ (λ i. runners_are i ++ flat_map (shown_secret (r.shows.users i) members tree) tree)
-      ∙ ap (λ t. runners_line f ++ t) (secrets_are tree is tree f.files.entries
-      (ap (map (tree_entry s)) (sym same) ∙ (own_tree r tree is).same)
-      (ap (map (line_at s)) (sym same) ∙ (own_tree r tree is).lines)
-      (each_found f.files.entries (holds (is_sorted path_cmp f.files.entries) f.files.sorted)) h.ways h.are)
+  -- what is printed of a tree is the text of the flat state
+  pub secrets_there : (tree : List TreeNode) → IsTreeIn m tree
+      → shown_runners members ++ shown_secrets m.users members [] tree ≡ secrets_text accounts f
+  secrets_there tree is =
+      let same : tree ≡ (own_tree r tree is).tree = sym (same_tree r tree is) in
+      let root = rooted m.users s m.roots tree is in
+      let parts : root.slash ∷ root.below ≡ (own_tree r tree is).tree = sym root.parts ∙ same in
+      (λ i. runners_are i ++ shown_secrets (r.shows.users i) members [] (root.parts i))
+      ∙ ap (λ t. runners_line f ++ t) (all_lines_are root.slash root.below f.files.entries root.at_root root.next
+      (ap (map (tree_entry s)) parts ∙ (own_tree r tree is).same) (ap (map (line_at s)) parts ∙ (own_tree r tree is).lines)
+      (each_found f.files.entries (holds (is_sorted path_cmp f.files.entries) f.files.sorted)))

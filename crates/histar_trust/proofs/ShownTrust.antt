@@ -1,5 +1,5 @@
 -- What is computed from a machine is what the flat state determines that it represents.
-use Rattle.std.specs.Prelude.{◌≡◌, ℕ, Bool, length, true, false, not, ◌&&◌, List, [], ◌∷◌, ◌++◌, map, filter, codes, Option, None, Some, option_map}
+use Rattle.std.specs.Prelude.{◌≡◌, ℕ, Bool, length, true, false, not, ◌&&◌, List, [], ◌∷◌, ◌++◌, map, filter, codes, Option, None, Some}
 use Rattle.std.specs.Prelude.{if◌then◌else◌, refl}
 use Rattle.std.specs.List.{filter_map}
 use Rattle.std.proofs.Common.{ap, sym, ◌∙◌, subst}
@@ -28,7 +28,7 @@ use Rattle.histar_secrecy.specs.Ways.{reads_all, way_to}
 use Rattle.histar_secrecy.specs.Roles.{is_bound, is_confined, is_outsider, is_trusted}
 use Rattle.histar_secrecy.specs.Noninterference.{ShowsRole}
 use Rattle.histar_secrecy.specs.Changers.{is_changer}
-use Rattle.histar_secrecy.specs.ShownRoles.{AreClassesTo, AreNumbered, IsShownProcess, ShowsAState, flat_class, has_role}
+use Rattle.histar_secrecy.specs.ShownRoles.{AreNumbered, IsShownProcess, ShowsAState, classes_on, flat_class, has_role}
 use Rattle.histar_secrecy.specs.ShownRoles.{is_same_role, is_shown_changer, member_role, role_in, with_user}
 use Rattle.histar_secrecy.proofs.Learning.{roles_are_shown}
 use Rattle.histar_secrecy.proofs.ShownProcesses.{shown_is_so}
@@ -47,10 +47,10 @@ use Rattle.histar_prefix.specs.Listing.{HasProcesses}
 use Rattle.histar_prefix.proofs.Listed.{filter_map_map, processes_there, tree_there}
 use Rattle.histar_prefix.proofs.SameProcesses.{one_list, processes_unproved}
 use Rattle.histar_trust.specs.Findings.{AreMembers, ShowsReached, classes_to, head_text, node_at, runner_of, running_node}
-use Rattle.histar_trust.specs.Findings.{shown_changers, shown_readers, shown_roles}
-use Rattle.histar_trust.specs.TrustText.{changers_text, is_open_way, process_lines, readers_text, running_where, roles_text, trust_text}
+use Rattle.histar_trust.specs.Findings.{shown_changers, shown_found, shown_node, shown_readers, shown_roles}
+use Rattle.histar_trust.specs.TrustText.{changers_text, found_text, process_lines, readers_text, running_where, roles_text, trust_text}
 use Rattle.histar_trust.specs.TrustText.{user_lines}
-use Rattle.histar_trust.proofs.Places.{AreAlike, IsAt, alike, classes_are, found_at, number_of, open_by_number}
+use Rattle.histar_trust.proofs.Places.{AreAlike, IsAt, alike, classes_are, number_of, open_by_number}
 use Rattle.histar_trust.proofs.Runners.{AllOf, Runs, each_runs, numbered, picked, runners_listed, running_line}
 
 -- ---- roles
@@ -81,13 +81,6 @@ pub same_names : (users : List User) → map (λ (u : User). u.name) (map withou
 same_names [] = refl
 same_names (u ∷ users) = ap (λ (names : List Name). u.name ∷ names) (same_names users)
 
--- the tree of a machine was found, with this node at the path, and these classes of the node and of the directories above
-pub record IsFound (m : MachineModel) (path : Path) (node : TreeNode) (classes : List FileClass) : Type 0 where
-  pub tree : List TreeNode
-  pub is : IsTreeIn m tree
-  pub found : node_at path tree ≡ Some node
-  pub are_classes : map flat_class classes ≡ classes_to tree path
-
 module _ {accounts : Accounts} {m : MachineModel} {f : Flat} (r : ShowsReached accounts m f) where
   abbrev s : State
   s = state m.kernel
@@ -116,14 +109,7 @@ module _ {accounts : Accounts} {m : MachineModel} {f : Flat} (r : ShowsReached a
   pub has_processes : HasProcesses m
   has_processes = processes_there accounts m f r.shows named
 
-  -- ---- a path
-
-  -- the text for a path, by what is there
-  abbrev text_at : Path → Option Node → List ℕ
-  text_at path o = elim o [
-    | None ↦ codes "no entry\n"
-    | Some node ↦ access_line_text (line_of accounts f [] (path, node)) ++ roles_text accounts f path node ++ changers_text accounts f path
-  ]
+  -- ---- the tree
 
   module _ (tree : List TreeNode) (is : IsTreeIn m tree) where
     pub own_tree : HasTreeOf accounts s f l.category
@@ -141,15 +127,6 @@ module _ {accounts : Accounts} {m : MachineModel} {f : Flat} (r : ShowsReached a
     pub each : (q : Path) → AreAlike s l.category q (node_at q tree) (get f.files q)
     each q = subst (λ (t : List TreeNode). AreAlike s l.category q (node_at q t) (get f.files q)) same_tree
         (alike s l.category q own_tree.tree f.files.entries own_tree.same own_tree.lines)
-
-    -- if the tree has nothing at the path, the flat state has nothing there
-    pub nothing_there : (path : Path) → node_at path tree ≡ None → codes "no entry\n" ≡ trust_text accounts f path
-    nothing_there path none = by (get f.files path) refl
-      where
-        by : (o : Option Node) → get f.files path ≡ o → codes "no entry\n" ≡ trust_text accounts f path
-        by None e = sym (ap (text_at path) e)
-        by (Some there) e = let found = found_at accounts s f l tree each path there e in absurd
-            (let both : Some found.0 ≡ None = sym found.1 ∙ none in cc)
 
   -- ---- the processes
 
@@ -189,34 +166,34 @@ module _ {accounts : Accounts} {m : MachineModel} {f : Flat} (r : ShowsReached a
       }
 
       -- a member has the role of the process in the flat state
-      module _ (path : Path) (classes : List FileClass) (to : AreClassesTo number f path classes) where
-        role_is : member_role accounts.groups (map flat_class classes) member ≡ role_in accounts (way_to f path) f member.name
-        role_is = is_so.role r.reached path classes to member c.1 shown
+      module _ (path : Path) where
+        role_is : member_role accounts.groups (classes_on number f path) member ≡ role_in accounts (way_to f path) f member.name
+        role_is = is_so.role r.reached path member c.1 shown
 
         by_tests : ShowsRole accounts (way_to f path) f member.name c.1
         by_tests = roles_are_shown accounts f r.reached path member.name c.1 shown.runs
 
-        pub trusted_same : has_role accounts.groups (map flat_class classes) Trusted member ≡ is_trusted accounts (way_to f path) f c.0
+        pub trusted_same : has_role accounts.groups (classes_on number f path) Trusted member ≡ is_trusted accounts (way_to f path) f c.0
         trusted_same =
             ap (is_same_role Trusted) role_is
             ∙ trusted_is (is_trusted accounts (way_to f path) f member.name) (is_confined accounts (way_to f path) f member.name)
             ∙ ap (is_trusted accounts (way_to f path) f) name_is
 
-        pub confined_same : has_role accounts.groups (map flat_class classes) Confined member ≡ is_confined accounts (way_to f path) f c.0
+        pub confined_same : has_role accounts.groups (classes_on number f path) Confined member ≡ is_confined accounts (way_to f path) f c.0
         confined_same =
             ap (is_same_role Confined) role_is
             ∙ confined_is (is_trusted accounts (way_to f path) f member.name) (is_confined accounts (way_to f path) f member.name)
             (reads_all accounts (way_to f path) c.1) (is_bound accounts (way_to f path) c.1) by_tests.trusted by_tests.confined
             ∙ ap (is_confined accounts (way_to f path) f) name_is
 
-        outside_same : has_role accounts.groups (map flat_class classes) Outside member ≡ is_outsider accounts (way_to f path) f c.0
+        outside_same : has_role accounts.groups (classes_on number f path) Outside member ≡ is_outsider accounts (way_to f path) f c.0
         outside_same =
             ap (is_same_role Outside) role_is
             ∙ outside_is (is_trusted accounts (way_to f path) f member.name) (is_confined accounts (way_to f path) f member.name)
             ∙ ap (is_outsider accounts (way_to f path) f) name_is
 
       -- a member is a changer exactly if the process is one in the flat state
-      changer_same : (path : Path) (classes : List FileClass) → AreClassesTo number f path classes
+      changer_same : (path : Path) (classes : List FileClass) → map flat_class classes ≡ classes_on number f path
           → is_shown_changer accounts.groups classes member ≡ is_changer accounts f path c.0
       changer_same path classes to = is_so.changer path classes to member c.1 shown ∙ ap (is_changer accounts f path) name_is
 
@@ -228,63 +205,51 @@ module _ {accounts : Accounts} {m : MachineModel} {f : Flat} (r : ShowsReached a
         → map with_user (filter test members) ≡ running_where accounts f of_name
     chosen test of_name agree = picked f l.category test (λ c. of_name c.0) agree members (running_in f) members_are all_run
 
-    module _ (path : Path) (classes : List FileClass) (to : AreClassesTo number f path classes) where
+    module _ (path : Path) where
       -- the member has the role
       abbrev has : Role → Member → Bool
-      has = has_role accounts.groups (map flat_class classes)
+      has = has_role accounts.groups (classes_on number f path)
 
       -- the roles that are printed, and the login readers, are those of the flat state
-      readers_are : shown_readers (without_passwords accounts) members (map flat_class classes) ≡ readers_text accounts f (way_to f path)
+      readers_are : shown_readers (without_passwords accounts) members (classes_on number f path) ≡ readers_text accounts f (way_to f path)
       readers_are = λ i.
           process_lines (codes "trusted") (chosen (has Trusted) (is_trusted accounts (way_to f path) f)
-          (λ member c same runs. trusted_same member c same runs path classes to) i)
+          (λ member c same runs. trusted_same member c same runs path) i)
           ++ process_lines (codes "confined") (chosen (has Confined) (is_confined accounts (way_to f path) f)
-          (λ member c same runs. confined_same member c same runs path classes to) i)
+          (λ member c same runs. confined_same member c same runs path) i)
           ++ process_lines (codes "outside") (chosen (has Outside) (is_outsider accounts (way_to f path) f)
-          (λ member c same runs. outside_same member c same runs path classes to) i)
-          ++ user_lines (codes "login") (filter (λ user. is_so.reader_login path classes to user i) (same_names accounts.users i))
+          (λ member c same runs. outside_same member c same runs path) i)
+          ++ user_lines (codes "login") (filter (λ user. is_so.reader_login path user i) (same_names accounts.users i))
 
-    -- the changers that are printed, and the login changers, are those of the flat state
-    changers_are : (path : Path) (classes : List FileClass) → AreClassesTo number f path classes
-        → shown_changers (without_passwords accounts) members classes ≡ changers_text accounts f path
-    changers_are path classes to = λ i.
-        process_lines (codes "changer") (chosen (is_shown_changer accounts.groups classes) (is_changer accounts f path)
-        (λ member c same runs. changer_same member c same runs path classes to) i)
-        ++ user_lines (codes "changer-login") (filter (λ user. is_so.changer_login path classes to user i) (same_names accounts.users i))
+    module _ (path : Path) (classes : List FileClass) (to : map flat_class classes ≡ classes_on number f path) where
+      -- the changers that are printed, and the login changers, are those of the flat state
+      changers_are : shown_changers (without_passwords accounts) members classes ≡ changers_text accounts f path
+      changers_are = λ i.
+          process_lines (codes "changer") (chosen (is_shown_changer accounts.groups classes) (is_changer accounts f path)
+          (λ member c same runs. changer_same member c same runs path classes to) i)
+          ++ user_lines (codes "changer-login") (filter (λ user. is_so.changer_login path classes to user i) (same_names accounts.users i))
 
-    -- every process reaches what is there exactly if the classes that are shown are open
-    open_is : (path : Path) (classes : List FileClass) → AreClassesTo number f path classes
-        → is_open_way (map flat_class classes) ≡ is_open_way (way_to f path)
-    open_is path classes to = open_by_number number f path classes to
+      head_is : (node : TreeNode) (there : Node) → IsAt s l.category path node there
+          → head_text node ≡ access_line_text (line_of accounts f [] (path, there))
+      head_is node there is = λ i. access_line_text (record { path = is.path i; stat = is.stat i; cells = [] })
 
-    module _ (path : Path) (node : TreeNode) (classes : List FileClass) (seen : IsFound m path node classes) where
-      module _ (there : Node) (at : get f.files path ≡ Some there) (is_at : IsAt s l.category path node there) where
-        head_is : head_text node ≡ access_line_text (line_of accounts f [] (path, there))
-        head_is = λ i. access_line_text (record { path = is_at.path i; stat = is_at.stat i; cells = [] })
+      roles_are : (node : TreeNode) (there : Node) → IsAt s l.category path node there
+          → shown_roles (without_passwords accounts) members node (map flat_class classes) ≡ roles_text accounts f path there
+      roles_are node there is =
+          ap (shown_roles (without_passwords accounts) members node) to
+          ∙ (λ i. if is.kind i then [] else if open_by_number number f path i then codes "everyone\n" else readers_are path i)
 
-        to : AreClassesTo number f path classes
-        to = classes_are accounts s f l seen.tree (each seen.tree seen.is) path there at classes seen.are_classes
+      found_is : (found : Option TreeNode) (there : Option Node) → AreAlike s l.category path found there
+          → shown_found (without_passwords accounts) members found classes ≡ found_text accounts f path there
+      found_is None None alike = refl
+      found_is None (Some there) alike = absurd alike
+      found_is (Some node) None alike = absurd alike
+      found_is (Some node) (Some there) alike = λ i. head_is node there alike i ++ roles_are node there alike i
 
-        roles_are : shown_roles (without_passwords accounts) members node (map flat_class classes) ≡ roles_text accounts f path there
-        roles_are =
-            λ i. if is_at.kind i then [] else if open_is path classes to i then codes "everyone\n" else readers_are path classes to i
-
-        whole_is : head_text node ++ shown_roles m.users members node (map flat_class classes) ++ shown_changers m.users members classes
-            ≡ access_line_text (line_of accounts f [] (path, there)) ++ roles_text accounts f path there ++ changers_text accounts f path
-        whole_is =
-            ap (λ (users : Accounts). head_text node ++ shown_roles users members node
-            (map flat_class classes) ++ shown_changers users members classes) r.shows.users
-            ∙ (λ i. head_is i ++ roles_are i ++ changers_are path classes to i)
-
-      -- if the tree has a node, the text is that of the flat state
-      pub something_there : head_text node ++ shown_roles m.users members node (map flat_class classes) ++ shown_changers m.users members classes
-          ≡ trust_text accounts f path
-      something_there = by (get f.files path) refl
-          (subst (λ o. AreAlike s l.category path o (get f.files path)) seen.found (each seen.tree seen.is path))
-        where
-          by : (o : Option Node) → get f.files path ≡ o → AreAlike s l.category path (Some node) (get f.files path)
-              → head_text node ++ shown_roles m.users members node (map flat_class classes) ++ shown_changers m.users members classes
-              ≡ trust_text accounts f path
-          by None e alike = absurd (subst (λ x. AreAlike s l.category path (Some node) x) e alike)
-          by (Some there) e alike =
-              whole_is there e (subst (λ x. AreAlike s l.category path (Some node) x) e alike) ∙ sym (ap (text_at path) e)
+    -- what is printed of a path is the text of the flat state
+    pub text_there : (tree : List TreeNode) → IsTreeIn m tree → (path : Path) (classes : List FileClass)
+        → map flat_class classes ≡ classes_to tree path → shown_node m.users members (node_at path tree) classes ≡ trust_text accounts f path
+    text_there tree is path classes are =
+        let to = are ∙ classes_are s l.category f tree (each tree is) path in
+        ap (λ (users : Accounts). shown_node users members (node_at path tree) classes) r.shows.users
+        ∙ (λ i. found_is path classes to (node_at path tree) (get f.files path) (each tree is path) i ++ changers_are path classes to i)

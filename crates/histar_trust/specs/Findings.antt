@@ -1,5 +1,5 @@
 -- What is computed from a machine: its running processes, and their roles towards what is at a path.
-use Rattle.std.specs.Prelude.{◌≡◌, ℕ, Bool, ◌++◌, List, [], ◌∷◌, Option, None, Some, codes, filter, map, if◌then◌else◌}
+use Rattle.std.specs.Prelude.{◌≡◌, ℕ, Bool, ◌++◌, List, [], ◌∷◌, Option, None, Some, codes, filter, length, map, take, if◌then◌else◌}
 use Rattle.histar_flat.specs.declared.calls.User.{User}
 use Rattle.histar_flat.specs.Words.{Name, Path, ProcName}
 use Rattle.histar_base.specs.Paths.{same_path}
@@ -86,6 +86,10 @@ abbrev pub classes_to : List TreeNode → Path → List FlatClass
 classes_to tree [] = class_there (node_at [] tree)
 classes_to tree (n ∷ d) = class_there (node_at (n ∷ d) tree) ++ classes_to tree d
 
+-- the classes on the way to a node, from `/` on: those at the directories above it are taken from the way to the node before it
+abbrev pub next_way : List FlatClass → TreeNode → List FlatClass
+next_way before node = take (length node.path) before ++ class_flat node.class ∷ []
+
 -- every process may read each of these classes
 abbrev pub are_for_everyone : List FileClass → Bool
 are_for_everyone classes = list_all (λ class. is_for_everyone (flat_class class)) classes
@@ -119,21 +123,16 @@ module _ (accounts : Accounts) (members : List Member) where
       ++ flat_map (user_mark (codes "login")) (filter (is_login_reader accounts.groups way) (names_of accounts))
 
   -- the text of a file or a directory among the secrets, by the way to it
-  abbrev pub shown_secret_by : TreeNode → List FlatClass → List ℕ
-  shown_secret_by node way =
+  abbrev pub shown_secret : TreeNode → List FlatClass → List ℕ
+  shown_secret node way =
       if is_secret (is_directory node.target) way then path_text node.path ++ shown_members way ++ codes "\n" else []
 
-  -- the text of a file or a directory of a tree among the secrets
-  abbrev pub shown_secret : List TreeNode → TreeNode → List ℕ
-  shown_secret tree node = shown_secret_by node (classes_to tree node.path)
+  -- the texts of nodes among the secrets, one after another, each by the way to it that the way to the node before leads to
+  abbrev pub shown_secrets : List FlatClass → List TreeNode → List ℕ
+  shown_secrets before [] = []
+  shown_secrets before (node ∷ nodes) = shown_secret node (next_way before node) ++ shown_secrets (next_way before node) nodes
 
-  -- the text of each of these nodes of a tree was added, and the classes on the ways to them are those of files
-  pub record AddsSecrets (tree nodes : List TreeNode) (old new : List ℕ) : Type 0 where
-    pub ways : List (List FileClass)
-    pub are : map (map flat_class) ways ≡ map (λ (node : TreeNode). classes_to tree node.path) nodes
-    pub added : new ≡ old ++ flat_map (shown_secret tree) nodes
-
-  -- the processes and users that may change what is of the first class, in directories of the others, as they are printed
+  -- the processes and users that may change what is of one of these classes, in directories of those behind it, as they are printed
   abbrev pub shown_changers : List FileClass → List ℕ
   shown_changers classes =
       process_lines (codes "changer") (map with_user (filter (is_shown_changer accounts.groups classes) members))
@@ -143,10 +142,14 @@ module _ (accounts : Accounts) (members : List Member) where
 abbrev pub head_text : TreeNode → List ℕ
 head_text node = access_line_text (record { path = node.path; stat = node_stat node; cells = [] })
 
--- the text of a file or a directory of a tree, by its class and those of the directories above it
-abbrev pub shown_node : Accounts → List Member → TreeNode → List FileClass → List ℕ
-shown_node accounts members node classes =
-    head_text node ++ shown_roles accounts members node (map flat_class classes) ++ shown_changers accounts members classes
+-- the text of what a tree has at a path, by its class and those of the directories above it
+abbrev pub shown_found : Accounts → List Member → Option TreeNode → List FileClass → List ℕ
+shown_found accounts members None classes = codes "no entry\n"
+shown_found accounts members (Some node) classes = head_text node ++ shown_roles accounts members node (map flat_class classes)
+
+-- the same with the changers
+abbrev pub shown_node : Accounts → List Member → Option TreeNode → List FileClass → List ℕ
+shown_node accounts members found classes = shown_found accounts members found classes ++ shown_changers accounts members classes
 
 -- the processes of a machine were found, and these members are the running ones
 pub record AreMembers (m : MachineModel) (members : List Member) : Type 0 where
@@ -154,9 +157,9 @@ pub record AreMembers (m : MachineModel) (members : List Member) : Type 0 where
   pub are : AreProcessesIn m processes
   pub runners : map runner_of members ≡ filter_map running_node processes
 
--- the text of a node of a tree by the running processes of a machine
-abbrev pub ShowsNode : MachineModel → TreeNode → List FileClass → List ℕ → Type 0
-ShowsNode m node classes text = (members : List Member) × AreMembers m members × (text ≡ shown_node m.users members node classes)
+-- the text of what a tree has at a path by the running processes of a machine
+abbrev pub ShowsNode : MachineModel → Option TreeNode → List FileClass → List ℕ → Type 0
+ShowsNode m found classes text = (members : List Member) × AreMembers m members × (text ≡ shown_node m.users members found classes)
 
 -- a machine represents a flat state that calls lead to
 pub record ShowsReached (accounts : Accounts) (m : MachineModel) (f : Flat) : Type 0 where

@@ -1,5 +1,5 @@
 -- Which processes have to be trusted with what is at a path: the text of a flat state.
-use Rattle.std.specs.Prelude.{ℕ, Bool, true, false, List, [], ◌++◌, None, Some, codes, filter, map, if◌then◌else◌}
+use Rattle.std.specs.Prelude.{ℕ, Bool, true, false, List, [], ◌++◌, Option, None, Some, codes, filter, map, if◌then◌else◌}
 use Rattle.std.specs.List.{flat_map, list_all}
 use Rattle.histar_flat.specs.declared.calls.User.{User}
 use Rattle.histar_flat.specs.Words.{Name, Path, ProcName}
@@ -24,13 +24,9 @@ process_line word p = word ++ codes " " ++ process_text p.0 ++ codes " " ++ p.1 
 abbrev pub process_lines : List ℕ → List (ProcName × Name) → List ℕ
 process_lines word ps = flat_map (process_line word) ps
 
--- a word and a user on a line
-abbrev pub user_line : List ℕ → Name → List ℕ
-user_line word user = word ++ codes " " ++ user ++ codes "\n"
-
--- a line for each of these users
+-- a line for each of these users, with the word and the user
 abbrev pub user_lines : List ℕ → List Name → List ℕ
-user_lines word users = flat_map (user_line word) users
+user_lines word users = flat_map (λ (user : Name). word ++ codes " " ++ user ++ codes "\n") users
 
 -- every process may read the class: it is readable or open
 abbrev pub is_for_everyone : Class → Bool
@@ -82,9 +78,11 @@ module _ (accounts : Accounts) (f : Flat) where
       process_lines (codes "changer") (running_where (is_changer accounts f path))
       ++ user_lines (codes "changer-login") (users_where (λ user. may_change accounts f (logged_in user) path))
 
-  -- `no entry` if nothing is at the path; else its line of the table of rights without processes, the roles, and the changers
+  -- `no entry` if nothing is at the path; else its line of the table of rights without processes, and the roles
+  abbrev pub found_text : Path → Option Node → List ℕ
+  found_text path None = codes "no entry\n"
+  found_text path (Some node) = access_line_text (line_of accounts f [] (path, node)) ++ roles_text path node
+
+  -- what is at the path, and the changers: also those who may change that nothing is there
   abbrev pub trust_text : Path → List ℕ
-  trust_text path = elim (get f.files path) [
-    | None ↦ codes "no entry\n"
-    | Some node ↦ access_line_text (line_of accounts f [] (path, node)) ++ roles_text path node ++ changers_text path
-  ]
+  trust_text path = found_text path (get f.files path) ++ changers_text path

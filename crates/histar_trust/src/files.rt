@@ -1,15 +1,16 @@
-//! The line of the running processes, and the lines of the files that not everyone may read.
-ghost use Rattle.std.specs.Prelude.{◌≡◌, ◌++◌, [], ◌∷◌, codes, IfOk, map, OnOk};
+//! The line of the running processes, and the lines of the files that not everyone reaches.
+ghost use Rattle.std.specs.Prelude.{◌≡◌, ◌++◌, [], codes, IfOk, map, OnOk};
 ghost use Rattle.std.specs.List.{flat_map};
 ghost use Rattle.histar_layout.specs.Listing.{is_directory};
 ghost use Rattle.histar_shell.specs.Ending.{IsTreeIn};
 ghost use Rattle.histar_secrecy.specs.ShownRoles.{flat_class};
-ghost use Rattle.histar_trust.specs.Findings.{AddsSecrets, HasState, ShowsSecrets, shown_members, shown_runner, shown_runners};
+ghost use Rattle.histar_trust.specs.Findings.{HasState, ShowsSecrets, shown_members, shown_runner, shown_runners};
+ghost use Rattle.histar_trust.specs.Findings.{shown_secret, shown_secrets};
 ghost use Rattle.histar_trust.specs.Secrets.{is_secret, process_mark, user_mark};
 
 use crate::members::{members_among, user_names};
 use crate::output::is_open_way;
-use crate::way::push_classes;
+use crate::way::go_on;
 use histar_flat::{Name, ProcName};
 use histar_label::LabelStore;
 use histar_layout::UserTable;
@@ -21,7 +22,7 @@ use histar_texts::{push_path, push_process};
 use std::alloc::{AllocError, Global};
 
 /// Returns a line with the processes that run on a machine, and then one for each file that not every process
-/// may read, by rising paths.
+/// reaches, by rising paths.
 ///
 /// The tree and the processes are read once, and the role of each process is determined for each such file.
 pub fn secret_lines<S: LabelStore + Drop>(
@@ -58,7 +59,7 @@ fn member_lines(
     tree: &[TreeNode],
 ) -> Result<Vec<u8>, AllocError>
     ensures { IfOk result (λ text.
-        AddsSecrets users.now members.now tree.now tree.now (shown_runners members.now) text.items) }
+        text.items ≡ shown_runners members.now ++ shown_secrets users.now members.now [] tree.now) }
 {
     let mut text = Vec::new(alloc);
     push_runners(&mut text, members)?;
@@ -95,7 +96,8 @@ fn push_runner(text: &mut Vec<u8>, member: &Member) -> Result<(), AllocError>
     text.extend_from_slice(member.user.as_bytes())
 }
 
-/// Adds the lines of the files of a tree that not every process may read.
+/// Adds the lines of the files of a tree that not every process reaches, in one pass: the classes on the way to
+/// a node are those on the way to the node before, as far as the directories above both are the same, and its own.
 fn push_secrets(
     alloc: Global,
     text: &mut Vec<u8>,
@@ -103,29 +105,30 @@ fn push_secrets(
     members: &[Member],
     tree: &[TreeNode],
 ) -> Result<(), AllocError>
-    ensures { OnOk result (AddsSecrets users.now members.now tree.now tree.now text.old.items text.new.items) }
+    ensures { OnOk result (text.new.items
+        ≡ text.old.items ++ shown_secrets users.now members.now [] tree.now) }
 {
+    let mut way = Vec::new(alloc);
     'nodes: for node in tree {
-        push_secret(alloc, text, users, members, tree, node)?;
+        go_on(alloc, &mut way, node)?;
+        push_secret(alloc, text, users, members, node, way.as_slice())?;
     }
     Ok(())
 }
 
-/// Adds the line of a file of a tree, unless every process reaches it. It adds nothing for a directory.
+/// Adds the line of a file of a tree, unless every process reaches it. It adds nothing for a directory. The
+/// classes are those on the way to it.
 fn push_secret(
     alloc: Global,
     text: &mut Vec<u8>,
     users: &UserTable,
     members: &[Member],
-    tree: &[TreeNode],
     node: &TreeNode,
+    classes: &[FileClass],
 ) -> Result<(), AllocError>
-    ensures { OnOk result (AddsSecrets users.now members.now tree.now (node.now ∷ []) text.old.items
-        text.new.items) }
+    ensures { OnOk result (text.new.items
+        ≡ text.old.items ++ shown_secret users.now members.now node.now (map flat_class classes.now)) }
 {
-    let mut ways = Vec::new(alloc);
-    push_classes(alloc, tree, node.path.names(), &mut ways)?;
-    let classes = ways.as_slice();
     let secret = is_secret(node, classes);
     if !secret {
         return Ok(());

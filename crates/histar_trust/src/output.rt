@@ -1,9 +1,10 @@
 //! The lines on which processes and users have to be trusted.
 ghost use Rattle.std.specs.Prelude.{◌≡◌, ◌++◌, IfOk, map, OnOk};
+ghost use Rattle.std.specs.Option.{option_copied};
 ghost use Rattle.histar_shell.specs.Ending.{IsTreeIn};
 ghost use Rattle.histar_secrecy.specs.ShownRoles.{flat_class};
 ghost use Rattle.histar_trust.specs.Findings.{are_for_everyone, HasState, ShowsNode, ShowsTrust};
-ghost use Rattle.histar_trust.specs.Findings.{head_text, shown_changers, shown_login_readers, shown_node};
+ghost use Rattle.histar_trust.specs.Findings.{head_text, shown_changers, shown_found, shown_login_readers, shown_node};
 ghost use Rattle.histar_trust.specs.Findings.{shown_readers, shown_roles};
 ghost use Rattle.histar_trust.specs.TrustText.{is_for_everyone, is_open_way, process_line, process_lines, user_lines};
 
@@ -48,45 +49,66 @@ fn lines_in<S: LabelStore + Drop>(
     requires tree { IsTreeIn machine.now tree.now }
     ensures { IfOk result (λ text. ShowsTrust machine.now path.now text.items) }
 {
-    let Some(node) = node_at(tree, path.names()) else {
-        return Vec::from_slice(alloc, b"no entry\n");
-    };
     let mut classes = Vec::new(alloc);
     push_classes(alloc, tree, path.names(), &mut classes)?;
-    lines_at(alloc, machine, node, classes.as_slice())
+    lines_at(
+        alloc,
+        machine,
+        node_at(tree, path.names()),
+        classes.as_slice(),
+    )
 }
 
-/// Returns the lines on a node of a tree, by its class and those of the directories above it.
+/// Returns the lines on what a tree has at a path, by its class and those of the directories above it.
 fn lines_at<S: LabelStore + Drop>(
     alloc: Global,
     machine: &Machine<S>,
-    node: &TreeNode,
+    found: Option<&TreeNode>,
     classes: &[FileClass],
 ) -> Result<Vec<u8>, AllocError>
     requires { HasState machine.now }
-    ensures { IfOk result (λ text. ShowsNode machine.now node.now classes.now text.items) }
+    ensures { IfOk result (λ text.
+        ShowsNode machine.now (option_copied found.entry) classes.now text.items) }
 {
     let processes = processes(alloc, machine)?;
     let members = members_among(alloc, processes.as_slice())?;
-    node_lines(alloc, machine.users(), members.as_slice(), node, classes)
+    found_lines(alloc, machine.users(), members.as_slice(), found, classes)
 }
 
-/// Returns the lines on a node of a tree, by the processes that run.
-fn node_lines(
+/// Returns the lines on what a tree has at a path, by the processes that run.
+fn found_lines(
     alloc: Global,
     users: &UserTable,
     members: &[Member],
-    node: &TreeNode,
+    found: Option<&TreeNode>,
     classes: &[FileClass],
 ) -> Result<Vec<u8>, AllocError>
     ensures { IfOk result (λ text. text.items
-        ≡ shown_node users.now members.now node.now classes.now) }
+        ≡ shown_node users.now members.now (option_copied found.entry) classes.now) }
 {
     let mut text = Vec::new(alloc);
-    push_head(&mut text, node)?;
-    push_roles(alloc, &mut text, users, members, node, classes)?;
+    push_found(alloc, &mut text, users, members, found, classes)?;
     push_changers(alloc, &mut text, users, members, classes)?;
     Ok(text)
+}
+
+/// Adds the line of what a tree has at a path, and who reaches it; or `no entry` if it has nothing there.
+fn push_found(
+    alloc: Global,
+    text: &mut Vec<u8>,
+    users: &UserTable,
+    members: &[Member],
+    found: Option<&TreeNode>,
+    classes: &[FileClass],
+) -> Result<(), AllocError>
+    ensures { OnOk result (text.new.items
+        ≡ text.old.items ++ shown_found users.now members.now (option_copied found.entry) classes.now) }
+{
+    let Some(node) = found else {
+        return text.extend_from_slice(b"no entry\n");
+    };
+    push_head(text, node)?;
+    push_roles(alloc, text, users, members, node, classes)
 }
 
 /// Adds the line of a file or a directory: its path, its kind, its owner and its mode.
@@ -180,8 +202,8 @@ fn push_login_readers(
     push_users(text, b"login", readers.as_slice())
 }
 
-/// Adds a line for each process that may change what is of the first of these classes and lies in directories
-/// of the others, and for each user as whom a process could log in to do so.
+/// Adds a line for each process that may change what is of one of these classes and lies in directories of those
+/// behind it, and for each user as whom a process could log in to do so.
 fn push_changers(
     alloc: Global,
     text: &mut Vec<u8>,

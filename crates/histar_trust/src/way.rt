@@ -1,8 +1,8 @@
-//! What is at a path of a tree, and the directories above it.
+//! What is at a path of a tree, and the classes on the way to it.
 ghost use Rattle.std.specs.Prelude.{◌≡◌, ◌++◌, IfOk, map, OnOk};
 ghost use Rattle.std.specs.Option.{option_copied};
 ghost use Rattle.histar_secrecy.specs.ShownRoles.{flat_class};
-ghost use Rattle.histar_trust.specs.Findings.{class_flat, class_there, classes_to, node_at};
+ghost use Rattle.histar_trust.specs.Findings.{class_flat, class_there, classes_to, next_way, node_at};
 
 use crate::members::numbers;
 use histar_flat::Name;
@@ -38,6 +38,17 @@ pub fn push_classes(
         return Ok(());
     };
     push_classes(alloc, tree, above, classes)
+}
+
+/// Goes on from the way to one node of a tree to that of the next one: it leaves the classes of the directories
+/// above it, and adds its own.
+pub fn go_on(alloc: Global, way: &mut Vec<FileClass>, node: &TreeNode) -> Result<(), AllocError>
+    ensures { OnOk result (map flat_class way.new.items
+        ≡ next_way (map flat_class way.old.items) node.now) }
+{
+    way.truncate(node.path.depth());
+    let class = file_class(alloc, &node.class)?;
+    Ok(way.push(class)?)
 }
 
 /// Adds the class of a node, if there is one.
