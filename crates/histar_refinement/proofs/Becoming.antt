@@ -203,7 +203,7 @@ module _ (accounts : Accounts) (s : State) (f : Flat) (l : ObjectsMatch accounts
   job_used job (inl k) = known_then job k.0 k.1 k.2 k.3
   job_used job (inr served) = inr served
 
-  used_then : (c : CategoryName) → IsUsed accounts after c → IsUsed accounts f c
+  pub used_then : (c : CategoryName) → IsUsed accounts after c → IsUsed accounts f c
   used_then OfBoot u = u
   used_then (ReadsUser i) u = u
   used_then (WritesUser i) u = u

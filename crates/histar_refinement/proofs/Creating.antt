@@ -33,11 +33,12 @@ use Rattle.histar_refinement.proofs.AgreesAt.{AgreesAt}
 use Rattle.histar_refinement.proofs.Expected.{bare_container, guarded_object, node_object, listing_object, expected}
 use Rattle.histar_programs.specs.Start.{segment}
 use Rattle.histar_refinement.specs.Represents.{ObjectsMatch}
+use Rattle.histar_refinement.specs.KeptNames.{KeepsNames}
 use Rattle.histar_refinement.proofs.Steps.{step_tests_equality}
 use Rattle.histar_refinement.proofs.Moving.{number_below, agrees_added, number_new, number_old}
 use Rattle.histar_refinement.proofs.Roots.{asked_path, asked_listing}
-use Rattle.histar_refinement.proofs.ListedFiles.{SameNumbers, ClassFits}
-use Rattle.histar_refinement.proofs.Making.{boot_thread_below, Agreeing, same_numbers, matched_made}
+use Rattle.histar_refinement.proofs.ListedFiles.{SameNumbers, ClassFits, AreKnown}
+use Rattle.histar_refinement.proofs.Making.{boot_thread_below, Agreeing, old_numbers, names_made, same_numbers, matched_made}
 use Rattle.histar_refinement.proofs.Agreement.{agreement}
 
 -- what was nothing and is not the next number stays nothing
@@ -138,6 +139,13 @@ module _ (accounts : Accounts) (s : State) (f : Flat) (l : ObjectsMatch accounts
       empty_segment at_directory holder free (λ c. sym (none_linked c))))
       name (omega (arith, below), omega (arith, few)) parent_is_dir room
 
+  -- names keep their numbers, where each job of the class is known
+  pub names_created : s.next_object < greatest → AreKnown accounts s f l class → (new : State)
+      → (later : ObjectsMatch accounts new (with_node f (m ∷ d) class (File []))) → later.naming ≡ file_naming → later.category ≡ l.category
+      → KeepsNames l later
+  names_created few known new later naming category =
+      names_made accounts s f l d m class (File []) absent fits with_file new file_naming file_asked (file_agrees few) later naming category known
+
   -- ---- a directory
 
   abbrev empty_container : Object Levels
@@ -209,6 +217,20 @@ module _ (accounts : Accounts) (s : State) (f : Flat) (l : ObjectsMatch accounts
         (gone_added s D boot_thread_number empty_container l.boot_thread_gone not_boot)
         (λ e. let low = boot_thread_below accounts s f l in absurd (omega (arith, low, e)));
   }
+
+  -- what had an address keeps its number
+  pub directory_old_numbers : s.next_object + 1 < greatest → (a : Address Step) (q : ℕ) → l.naming.number a ≡ Some q
+      → directory_naming.number a ≡ Some q
+  directory_old_numbers few =
+      old_numbers accounts s f l d m class Dir absent fits with_directory directory_naming directory_asked (directory_agrees few)
+
+  -- names keep their numbers, where each job of the class is known
+  pub names_of_directory : s.next_object + 1 < greatest → AreKnown accounts s f l class → (new : State)
+      → (later : ObjectsMatch accounts new (with_node f (m ∷ d) class Dir)) → later.naming ≡ directory_naming → later.category ≡ l.category
+      → KeepsNames l later
+  names_of_directory few known new later naming category =
+      names_made accounts s f l d m class Dir absent fits with_directory new directory_naming directory_asked (directory_agrees few) later
+      naming category known
 
   -- what processes have keeps its numbers
   pub directory_numbers : s.next_object + 1 < greatest → SameNumbers l.naming.number directory_naming.number

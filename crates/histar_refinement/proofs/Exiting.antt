@@ -29,6 +29,7 @@ use Rattle.histar_refinement.specs.Categories.CategoryName.{OfJob}
 use Rattle.histar_refinement.specs.Guards.{guard_label}
 use Rattle.histar_refinement.specs.Labels.{process_guard}
 use Rattle.histar_refinement.specs.Addresses.{Step, same_step, address_of, home_address, boot_number}
+use Rattle.histar_refinement.proofs.KeepingNames.{keeps_above}
 use Rattle.histar_refinement.proofs.Expected.{path_at, process_at, inside_at}
 use Rattle.histar_refinement.specs.Addresses.Step.{Left, Slash, Listing, Named, Home, Status, Inside, Runner, Child}
 use Rattle.histar_refinement.specs.Processes.{or_zero, children, listed_by, process_bytes}
@@ -36,7 +37,8 @@ use Rattle.histar_refinement.proofs.AgreesAt.{AgreesAt}
 use Rattle.histar_refinement.proofs.Expected.{listing_object, home_object, status_object, inside_object, thread_object, expected_node, listing_at}
 use Rattle.histar_refinement.proofs.Expected.{expected_home, bytes_for, expected_status, container_inside, thread_at, expected}
 use Rattle.histar_programs.specs.Start.{segment}
-use Rattle.histar_refinement.specs.Represents.{IsProcess, AreJobsGiven, ObjectsMatch, Represents}
+use Rattle.histar_refinement.specs.Represents.{IsProcess, AreJobsGiven, ObjectsMatch}
+use Rattle.histar_refinement.specs.KeptNames.{RepresentsStill}
 use Rattle.histar_refinement.proofs.ProcessBytes.{alike_bytes}
 use Rattle.histar_refinement.proofs.Roots.{address_path, address_process, address_inside, same_home, same_directory, AsksAlike, asked_alike}
 use Rattle.histar_refinement.proofs.Roots.{asked_status}
@@ -418,6 +420,9 @@ module _ (accounts : Accounts) (s : State) (f : Flat) (l : ObjectsMatch accounts
       refl,
     )
 
-    -- the kernel represents the flat state in which the process has exited
-    pub represents_exited : AreJobsGiven f → Represents accounts new after
-    represents_exited given = record { matched = matched_exited.0; jobs_given = jobs_exited given }
+    -- the kernel represents the flat state in which the process has exited, and names keep their numbers
+    pub still_exited : (given : AreJobsGiven f) → RepresentsStill (record { matched = l; jobs_given = given }) new after
+    still_exited given = record {
+      represents = record { matched = matched_exited.0; jobs_given = jobs_exited given };
+      names = keeps_above l matched_exited.0 top matched_exited.1 matched_exited.2 used_then;
+    }

@@ -28,8 +28,9 @@ use Rattle.histar_refinement.proofs.Uses.{keep_order}
 use Rattle.histar_refinement.proofs.Beside.{Beside, beside_uncounted, own_set, own_taken}
 use Rattle.histar_refinement.proofs.Spawned.{births, beside_births}
 use Rattle.histar_refinement.proofs.Spawning.{outer, inner, label, clearance, child_written, own_written, naming, category, child_not_me, at_me}
-use Rattle.histar_refinement.proofs.Spawning.{keeps, kept_runner, matched_born as matched_with_child, job_used, given_then, child_given}
-use Rattle.histar_refinement.proofs.Becoming.{becomes, job_used as job_used_then, given_then as given_later}
+use Rattle.histar_refinement.proofs.Spawning.{keeps, kept_runner, matched_born as matched_with_child, job_used, given_then, child_given, grows_born}
+use Rattle.histar_refinement.proofs.KeepingNames.{Grows}
+use Rattle.histar_refinement.proofs.Becoming.{becomes, job_used as job_used_then, given_then as given_later, used_then as used_after}
 
 module _ (accounts : Accounts) (s : State) (f : Flat) (l : ObjectsMatch accounts s f) (me : ProcName) (p : Process)
     (here : f.processes me ≡ Some p) (runs : p.exited ≡ None) (room : p.born < 64)
@@ -196,14 +197,28 @@ module _ (accounts : Accounts) (s : State) (f : Flat) (l : ObjectsMatch accounts
       two : Beside T own own_clearance owning_two s
       two = beside_uncounted T own own_clearance (with_category t T) s (beside_uncounted T own own_clearance t s beside)
 
-      pub matched_held : ObjectsMatch accounts state_held after
+      pub matched_held : (later : ObjectsMatch accounts state_held after)
+          × (later.naming
+          ≡ naming accounts s f l me p here runs room jobs jobs_used jobs_ordered jobs_free C S at_home at_status)
+          × (later.category
+          ≡ category accounts s f l me p here runs room jobs jobs_used jobs_ordered jobs_free C S at_home at_status)
       matched_held =
           let same = two.next in
-          (becomes accounts state_born_two born b me parent parent_there runs p.user (inr declared) held held_used
+          let later =
+          becomes accounts state_born_two born b me parent parent_there runs p.user (inr declared) held held_used
           held_ordered_then held_apart held_free T thread_there state_held
           (λ q.
           own_taken T own own_clearance (births_of owning_two) (births_of s) final_label final_clearance
           (beside_births T own own_clearance owning_two s C S _ _ _ _ _ two) q
           ∙ ap (λ (c : Categories). (with_own (births_of s) T (rights_label c (thread_rights accounts me holder))
           (rights_clearance c (thread_rights accounts me holder))).objects q) (sym matched_born.2))
-          (ap (λ (m : ℕ). m + 1 + 1 + 1 + 1) same) (omega (arith, counted))).0
+          (ap (λ (m : ℕ). m + 1 + 1 + 1 + 1) same) (omega (arith, counted)) in
+          (later.0, later.1 ∙ matched_born.1, later.2 ∙ matched_born.2)
+
+      -- names are added to those that there were
+      pub grows_held : Grows l matched_held.0
+      grows_held =
+          grows_born accounts s f l me p here runs room jobs jobs_used jobs_ordered jobs_free C S at_home at_status
+          state_held after matched_held.0 matched_held.1 matched_held.2
+          (used_after accounts state_born_two born b me parent parent_there runs p.user (inr declared) held held_used
+          held_ordered_then held_apart held_free T thread_there)

@@ -29,6 +29,7 @@ use Rattle.histar_refinement.specs.Categories.CategoryName.{OfJob}
 use Rattle.histar_refinement.specs.Guards.{guard_label}
 use Rattle.histar_refinement.specs.Labels.{process_guard}
 use Rattle.histar_refinement.specs.Addresses.{Step, same_step, address_of, home_address, boot_number}
+use Rattle.histar_refinement.proofs.KeepingNames.{keeps_above}
 use Rattle.histar_refinement.proofs.Expected.{path_at, process_at, inside_at}
 use Rattle.histar_refinement.specs.Addresses.Step.{Left, Slash, Listing, Named, Home, Status, Inside, Runner, Child}
 use Rattle.histar_refinement.specs.Processes.{process_bytes}
@@ -36,7 +37,8 @@ use Rattle.histar_refinement.proofs.AgreesAt.{AgreesAt}
 use Rattle.histar_refinement.proofs.Expected.{listing_object, home_object, status_object, inside_object, thread_object, expected_node, listing_at}
 use Rattle.histar_refinement.proofs.Expected.{expected_home, bytes_for, expected_status, container_inside, thread_at, expected}
 use Rattle.histar_programs.specs.Start.{segment}
-use Rattle.histar_refinement.specs.Represents.{AreJobsGiven, ObjectsMatch, Represents}
+use Rattle.histar_refinement.specs.Represents.{AreJobsGiven, ObjectsMatch}
+use Rattle.histar_refinement.specs.KeptNames.{RepresentsStill}
 use Rattle.histar_refinement.proofs.ProcessBytes.{alike_bytes}
 use Rattle.histar_layout.proofs.Members.{first_of, second_of}
 use Rattle.histar_refinement.proofs.Roots.{address_path, address_process, address_inside, same_home, same_directory, AsksAlike, asked_alike}
@@ -371,6 +373,9 @@ module _ (accounts : Accounts) (s : State) (f : Flat) (l : ObjectsMatch accounts
         | false ↦ e
       ]
 
-  -- the kernel represents the flat state without the victim
-  pub represents_left : AreJobsGiven f → Represents accounts state_left after
-  represents_left given = record { matched = matched_left.0; jobs_given = jobs_left given }
+  -- the kernel represents the flat state without the victim, and names keep their numbers
+  pub still_left : (given : AreJobsGiven f) → RepresentsStill (record { matched = l; jobs_given = given }) state_left after
+  still_left given = record {
+    represents = record { matched = matched_left.0; jobs_given = jobs_left given };
+    names = keeps_above l matched_left.0 (home_address top) matched_left.1 matched_left.2 used_then;
+  }

@@ -15,6 +15,7 @@ pub mod Moving
 pub mod Steps
 pub mod Roots
 pub mod Agreement
+pub mod KeepingNames
 pub mod StartNumbers
 pub mod StartNames
 pub mod StartTable

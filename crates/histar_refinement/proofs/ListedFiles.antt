@@ -284,6 +284,19 @@ module _ (accounts : Accounts) (s : State) (f : Flat) (l : ObjectsMatch accounts
     jobs_kept known given job (inl k) = given job (inl k)
     jobs_kept known given job (inr served) = given job (known served.0 served.1 served.2 job served.3)
 
+    -- the names that are used then were used before, where each job of a class is known
+    pub used_kept : ((q : Path) (there : Node) → get files q ≡ Some there → AreKnown there.class) → (c : CategoryName)
+        → IsUsed accounts refiled c → IsUsed accounts f c
+    used_kept known OfBoot u = u
+    used_kept known (ReadsUser i) u = u
+    used_kept known (WritesUser i) u = u
+    used_kept known (ReadsGroup k) u = u
+    used_kept known (WritesGroup k) u = u
+    used_kept known (ReadsProcess x) u = u
+    used_kept known (WritesProcess x) u = u
+    used_kept known (OfJob job) (inl k) = inl k
+    used_kept known (OfJob job) (inr served) = known served.0 served.1 served.2 job served.3
+
     module _ (fits : (q : Path) (there : Node) → get files q ≡ Some there → ClassFits there.class) where
       made_then : (c : CategoryName) → IsUsed accounts refiled c → IsMade s.next_category (l.category c)
       made_then OfBoot u = l.made OfBoot u

@@ -12,7 +12,9 @@ use Rattle.histar_refinement.specs.Labels.{thread_rights}
 use Rattle.histar_refinement.specs.Addresses.{home_address}
 use Rattle.histar_refinement.specs.Addresses.Step.{Inside, Runner}
 use Rattle.histar_refinement.specs.Represents.{Represents}
-use Rattle.histar_refinement.proofs.Becoming.{becomes, given_then, job_used}
+use Rattle.histar_refinement.specs.KeptNames.{RepresentsStill}
+use Rattle.histar_refinement.proofs.KeepingNames.{keeps_all}
+use Rattle.histar_refinement.proofs.Becoming.{becomes, given_then, job_used, used_then}
 
 module _ (accounts : Accounts) (s : State) (f : Flat) (l : Represents accounts s f) (me : ProcName) (p : Process)
     (here : f.processes me ≡ Some p) (runs : p.exited ≡ None)
@@ -29,16 +31,21 @@ module _ (accounts : Accounts) (s : State) (f : Flat) (l : Represents accounts s
   never : is_some (user_number accounts name) ≡ false → (p.chain ≡ []) × (changed.held ≡ [])
   never e = absurd (true≢false (sym declared ∙ e))
 
-  pub represents_login : Represents accounts new (with_process f me changed)
-  represents_login =
+  pub still_login : RepresentsStill l new (with_process f me changed)
+  still_login =
       let later =
       becomes accounts s f l.matched me p here runs name (inr declared) [] (λ job e. absurd (true≢false (sym e))) tt
       (λ job e. refl) never T at_thread new (λ q. refl) refl (omega arith) in
       record {
-        matched = later.0;
-        jobs_given = λ job u.
-            sym (given_then accounts s f l.matched me p here runs name (inr declared) []
-            (λ job e. absurd (true≢false (sym e))) tt (λ job e. refl) never T at_thread job)
-            ∙ l.jobs_given job (job_used accounts s f l.matched me p here runs name (inr declared) []
-            (λ job e. absurd (true≢false (sym e))) tt (λ job e. refl) never T at_thread job u);
+        represents = record {
+          matched = later.0;
+          jobs_given = λ job u.
+              sym (given_then accounts s f l.matched me p here runs name (inr declared) []
+              (λ job e. absurd (true≢false (sym e))) tt (λ job e. refl) never T at_thread job)
+              ∙ l.jobs_given job (job_used accounts s f l.matched me p here runs name (inr declared) []
+              (λ job e. absurd (true≢false (sym e))) tt (λ job e. refl) never T at_thread job u);
+        };
+        names =
+            keeps_all l.matched later.0 later.1 later.2 (used_then accounts s f l.matched me p here runs name (inr declared) []
+            (λ job e. absurd (true≢false (sym e))) tt (λ job e. refl) never T at_thread);
       }

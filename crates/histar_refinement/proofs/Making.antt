@@ -33,13 +33,15 @@ use Rattle.histar_refinement.specs.Directories.{both_numbers, target_for, direct
 use Rattle.histar_refinement.proofs.AgreesAt.{AgreesAt}
 use Rattle.histar_refinement.proofs.Expected.{node_object, listing_object, listing_at, expected}
 use Rattle.histar_refinement.specs.Represents.{AreJobsGiven, ObjectsMatch}
+use Rattle.histar_refinement.specs.KeptNames.{KeepsNames}
+use Rattle.histar_refinement.proofs.KeepingNames.{keeps_categories}
 use Rattle.histar_refinement.proofs.Roots.{process_address, asked_path, asked_listing}
 use Rattle.histar_refinement.proofs.Steps.{step_tests_equality}
 use Rattle.histar_refinement.proofs.Moving.{number_below}
 use Rattle.histar_refinement.proofs.DirectoryLaws.{get_directory, len_directory}
 use Rattle.histar_refinement.proofs.ListedFiles.{SameNumbers, not_home, not_begun, same_address_path, asked_same, leads_at, directories_alike}
 use Rattle.histar_refinement.proofs.ListedFiles.{same_leads, numbered_path, numbered_listing, nothing_in, ClassFits, AreKnown, old_known, old_fits}
-use Rattle.histar_refinement.proofs.ListedFiles.{jobs_kept, matched_listed}
+use Rattle.histar_refinement.proofs.ListedFiles.{jobs_kept, used_kept, nothing_unnumbered, matched_listed}
 use Rattle.histar_refinement.proofs.Agreement.{agreement}
 
 -- a directory segment's address is no process's
@@ -118,17 +120,18 @@ module _ (accounts : Accounts) (s : State) (f : Flat) (l : ObjectsMatch accounts
       | inr e ↦ old_fits accounts s f l q there (sym (got_else q e.1) ∙ at)
     ]
 
+    -- each job of a class is known, where those of the new one are
+    all_known : AreKnown accounts s f l class → (q : Path) (there : Node) → get after.files q ≡ Some there → AreKnown accounts s f l there.class
+    all_known known q there at = elim (same_path_found q (m ∷ d)) [
+      | inl e ↦
+          let same : made ≡ there = same_Some made there (sym got_new ∙ ap (get after.files) (sym e.1) ∙ at) in
+          subst (λ (x : Node). AreKnown accounts s f l x.class) same known
+      | inr e ↦ old_known accounts s f l q there (sym (got_else q e.1) ∙ at)
+    ]
+
     -- the numbers in the names of jobs were given as before, where each job of the class is known
     pub jobs_made : AreKnown accounts s f l class → AreJobsGiven f → AreJobsGiven after
-    jobs_made known = jobs_kept accounts s f l after.files all_known
-      where
-        all_known : (q : Path) (there : Node) → get after.files q ≡ Some there → AreKnown accounts s f l there.class
-        all_known q there at = elim (same_path_found q (m ∷ d)) [
-          | inl e ↦
-              let same : made ≡ there = same_Some made there (sym got_new ∙ ap (get after.files) (sym e.1) ∙ at) in
-              subst (λ (x : Node). AreKnown accounts s f l x.class) same known
-          | inr e ↦ old_known accounts s f l q there (sym (got_else q e.1) ∙ at)
-        ]
+    jobs_made known = jobs_kept accounts s f l after.files (all_known known)
 
     -- The objects after the new ones were made: as before but for the new one and, for a directory, its segment.
     pub record Agreeing (mid : State) (naming : Naming Step) (asked : Address Step → Found) : Type 0 where
@@ -140,6 +143,24 @@ module _ (accounts : Accounts) (s : State) (f : Flat) (l : ObjectsMatch accounts
       pub numbered : mid.next_object ≤ greatest
       pub same_next : mid.next_category ≡ s.next_category
       pub gone : mid.objects boot_thread_number ≡ None
+
+    -- what had an address keeps its number
+    pub old_numbers : (mid : State) (naming : Naming Step) (asked : Address Step → Found) → Agreeing mid naming asked
+        → (a : Address Step) (q : ℕ) → l.naming.number a ≡ Some q → naming.number a ≡ Some q
+    old_numbers mid naming asked st a q at =
+        st.elsewhere a (λ e. unnumbered (ap is_some (ap l.naming.number e ∙ at)))
+        (λ e. unnumbered ((agreement l).tree.held Listing new_address (ap is_some (ap l.naming.number e ∙ at)))) ∙ at
+      where
+        unnumbered : is_some (l.naming.number new_address) ≡ true → ⊥
+        unnumbered some = true≢false (sym some ∙ nothing_unnumbered accounts s f l (m ∷ d) absent)
+
+    -- names keep their numbers, where each job of the class is known
+    pub names_made : (mid new : State) (naming : Naming Step) (asked : Address Step → Found) → Agreeing mid naming asked
+        → (later : ObjectsMatch accounts new after) → later.naming ≡ naming → later.category ≡ l.category
+        → AreKnown accounts s f l class → KeepsNames l later
+    names_made mid new naming asked st later naming_is category_is known =
+        keeps_categories l later category_is (used_kept accounts s f l after.files (all_known known))
+        (λ a q at some. ap (λ (names : Naming Step). names.number a) naming_is ∙ old_numbers mid naming asked st a q at)
 
     module _ (mid : State) (naming : Naming Step) (asked : Address Step → Found) (st : Agreeing mid naming asked)
         (N : ℕ) (at_listing : l.naming.number (Listing ∷ address_of d) ≡ Some N) where

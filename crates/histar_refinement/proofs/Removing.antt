@@ -26,6 +26,7 @@ use Rattle.histar_flat.specs.Accounts.{Accounts}
 use Rattle.histar_flat.specs.FlatState.{Node, Flat, is_dir, is_dir_at, is_some_and, without_below as without_below_path}
 use Rattle.histar_flat.specs.PathOrder.{under_path}
 use Rattle.histar_refinement.specs.Addresses.{Step, same_step, address_of, home_address, boot_number}
+use Rattle.histar_refinement.proofs.KeepingNames.{keeps_above}
 use Rattle.histar_refinement.proofs.Expected.{path_at, process_at, inside_at}
 use Rattle.histar_refinement.specs.Addresses.Step.{Left, Slash, Listing, Named, Home, Status, Inside, Runner, Child}
 use Rattle.histar_refinement.specs.Directories.{directory_of}
@@ -33,13 +34,14 @@ use Rattle.histar_refinement.proofs.AgreesAt.{AgreesAt}
 use Rattle.histar_refinement.proofs.Expected.{node_object, listing_object, expected_node, listing_at, expected_home}
 use Rattle.histar_refinement.proofs.Expected.{expected_status, container_inside}
 use Rattle.histar_refinement.proofs.Expected.{thread_at, expected}
-use Rattle.histar_refinement.specs.Represents.{AreJobsGiven, ObjectsMatch, Represents}
+use Rattle.histar_refinement.specs.Represents.{AreJobsGiven, ObjectsMatch}
+use Rattle.histar_refinement.specs.KeptNames.{RepresentsStill}
 use Rattle.histar_refinement.proofs.Roots.{address_path, address_process, address_inside, asked_listing}
 use Rattle.histar_refinement.proofs.Steps.{step_tests_equality}
 use Rattle.histar_refinement.proofs.Moving.{agrees_cut, no_address}
 use Rattle.histar_refinement.proofs.DirectoryLaws.{get_directory}
 use Rattle.histar_refinement.proofs.ListedFiles.{SameNumbers, not_begun, same_address_path, asked_same, leads_at, directories_alike, same_leads}
-use Rattle.histar_refinement.proofs.ListedFiles.{old_known, old_fits, ClassFits, matched_listed, jobs_kept}
+use Rattle.histar_refinement.proofs.ListedFiles.{old_known, old_fits, ClassFits, matched_listed, jobs_kept, used_kept}
 use Rattle.histar_refinement.proofs.Agreement.{agreement}
 
 -- ---- what lies below a path, as an address
@@ -335,6 +337,14 @@ module _ (accounts : Accounts) (s : State) (f : Flat) (l : ObjectsMatch accounts
         | inr t ↦ dir_kept e t.1 (under_path (m ∷ d) e) refl is
       ]
 
-  -- the kernel represents the flat state without the entry
-  pub represents_removed : AreJobsGiven f → is_dir_at f d ≡ true → Represents accounts (with_segment_bytes mid N (spelling smaller)) after
-  represents_removed given dir = record { matched = (matched_removed dir).0; jobs_given = jobs_removed given }
+  -- the kernel represents the flat state without the entry, and names keep their numbers
+  pub still_removed : (given : AreJobsGiven f) → is_dir_at f d ≡ true
+      → RepresentsStill (record { matched = l; jobs_given = given }) (with_segment_bytes mid N (spelling smaller)) after
+  still_removed given dir =
+      let later = matched_removed dir in
+      record {
+        represents = record { matched = later.0; jobs_given = jobs_removed given };
+        names =
+            keeps_above l later.0 top later.1 later.2
+            (used_kept accounts s f l after.files (λ r there at. old_known accounts s f l r there (was_there r there at)));
+      }

@@ -1,7 +1,7 @@
 -- After an entry of a directory is renamed the kernel represents the flat state with all paths below its new name.
 use Rattle.std.proofs.Common.{◌≡◌, ◌≢◌, ℕ, ◌+◌, ◌*◌, ◌⊎◌, inl, inr, Bool, true, false, ◌||◌, cond, [], ◌∷◌, length, Option, None, Some, refl, sym, ap}
 use Rattle.std.proofs.Common.{◌∙◌, subst}
-use Rattle.std.specs.Prelude.{IsTrue, option_map, option_and_then}
+use Rattle.std.specs.Prelude.{IsTrue, is_some, option_map, option_and_then}
 use Rattle.std.specs.FinMap as map
 use Rattle.std.specs.Ordering.{eq_by_cmp}
 use Rattle.std.specs.Cmp.Lexicographic.{nat_list_cmp_total, texts_ties}
@@ -28,17 +28,20 @@ use Rattle.histar_refinement.proofs.AgreesAt.{AgreesAt}
 use Rattle.histar_refinement.proofs.Expected.{node_object, listing_object, expected_node, listing_at, expected_home}
 use Rattle.histar_refinement.proofs.Expected.{expected_status, container_inside}
 use Rattle.histar_refinement.proofs.Expected.{thread_at, expected}
-use Rattle.histar_refinement.specs.Represents.{AreJobsGiven, ObjectsMatch, Represents}
+use Rattle.histar_refinement.specs.Represents.{AreJobsGiven, ObjectsMatch}
+use Rattle.histar_refinement.specs.KeptNames.{RepresentsStill}
 use Rattle.histar_refinement.proofs.Roots.{address_path, asked_listing}
 use Rattle.histar_refinement.proofs.Steps.{step_tests_equality}
 use Rattle.histar_refinement.proofs.DirectoryLaws.{get_directory}
 use Rattle.histar_refinement.proofs.Renamings.{renamed_naming, agrees_renamed}
 use Rattle.histar_refinement.proofs.ListedFiles.{SameNumbers, same_status, leads_at, directories_alike, same_leads, nothing_in, old_known, old_fits}
-use Rattle.histar_refinement.proofs.ListedFiles.{ClassFits, matched_listed, jobs_kept}
+use Rattle.histar_refinement.proofs.ListedFiles.{ClassFits, matched_listed, jobs_kept, used_kept, nothing_unnumbered}
 use Rattle.histar_refinement.proofs.Turning.{turned_name, turned_step, turned_n, turned_k, turned_else, turned, turned_address, address_back}
 use Rattle.histar_refinement.proofs.Turning.{directory_stays, address_stays, same_tests, turned_path_address, turned_home, process_turned}
-use Rattle.histar_refinement.proofs.Turning.{inside_turned, path_turned, get_renamed}
+use Rattle.histar_refinement.proofs.Turning.{inside_turned, path_turned, get_renamed, step_still}
 use Rattle.histar_refinement.proofs.Agreement.{agreement}
+use Rattle.histar_refinement.proofs.KeepingNames.{keeps_categories}
+use Rattle.histar_container.proofs.Addresses.{same_tests_equality}
 
 module _ (accounts : Accounts) (s : State) (f : Flat) (l : ObjectsMatch accounts s f) where
   -- where nothing is at a path, nothing is below it
@@ -174,6 +177,48 @@ module _ (accounts : Accounts) (s : State) (f : Flat) (l : ObjectsMatch accounts
         by None = refl
         by (Some q) = refl
 
+    -- nothing has an address under the new name
+    no_number : is_some (l.naming.number (Named k ∷ address_of d)) ≡ true → ⊥
+    no_number some = true≢false (sym some ∙ nothing_unnumbered accounts s f l (k ∷ d) absent)
+
+    -- an entry that has an object then and had one before has the same name
+    step_stays : (x : Step) → is_some (l.naming.number (x ∷ address_of d)) ≡ true
+        → is_some (l.naming.number (turned_step n k true x ∷ address_of d)) ≡ true → turned_step n k true x ≡ x
+    step_stays (Named m) some then = elim (same_name_found n m) [
+      | inl e ↦
+          absurd (no_number (subst (λ (x : Name). is_some (l.naming.number (Named x ∷ address_of d)) ≡ true)
+          (ap (turned_name n k true) (sym e.1) ∙ turned_n n k) then))
+      | inr e ↦ elim (same_name_found k m) [
+        | inl t ↦ absurd (no_number (subst (λ (x : Name). is_some (l.naming.number (Named x ∷ address_of d)) ≡ true) (sym t.1) some))
+        | inr t ↦ ap Named (turned_else n k m e.1 t.1)
+      ]
+    ]
+    step_stays (Left q) some then = refl
+    step_stays Slash some then = refl
+    step_stays Listing some then = refl
+    step_stays Home some then = refl
+    step_stays Status some then = refl
+    step_stays Inside some then = refl
+    step_stays Runner some then = refl
+    step_stays (Child m) some then = refl
+
+    -- so does an address
+    number_stays : (a : Address Step) → is_some (l.naming.number a) ≡ true → is_some (l.naming.number (turn a)) ≡ true → turn a ≡ a
+    number_stays [] some then = refl
+    number_stays (x ∷ a) some then =
+        let rest : turn a ≡ a =
+        number_stays a ((agreement l).tree.held x a some)
+        ((agreement l).tree.held (turned_step n k (same_address (address_of d) a) x) (turn a) then) in
+        elim (same_tests_equality same_step step_tests_equality (address_of d) a) [
+          | inl e ↦
+              let same_then : is_some (l.naming.number (turn (x ∷ a))) ≡ is_some (l.naming.number (turned_step n k true x ∷ address_of d)) =
+              λ i. is_some (l.naming.number (turned_step n k (e.0 i) x ∷ (rest ∙ sym e.1) i)) in
+              (λ i. turned_step n k (e.0 i) x ∷ rest i)
+              ∙ ap (λ (y : Step). y ∷ a)
+              (step_stays x (ap (λ (b : Address Step). is_some (l.naming.number (x ∷ b))) e.1 ∙ some) (sym same_then ∙ then))
+          | inr e ↦ (λ i. turned_step n k (e.0 i) x ∷ rest i) ∙ ap (λ (y : Step). y ∷ a) (step_still n k x)
+        ]
+
     listing_stays : naming.number (Listing ∷ address_of d) ≡ Some N
     listing_stays = ap (λ (a : Address Step). l.naming.number (Listing ∷ a)) (address_stays n k d) ∙ at_listing
 
@@ -282,7 +327,19 @@ module _ (accounts : Accounts) (s : State) (f : Flat) (l : ObjectsMatch accounts
                 (l.listable (turned n k d e) (ap (λ (o : Option Node). is_some_and o is_dir) (sym (got e)) ∙ is))
           ]
 
-      -- the kernel represents the flat state with the entry renamed
-      pub represents_renamed : AreJobsGiven f → IsTrue (is_name k) → is_dir_at f d ≡ true
-          → Represents accounts (with_segment_bytes s N (spelling renamed_directory)) after
-      represents_renamed given name dir = record { matched = (matched_renamed name dir).0; jobs_given = jobs_renamed given }
+      -- the kernel represents the flat state with the entry renamed, and names keep their numbers
+      pub still_renamed : (given : AreJobsGiven f) → IsTrue (is_name k) → is_dir_at f d ≡ true
+          → RepresentsStill (record { matched = l; jobs_given = given }) (with_segment_bytes s N (spelling renamed_directory)) after
+      still_renamed given name dir =
+          let later = matched_renamed name dir in
+          record {
+            represents = record { matched = later.0; jobs_given = jobs_renamed given };
+            names =
+                keeps_categories l later.0 later.2
+                (used_kept accounts s f l after.files (λ q there at. old_known accounts s f l (turned n k d q) there (sym (got q) ∙ at)))
+                (λ a q at some.
+                let some_then : is_some (l.naming.number (turn a)) ≡ true =
+                ap (λ (names : Naming Step). is_some (names.number a)) (sym later.1) ∙ some in
+                ap (λ (names : Naming Step). names.number a) later.1
+                ∙ ap l.naming.number (number_stays a (ap is_some at) some_then) ∙ at);
+          }

@@ -22,12 +22,15 @@ use Rattle.histar_refinement.specs.Addresses.{same_step, home_address}
 use Rattle.histar_refinement.specs.Addresses.Step.{Status, Inside, Runner}
 use Rattle.histar_refinement.proofs.Expected.{thread_object, expected}
 use Rattle.histar_refinement.specs.Represents.{Represents, ObjectsMatch}
+use Rattle.histar_refinement.specs.KeptNames.{RepresentsStill}
+use Rattle.histar_refinement.proofs.KeepingNames.{grows_keeps}
 use Rattle.histar_rules.specs.Rules.{greatest}
 use Rattle.histar_refinement.proofs.Roots.{asked_runner}
 use Rattle.histar_refinement.proofs.Steps.{step_tests_equality}
 use Rattle.histar_refinement.proofs.Moving.{number_below, at_number, bare_is}
 use Rattle.histar_refinement.proofs.Beside.{Beside, beside_itself, beside_added, beside_written, beside_uncounted, own_set, back}
 use Rattle.histar_refinement.proofs.Spawning.{outer, inner, label, clearance, child_written, own_written, matched_born, job_used, given_then}
+use Rattle.histar_refinement.proofs.Spawning.{grows_born}
 use Rattle.histar_refinement.proofs.Agreement.{agreement}
 
 -- the thread of a process that runs
@@ -140,8 +143,9 @@ module _ (accounts : Accounts) (s : State) (f : Flat) (l : Represents accounts s
   abbrev pub state_spawned : State
   state_spawned = own_set T (born_of owning_two) own caller_clearance
 
-  pub represents_spawned : Represents accounts state_spawned (with_child f me p p.chain)
-  represents_spawned =
+  -- the state represents the flat state with the child, and names keep their numbers
+  pub still_spawned : RepresentsStill l state_spawned (with_child f me p p.chain)
+  still_spawned =
       let start = beside_start accounts s f m me p here runs T at_thread in
       let two = beside_uncounted T own caller_clearance (with_category s T) s (beside_uncounted T own caller_clearance s s start) in
       let born =
@@ -149,9 +153,15 @@ module _ (accounts : Accounts) (s : State) (f : Flat) (l : Represents accounts s
       chain_free C S at_home at_status state_spawned (back T own caller_clearance (born_of owning_two) (born_of s)
       (beside_births T own caller_clearance owning_two s C S _ _ _ _ _ two)) refl (omega arith) few in
       record {
-        matched = born.0;
-        jobs_given = λ job u. given_then accounts s f m me p here runs room p.chain chain_used
-            (l.matched.processes me p here).chain chain_free C S at_home at_status job
-            (l.jobs_given job (job_used accounts s f m me p here runs room p.chain chain_used
-            (l.matched.processes me p here).chain chain_free C S at_home at_status job u));
+        represents = record {
+          matched = born.0;
+          jobs_given = λ job u. given_then accounts s f m me p here runs room p.chain chain_used
+              (l.matched.processes me p here).chain chain_free C S at_home at_status job
+              (l.jobs_given job (job_used accounts s f m me p here runs room p.chain chain_used
+              (l.matched.processes me p here).chain chain_free C S at_home at_status job u));
+        };
+        names =
+            grows_keeps m born.0 (grows_born accounts s f m me p here runs room p.chain chain_used
+            (l.matched.processes me p here).chain chain_free C S at_home at_status state_spawned
+            (with_child f me p p.chain) born.0 born.1 born.2 (λ c used. used));
       }

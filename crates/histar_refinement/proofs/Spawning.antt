@@ -1,6 +1,6 @@
 -- After a birth the kernel represents the flat state with the child.
-use Rattle.std.proofs.Common.{◌≡◌, ◌≢◌, ℕ, ◌+◌, ◌*◌, ◌<◌, ◌⊎◌, inl, inr, true, false, ◌&&◌, ◌||◌, cond, List, [], ◌∷◌, length, Option, None, Some}
-use Rattle.std.proofs.Common.{arith, refl, sym, ap, ◌∙◌, subst}
+use Rattle.std.proofs.Common.{◌≡◌, ◌≢◌, ℕ, ◌+◌, ◌*◌, ◌<◌, ◌≤◌, ◌⊎◌, inl, inr, true, false, ◌&&◌, ◌||◌, cond, List, [], ◌∷◌, length, Option, None}
+use Rattle.std.proofs.Common.{Some, arith, refl, sym, ap, ◌∙◌, subst}
 use Rattle.std.specs.Prelude.{is_some, option_map, nat_le}
 use Rattle.std.proofs.lemmas.Bool.Decides.{nat_tests}
 use Rattle.std.proofs.lemmas.Option.{none-some, same_Some}
@@ -28,6 +28,7 @@ use Rattle.histar_refinement.specs.Categories.CategoryName.{OfJob}
 use Rattle.histar_refinement.specs.Guards.{guard_label, rights_label, rights_clearance}
 use Rattle.histar_refinement.specs.Labels.{process_guard, inside_guard, thread_rights}
 use Rattle.histar_refinement.specs.Addresses.{Step, same_step, address_of, home_address, boot_number}
+use Rattle.histar_refinement.proofs.KeepingNames.{Grows}
 use Rattle.histar_refinement.proofs.Expected.{path_at}
 use Rattle.histar_refinement.specs.Addresses.Step.{Left, Slash, Listing, Named, Home, Status, Inside, Runner, Child}
 use Rattle.histar_refinement.specs.Processes.{process_bytes}
@@ -604,3 +605,30 @@ module _ (accounts : Accounts) (s : State) (f : Flat) (l : ObjectsMatch accounts
     refl,
     refl,
   )
+
+  -- An address that had a number keeps it.
+  none_there : (b a : Address Step) (q : ℕ) → is_present (old_asked b) ≡ false → l.naming.number a ≡ Some q → b ≢ a
+  none_there b a q none at e = true≢false (sym (ap is_some (ap l.naming.number e ∙ at)) ∙ (agreement l).named b ∙ none)
+
+  old_numbers : (a : Address Step) (q : ℕ) → l.naming.number a ≡ Some q → naming.number a ≡ Some q
+  old_numbers a q at =
+      kept a (none_there (home_address child) a q no_home at) (none_there (Inside ∷ home_address child) a q no_inside at)
+      (none_there (Runner ∷ Inside ∷ home_address child) a q no_runner at)
+      (none_there (Status ∷ home_address child) a q no_status at) ∙ at
+
+  -- Names are added, in each state that has these names and whose flat state uses no others.
+  pub grows_born : (t : State) (g : Flat) (born : ObjectsMatch accounts t g) → born.naming ≡ naming → born.category ≡ category
+      → ((c : CategoryName) → IsUsed accounts g c → IsUsed accounts after c) → Grows l born
+  grows_born t g born naming_is category_is used = record {
+    categories = λ c before. ap (λ (names : Categories). names c) category_is ∙ keeps c before;
+    fresh = λ c late. elim (used_then c (used c late)) as (λ _. IsUsed accounts f c ⊎ (s.next_category ≤ born.category c)) [
+      | inl old ↦ inl old
+      | inr (inl e) ↦
+          let k : born.category c ≡ next = ap (λ (names : Categories). names c) category_is ∙ ap category e ∙ reads_number in
+          inr (omega (arith, k))
+      | inr (inr e) ↦
+          let k : born.category c ≡ next + 1 = ap (λ (names : Categories). names c) category_is ∙ ap category e ∙ writes_number in
+          inr (omega (arith, k))
+    ];
+    addresses = λ a q at. ap (λ (names : Naming Step). names.number a) naming_is ∙ old_numbers a q at;
+  }

@@ -10,6 +10,8 @@ use Rattle.histar_flat.specs.FlatState.{Flat}
 use Rattle.histar_refinement.specs.Addresses.{home_address}
 use Rattle.histar_refinement.specs.Addresses.Step.{Inside, Runner}
 use Rattle.histar_refinement.specs.Represents.{Represents}
+use Rattle.histar_refinement.specs.KeptNames.{RepresentsStill}
+use Rattle.histar_refinement.proofs.KeepingNames.{keeps_all}
 use Rattle.histar_refinement.proofs.Beside.{beside_uncounted, own_set, back}
 use Rattle.histar_refinement.proofs.Spawned.{own_label, own_clearance, beside_start}
 use Rattle.histar_refinement.proofs.Counting.{matched_more}
@@ -31,9 +33,10 @@ module _ (accounts : Accounts) (s : State) (f : Flat) (l : Represents accounts s
       (own_clearance accounts s f l.matched me p here runs T at_thread) s s
       (beside_start accounts s f l.matched me p here runs T at_thread))
 
-  pub represents_refused : Represents accounts state_refused f
-  represents_refused =
+  pub still_refused : RepresentsStill l state_refused f
+  still_refused =
+      let later = matched_more accounts s f l.matched state_refused refused_objects refl (omega arith) in
       record {
-        matched = (matched_more accounts s f l.matched state_refused refused_objects refl (omega arith)).0;
-        jobs_given = l.jobs_given;
+        represents = record { matched = later.0; jobs_given = l.jobs_given };
+        names = keeps_all l.matched later.0 later.1 later.2 (λ c used. used);
       }

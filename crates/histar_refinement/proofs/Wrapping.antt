@@ -29,20 +29,23 @@ use Rattle.histar_flat.specs.FlatState.Content.{Dir}
 use Rattle.histar_flat.proofs.WrappedJobs.{has_last}
 use Rattle.histar_flat.proofs.GivenNames.{longer_has}
 use Rattle.histar_refinement.specs.Categories.{CategoryName, Categories, IsMade, among, naming_next, is_for, IsKnown, IsServed, IsUsed}
-use Rattle.histar_refinement.specs.Categories.CategoryName.{OfJob}
+use Rattle.histar_refinement.specs.Categories.CategoryName.{OfBoot, ReadsUser, WritesUser, ReadsGroup, WritesGroup}
+use Rattle.histar_refinement.specs.Categories.CategoryName.{ReadsProcess, WritesProcess, OfJob}
 use Rattle.histar_refinement.specs.Guards.{Guard, guard_label}
 use Rattle.histar_refinement.specs.Labels.{class_guard, scratch_guard}
 use Rattle.histar_refinement.specs.Addresses.{Step, address_of, home_address}
 use Rattle.histar_refinement.specs.Addresses.Step.{Listing, Status, Inside, Runner}
 use Rattle.histar_refinement.specs.Directories.{directory_of}
 use Rattle.histar_refinement.specs.Represents.{AreInOrder, Represents, ObjectsMatch}
+use Rattle.histar_refinement.specs.KeptNames.{RepresentsStill}
+use Rattle.histar_refinement.proofs.KeepingNames.{Grows, grows_keeps, grows_twice}
 use Rattle.histar_refinement.proofs.JobLists.{in_order_last}
 use Rattle.histar_refinement.proofs.Beside.{Beside, beside_added, beside_written, beside_category}
 use Rattle.histar_refinement.proofs.Spawned.{own_label, own_clearance, beside_start}
 use Rattle.histar_refinement.proofs.ListedFiles.{SameNumbers, ClassFits}
-use Rattle.histar_refinement.proofs.Creating.{directory_naming, matched_directory_created, directory_numbers}
+use Rattle.histar_refinement.proofs.Creating.{directory_naming, matched_directory_created, directory_numbers, directory_old_numbers}
 use Rattle.histar_refinement.proofs.JobNamed as jobs
-use Rattle.histar_refinement.proofs.JobBorn.{after, state_held, given_after, given_child, used_before, matched_held}
+use Rattle.histar_refinement.proofs.JobBorn.{after, state_held, given_after, given_child, used_before, matched_held, grows_held}
 
 -- The process that wraps and its user, the name of the directory that it makes and the directory above, and the numbers of the objects of
 -- the process and of the directory above.
@@ -399,12 +402,68 @@ module _ (accounts : Accounts) (s : State) (f : Flat) (l : Represents accounts s
             | inr e ↦ given_now job e
           ]
 
-      -- The state after all calls of the wrap represents the flat state with the directory and the job's first process, whose wrapper holds the job.
-      pub represents_wrapped : Represents accounts state_wrapped wrapped
-      represents_wrapped = subst (Represents accounts state_wrapped) same_flat
+      -- what was used is used once the directory is made
+      still_used : (c : CategoryName) → IsUsed accounts f c → IsUsed accounts with_directory c
+      still_used OfBoot u = u
+      still_used (ReadsUser j) u = u
+      still_used (WritesUser j) u = u
+      still_used (ReadsGroup j) u = u
+      still_used (WritesGroup j) u = u
+      still_used (ReadsProcess x) u = u
+      still_used (WritesProcess x) u = u
+      still_used (OfJob job) (inl known) = inl known
+      still_used (OfJob job) (inr at) = elim (same_path_found at.0 (n ∷ d)) [
+        | inl e ↦ absurd (none-some at.1 (sym absent ∙ ap (get f.files) (sym e.1) ∙ at.2))
+        | inr e ↦ inr (at.0, at.1, get_other f.files (n ∷ d) (record { class = class; content = Dir }) at.0 e.1 ∙ at.2, at.3)
+      ]
+
+      -- the job's name is the only one that is added
+      job_added : (job : ProcName) → IsUsed accounts with_directory (OfJob job)
+          → IsUsed accounts f (OfJob job) ⊎ (s.next_category ≤ k.category (OfJob job))
+      job_added job u = elim (old_or_new job u) [
+        | inl old ↦ inl old
+        | inr e ↦ elim (longer_has p.chain child job e) [
+          | inl old ↦ inl (chain_known job old)
+          | inr is ↦
+              let number : k.category (OfJob job) ≡ s.next_category =
+              ap (λ (names : Categories). names (OfJob job)) made.2 ∙ ap (λ (j : ProcName). m.category (OfJob j)) is ∙ job_number in
+              inr (omega (arith, number))
+        ]
+      ]
+
+      name_added : (c : CategoryName) → IsUsed accounts with_directory c → IsUsed accounts f c ⊎ (s.next_category ≤ k.category c)
+      name_added OfBoot u = inl u
+      name_added (ReadsUser j) u = inl u
+      name_added (WritesUser j) u = inl u
+      name_added (ReadsGroup j) u = inl u
+      name_added (WritesGroup j) u = inl u
+      name_added (ReadsProcess x) u = inl u
+      name_added (WritesProcess x) u = inl u
+      name_added (OfJob job) u = job_added job u
+
+      grows_made : Grows l.matched k
+      grows_made = record {
+        categories = λ c used. ap (λ (names : Categories). names c) made.2 ∙ keeps c used;
+        fresh = name_added;
+        addresses = λ a q at.
+            ap (λ (names : Naming Step). names.number a) made.1
+            ∙ directory_old_numbers accounts (with_next_category s) f m d above at_parent D N at_D_named at_N_named n absent class
+            fits (scratch_guard chain i) guard_is (omega (arith, few)) a q
+            (ap (λ (names : Naming Step). names.number a) named.1 ∙ at);
+      }
+
+      -- The state after all calls of the wrap represents the flat state with the directory and the job's first process, whose wrapper holds the
+      -- job, and names keep their numbers.
+      pub still_wrapped : RepresentsStill l state_wrapped wrapped
+      still_wrapped =
+          let later =
+          matched_held accounts made_state with_directory k me p here runs room is_declared served stranger
+          k_chain k_held C S T k_home k_status k_thread few_born own clearance state_directory beside counted in
+          subst (RepresentsStill l state_wrapped) same_flat
           (record {
-            matched =
-                matched_held accounts made_state with_directory k me p here runs room is_declared served stranger
-                k_chain k_held C S T k_home k_status k_thread few_born own clearance state_directory beside counted;
-            jobs_given = jobs_given_then;
+            represents = record { matched = later.0; jobs_given = jobs_given_then };
+            names =
+                grows_keeps l.matched later.0 (grows_twice l.matched k later.0 (omega arith) still_used grows_made
+                (grows_held accounts made_state with_directory k me p here runs room is_declared served stranger
+                k_chain k_held C S T k_home k_status k_thread few_born own clearance state_directory beside counted));
           })

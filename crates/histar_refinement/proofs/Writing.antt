@@ -22,13 +22,16 @@ use Rattle.histar_refinement.specs.Addresses.{Step, same_step, address_of}
 use Rattle.histar_refinement.specs.Directories.{target_for, directory_of}
 use Rattle.histar_refinement.proofs.AgreesAt.{AgreesAt}
 use Rattle.histar_refinement.proofs.Expected.{node_object, listing_object, listing_at, expected}
-use Rattle.histar_refinement.specs.Represents.{AreJobsGiven, ObjectsMatch, Represents}
+use Rattle.histar_refinement.specs.Represents.{AreJobsGiven, ObjectsMatch}
+use Rattle.histar_refinement.specs.KeptNames.{RepresentsStill}
 use Rattle.histar_refinement.proofs.Steps.{step_tests_equality}
 use Rattle.histar_refinement.proofs.Moving.{bare_held, agrees_changed, agrees_same}
 use Rattle.histar_refinement.proofs.Roots.{asked_path}
 use Rattle.histar_refinement.proofs.ListedFiles.{asked_same, held_node, leads_at, directories_alike, same_leads, ClassFits, AreKnown, old_known}
-use Rattle.histar_refinement.proofs.ListedFiles.{old_fits, jobs_kept, matched_files}
+use Rattle.histar_refinement.proofs.ListedFiles.{old_fits, jobs_kept, used_kept, matched_files}
 use Rattle.histar_refinement.proofs.Agreement.{agreement}
+use Rattle.histar_refinement.proofs.KeepingNames.{keeps_all}
+use Rattle.histar_refinement.specs.Categories.{CategoryName, IsUsed}
 
 module _ (accounts : Accounts) (s : State) (f : Flat) (l : ObjectsMatch accounts s f) (q : Path) (class : Class)
     (old bytes : List ℕ) (at : get f.files q ≡ Some (record { class = class; content = File old })) (O : ℕ)
@@ -143,6 +146,15 @@ module _ (accounts : Accounts) (s : State) (f : Flat) (l : ObjectsMatch accounts
       subst (λ (c : Class). AreJobsGiven f → AreJobsGiven (with_node f q c (File bytes))) (sym (ap class_of at))
       (jobs_kept accounts s f l after.files all_known)
 
-  -- the kernel represents the flat state with the new bytes
-  pub represents_overwritten : AreJobsGiven f → Represents accounts (with_segment_bytes s O bytes) (with_file_bytes f q bytes)
-  represents_overwritten given = record { matched = matched_overwritten.0; jobs_given = jobs_overwritten given }
+  used_overwritten : (c : CategoryName) → IsUsed accounts (with_file_bytes f q bytes) c → IsUsed accounts f c
+  used_overwritten =
+      subst (λ (c : Class). (x : CategoryName) → IsUsed accounts (with_node f q c (File bytes)) x → IsUsed accounts f x) (sym (ap class_of at))
+      (used_kept accounts s f l after.files all_known)
+
+  -- the kernel represents the flat state with the new bytes, and names keep their numbers
+  pub still_overwritten : (given : AreJobsGiven f)
+      → RepresentsStill (record { matched = l; jobs_given = given }) (with_segment_bytes s O bytes) (with_file_bytes f q bytes)
+  still_overwritten given = record {
+    represents = record { matched = matched_overwritten.0; jobs_given = jobs_overwritten given };
+    names = keeps_all l matched_overwritten.0 matched_overwritten.1 matched_overwritten.2 used_overwritten;
+  }

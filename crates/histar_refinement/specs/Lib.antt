@@ -11,5 +11,6 @@ pub mod Directories
 pub mod Asked
 pub mod Agrees
 pub mod Represents
+pub mod KeptNames
 pub mod Lines
 pub mod Laws

@@ -23,6 +23,8 @@ use Rattle.histar_programs.specs.Programs.{Program, Runs}
 use Rattle.histar_programs.specs.declared.caller.Caller.{Caller}
 use Rattle.histar_programs.specs.Caller.{caller_at}
 use Rattle.histar_programs.specs.Start.{roots_of}
+use Rattle.histar_refinement.specs.KeptNames.{RepresentsStill}
+use Rattle.histar_refinement.proofs.KeepingNames.{still_represents}
 use Rattle.histar_refinement.specs.Represents.{Represents}
 use Rattle.histar_refinement.specs.Laws.{IsCallerOf}
 use Rattle.histar_refinement.specs.Lines.{IsThreadOf}
@@ -167,6 +169,7 @@ module _ (refinements : CallsRefine) (accounts : Accounts) (old new : MachineMod
           line = subst (λ (r : Reply). IsLine accounts (state old.kernel) line me r [] (state old.kernel)) (sym still.0) is_line;
           reads = subst (λ (o : Option Process). HasReads accounts (state old.kernel) f o call (reply_to accounts f me call) []) (sym none) tt;
           represents = subst (Represents accounts (state old.kernel)) (sym still.1) shows.represents;
+          keeps = λ from. subst (RepresentsStill from (state old.kernel)) (sym still.1) (still_represents from (state old.kernel) refl);
         };
         shows = subst (Shows accounts old) (sym still.1) shows;
       }

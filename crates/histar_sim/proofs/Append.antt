@@ -9,6 +9,7 @@ use Rattle.histar_flat.specs.FlatState.{Flat, bytes_at}
 use Rattle.histar_flat.specs.FlatCalls.{most_bytes}
 use Rattle.histar_calls.specs.Append.{append_program}
 use Rattle.histar_sim.specs.Laws.{AppendRefines}
+use Rattle.histar_sim.proofs.CallErrors.{from_each}
 use Rattle.histar_sim.proofs.Files.{WritesFile, slash_is_no_file, writing_step}
 
 -- then the file has the new bytes after its old ones
@@ -21,9 +22,11 @@ append_writes accounts f me p q bytes =
 pub append_refines : AppendRefines
 unfolding append_program
 append_refines accounts ok [] bytes me old new f t result ready run =
+    from_each accounts f me (calls.Append [] bytes) old new t result ready (λ ready.
     slash_is_no_file accounts old new f me t ready (calls.Append [] bytes) result _
-    (append_writes accounts f me ready.caller.process [] bytes).reaches _ run
+    (append_writes accounts f me ready.caller.process [] bytes).reaches _ run)
 append_refines accounts ok (m ∷ d) bytes me old new f t result ready run =
+    from_each accounts f me (calls.Append (m ∷ d) bytes) old new t result ready (λ ready.
     writing_step accounts ok old new f me t ready m d (calls.Append (m ∷ d) bytes) result most_bytes bytes
     (bytes_at f (m ∷ d) ++ bytes) (append_writes accounts f me ready.caller.process (m ∷ d) bytes)
-    (λ few. ap (λ (xs : List ℕ). xs ++ bytes) (take_all most_bytes (bytes_at f (m ∷ d)) few)) run
+    (λ few. ap (λ (xs : List ℕ). xs ++ bytes) (take_all most_bytes (bytes_at f (m ∷ d)) few)) run)

@@ -29,11 +29,12 @@ use Rattle.histar_refinement.specs.Labels.{process_guard, inside_guard, thread_r
 use Rattle.histar_refinement.specs.Addresses.{home_address}
 use Rattle.histar_refinement.specs.Addresses.Step.{Status, Inside, Runner}
 use Rattle.histar_refinement.specs.Represents.{Represents}
+use Rattle.histar_refinement.specs.KeptNames.{RepresentsStill}
 use Rattle.histar_refinement.specs.Processes.{or_zero, process_bytes, status_by}
 use Rattle.histar_refinement.proofs.Beside.{own_set}
 use Rattle.histar_refinement.proofs.Growing.{same_rights_label}
 use Rattle.histar_layout.proofs.Members.{is_in}
-use Rattle.histar_refinement.proofs.Spawned.{births, state_spawned, represents_spawned}
+use Rattle.histar_refinement.proofs.Spawned.{births, state_spawned, still_spawned}
 use Rattle.histar_refinement.proofs.Spawning.{keeps, reads_number, writes_number}
 use Rattle.histar_refinement.proofs.Uses.{rights_used}
 use Rattle.histar_refinement.proofs.OwnLabels.{own_user_is, name_of_number}
@@ -204,7 +205,7 @@ module _ (accounts : Accounts) (ok : AreAccounts accounts) (s : State) (f : Flat
         (chain_free accounts s f represents.matched me p here runs room C S at_home at_status) C S at_home at_status i)) own clearance
 
     -- This state represents the flat state with the child.
-    pub spawned_matched : Represents accounts
+    pub spawned_matched : RepresentsStill represents
         (spawned s T (record { container = C; segment = S })
         (status_by f.processes represents.matched.naming.number me p)
         (kin_of accounts (rights_label represents.matched.category (thread_rights accounts me p)))
@@ -212,5 +213,5 @@ module _ (accounts : Accounts) (ok : AreAccounts accounts) (s : State) (f : Flat
         (rights_clearance represents.matched.category (thread_rights accounts me p)))
         (flat.with_child f me p p.chain)
     spawned_matched =
-        subst (λ (x : State). Represents accounts x (flat.with_child f me p p.chain)) (sym spawned_is)
-        (represents_spawned accounts s f represents me p here runs room C S T at_home at_status at_thread few)
+        subst (λ (x : State). RepresentsStill represents x (flat.with_child f me p p.chain)) (sym spawned_is)
+        (still_spawned accounts s f represents me p here runs room C S T at_home at_status at_thread few)

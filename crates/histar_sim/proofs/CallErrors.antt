@@ -1,7 +1,7 @@
 -- How a call ends: it has replied what its flat rule says, or it was refused nowhere.
 use Rattle.std.proofs.Common.{◌≡◌, ◌≢◌, ℕ, ◌||◌, Bool, true, false, List, [], ◌∷◌, ◌++◌, Option, None, Some, Ok, refl, sym, ap, ◌∙◌, subst}
 use Rattle.std.proofs.lemmas.List.{map-append}
-use Rattle.std.specs.Prelude.{option_map}
+use Rattle.std.specs.Prelude.{option_map, Result, Err}
 use Rattle.std.specs.List.{AllByRecursion}
 use Rattle.std.proofs.Math.Bool.{or-false}
 use Rattle.histar_flat.specs.declared.calls.UnixCall.{UnixCall}
@@ -24,10 +24,14 @@ use Rattle.histar_trace.specs.declared.entries.TraceEntry.{TraceEntry}
 use Rattle.histar_syscall.specs.KernelModel.{KernelModel, state}
 use Rattle.histar_syscall.specs.Runs.{is_label_refusal, is_range_refusal, some_label_refusal, some_range_refusal}
 use Rattle.histar_syscall.proofs.Runs.{entry_of}
+use Rattle.histar_programs.specs.declared.call_error.Stopped.{Stopped}
 use Rattle.histar_programs.specs.Replies.{is_access, is_permission, is_no_access, is_no_permission, IsRefusedOnce, sets_labels}
 use Rattle.histar_refinement.specs.Represents.{Represents}
+use Rattle.histar_refinement.specs.KeptNames.{RepresentsStill}
+use Rattle.histar_refinement.proofs.KeepingNames.{still_represents}
 use Rattle.histar_refinement.specs.Lines.{IsThreadOf}
-use Rattle.histar_sim.specs.Simulation.{IsRunning, errno_by_rule, IsReplyOfDenial, EndsWithRead, IsLine, IsUnanswered, IsBrokenOff, FollowsRule}
+use Rattle.histar_sim.specs.Simulation.{IsRunning, IsReady, errno_by_rule, IsReplyOfDenial, EndsWithRead, IsLine, IsUnanswered}
+use Rattle.histar_sim.specs.Simulation.{IsBrokenOff, FollowsRule}
 use Rattle.histar_sim.specs.Reads.{HasReads}
 use Rattle.histar_sim.proofs.ReadsByCall.{HasReadsByCall, reads_due}
 use Rattle.histar_sim.proofs.Chains.{Step, all_granted, entries_of, Chain, chain_run, chain_own, all_restoring}
@@ -126,8 +130,48 @@ read_last old mid t calls chain container segment = record {
   holds = refl;
 }
 
+module _ (accounts : Accounts) (f : Flat) (me : ProcName) (call : UnixCall) (old new : KernelModel) (t : ℕ) where
+  -- a call of a process is answered as its flat rule says, and the names of this representation keep their numbers
+  pub record IsAnsweredFrom (from : Represents accounts (state old) f) : Type 0 where
+    pub entries : List TraceEntry
+    pub trace : new.trace ≡ old.trace ++ entries
+    pub line : new.line ≡ old.line
+    pub is_line : IsLine accounts (state old) old.line me (reply_to accounts f me call) entries (state new)
+    pub reads : HasReads accounts (state old) f (running f me) call (reply_to accounts f me call) entries
+    pub still : RepresentsStill from (state new) (flat_after accounts f me call)
+
+  -- it is answered so, or it ends without a reply
+  abbrev pub FollowsFrom : Represents accounts (state old) f → Result Reply Stopped → Type 0
+  FollowsFrom from (Ok reply) = (reply ≡ reply_to accounts f me call) × IsAnsweredFrom from
+  FollowsFrom from (Err stopped) = IsUnanswered accounts f me call old new t
+
+  -- a call follows its rule if it does so from each representation, with names that keep their numbers
+  pub from_each : (result : Result Reply Stopped) → IsReady accounts (state old) f me t
+      → ((ready : IsReady accounts (state old) f me t) → FollowsFrom ready.represents result)
+      → FollowsRule accounts f me call old new t result
+  from_each (Ok reply) ready each =
+      let here = (each ready).1 in (
+        (each ready).0,
+        record {
+          entries = here.entries;
+          trace = here.trace;
+          line = here.line;
+          refined = record {
+            line = here.is_line;
+            reads = here.reads;
+            represents = here.still.represents;
+            keeps = λ from. (each (record ready { represents = from })).1.still;
+          };
+        },
+      )
+  from_each (Err stopped) ready each = each ready
+
 module _ (accounts : Accounts) (f : Flat) (me : ProcName) (caller : IsRunning f me) (call : UnixCall)
-    (old new : KernelModel) (t : ℕ) (named : IsThreadOf accounts (state old) me t) where
+    (old new : KernelModel) (t : ℕ) (ready : IsReady accounts (state old) f me t) where
+  -- what is to be shown, with this result
+  abbrev Follows : Result Reply Stopped → Type 0
+  Follows = FollowsFrom accounts f me call old new t ready.represents
+
   -- the process runs
   runs : running f me ≡ Some caller.process
   runs =
@@ -175,7 +219,7 @@ module _ (accounts : Accounts) (f : Flat) (me : ProcName) (caller : IsRunning f 
       → AllByRecursion (λ (e : TraceEntry). (e.line ≡ line) × IsThreadOf accounts (state old) me e.thread)
       (entries_of line t steps)
   all_own line [] = tt
-  all_own line (s ∷ steps) = ((refl, named), all_own line steps)
+  all_own line (s ∷ steps) = ((refl, ready.thread), all_own line steps)
 
   -- a call refines its rule if its raw calls agree with the flat rules' reply, and the state represents the flat state after the call
   agreed_refined : (steps : List Step) → Chain old t steps new → (refusal : Option Errno)
@@ -183,9 +227,9 @@ module _ (accounts : Accounts) (f : Flat) (me : ProcName) (caller : IsRunning f 
       → Agrees r (entries_of old.line t steps)
       → ((bytes : List ℕ) → r ≡ Data bytes → EndsWithRead (state old) (entries_of old.line t steps) bytes)
       → ReadsAmong steps r → r ≢ Gone
-      → Represents accounts (state new) (flat_or refusal f (changed accounts f me caller.process call))
-      → FollowsRule accounts f me call old new t (Ok r)
-  agreed_refined steps chain refusal is r r_is reply_agrees revealed reads lives represents =
+      → RepresentsStill ready.represents (state new) (flat_or refusal f (changed accounts f me caller.process call))
+      → Follows (Ok r)
+  agreed_refined steps chain refusal is r r_is reply_agrees revealed reads lives still =
       let part = chain_run t old new steps chain in
       let reply = reply_is refusal is ∙ r_is in
       let entries = entries_of old.line t steps in
@@ -204,13 +248,11 @@ module _ (accounts : Accounts) (f : Flat) (me : ProcName) (caller : IsRunning f 
           entries = entries;
           trace = part.trace;
           line = part.line;
-          refined = record {
-            line = subst (λ (x : Reply). IsLine accounts (state old) old.line me x entries (state new)) (sym reply) is_line;
-            reads = subst (λ (o : Option Process). HasReads accounts (state old) f o call (reply_to accounts f me call) entries) (sym runs)
-                (reads_due accounts (state old) f caller.process call (reply_to accounts f me call) entries
-                (subst (λ (x : Reply). HasReadsByCall accounts (state old) f caller.process call x entries) (sym reply) reads));
-            represents = subst (Represents accounts (state new)) (sym (after_is refusal is)) represents;
-          };
+          is_line = subst (λ (x : Reply). IsLine accounts (state old) old.line me x entries (state new)) (sym reply) is_line;
+          reads = subst (λ (o : Option Process). HasReads accounts (state old) f o call (reply_to accounts f me call) entries) (sym runs)
+              (reads_due accounts (state old) f caller.process call (reply_to accounts f me call) entries
+              (subst (λ (x : Reply). HasReadsByCall accounts (state old) f caller.process call x entries) (sym reply) reads));
+          still = subst (RepresentsStill ready.represents (state new)) (sym (after_is refusal is)) still;
         },
       )
 
@@ -219,12 +261,12 @@ module _ (accounts : Accounts) (f : Flat) (me : ProcName) (caller : IsRunning f 
       → refused accounts f me caller.process call ≡ None
       → IsBacked (state old) (entries_of old.line t (all_granted calls)) allowed
       → ReadsAmong (all_granted calls) allowed
-      → Represents accounts (state new) (changed accounts f me caller.process call) → FollowsRule accounts f me call old new t (Ok allowed)
-  granted_refined calls chain is backed reads represents =
+      → RepresentsStill ready.represents (state new) (changed accounts f me caller.process call) → Follows (Ok allowed)
+  granted_refined calls chain is backed reads still =
       let entries = entries_of old.line t (all_granted calls) in
       agreed_refined (all_granted calls) chain None is allowed refl
       (granted_agree old.line t allowed (backed_plain (state old) entries allowed backed) calls)
-      (backed_revealed (state old) entries allowed backed) reads (backed_runs (state old) entries allowed backed) represents
+      (backed_revealed (state old) entries allowed backed) reads (backed_runs (state old) entries allowed backed) still
 
   -- Where one raw call was refused, those after it give the thread labels, and the state still represents the flat state, a call that the
   -- flat rules refuse with the errno of the denial refines its rule.
@@ -233,28 +275,29 @@ module _ (accounts : Accounts) (f : Flat) (me : ProcName) (caller : IsRunning f 
       → Chain old t (all_granted calls ++ (last, Some denied) ∷ all_granted restoring) new → (errno : Errno)
       → errno_by_rule denied ≡ Some errno → refused accounts f me caller.process call ≡ Some errno
       → ReadsAmong (all_granted calls ++ (last, Some denied) ∷ all_granted restoring) (Refused errno)
-      → Represents accounts (state new) f → FollowsRule accounts f me call old new t (Ok (Refused errno))
-  given_back_refined calls last denied restoring sets chain errno revealed is reads represents =
+      → RepresentsStill ready.represents (state new) f → Follows (Ok (Refused errno))
+  given_back_refined calls last denied restoring sets chain errno revealed is reads still =
       agreed_refined (all_granted calls ++ (last, Some denied) ∷ all_granted restoring) chain (Some errno) is
       (Refused errno) refl (refused_agree old.line t last denied errno revealed restoring sets calls)
-      (λ bytes e. absurd cc) reads (λ e. absurd cc) represents
+      (λ bytes e. absurd cc) reads (λ e. absurd cc) still
 
-  module _ (stays : state new ≡ state old) (represents : Represents accounts (state old) f) where
-    still : Represents accounts (state new) f
-    still = subst (λ (s : State). Represents accounts s f) (sym stays) represents
+  module _ (stays : state new ≡ state old) where
+    unchanged : RepresentsStill ready.represents (state new) f
+    unchanged = still_represents ready.represents (state new) stays
 
     -- where every raw call was granted and nothing has changed, a call that the flat rules refuse otherwise than by label is answered their errno
     pub unchanged_refined : (calls : List RawCall) → Chain old t (all_granted calls) new → (errno : Errno)
         → is_access errno ≡ false → is_permission errno ≡ false → refused accounts f me caller.process call ≡ Some errno
-        → ReadsAmong (all_granted calls) (Refused errno) → FollowsRule accounts f me call old new t (Ok (Refused errno))
+        → ReadsAmong (all_granted calls) (Refused errno) → Follows (Ok (Refused errno))
     unchanged_refined calls chain errno no_access no_permission is reads =
         agreed_refined (all_granted calls) chain (Some errno) is (Refused errno) refl
         (granted_agree old.line t (Refused errno) (no_access, no_permission) calls) (λ bytes e. absurd cc) reads
-        (λ e. absurd cc) still
+        (λ e. absurd cc) unchanged
 
     -- where only the last raw call was refused and nothing has changed, a call that the flat rules refuse with its errno refines its rule
     pub refused_refined : (calls : List RawCall) (last : RawCall) (denied : Denied) → Chain old t (all_granted calls ++ (last, Some denied) ∷ []) new
         → (errno : Errno) → errno_by_rule denied ≡ Some errno → refused accounts f me caller.process call ≡ Some errno
         → ReadsAmong (all_granted calls ++ (last, Some denied) ∷ []) (Refused errno)
-        → FollowsRule accounts f me call old new t (Ok (Refused errno))
-    refused_refined calls last denied chain errno revealed is reads = given_back_refined calls last denied [] tt chain errno revealed is reads still
+        → Follows (Ok (Refused errno))
+    refused_refined calls last denied chain errno revealed is reads =
+        given_back_refined calls last denied [] tt chain errno revealed is reads unchanged

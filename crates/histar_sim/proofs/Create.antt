@@ -33,9 +33,10 @@ use Rattle.histar_calls.specs.Create.{create_program}
 use Rattle.histar_refinement.specs.Accounts.{AreAccounts}
 use Rattle.histar_refinement.specs.Guards.{guard_label}
 use Rattle.histar_refinement.specs.Addresses.{address_of}
-use Rattle.histar_refinement.proofs.Creating.{matched_created}
+use Rattle.histar_refinement.proofs.Creating.{matched_created, names_created}
 use Rattle.histar_sim.specs.Simulation.{IsReady}
 use Rattle.histar_sim.specs.Laws.{CreateRefines}
+use Rattle.histar_sim.proofs.CallErrors.{from_each}
 use Rattle.histar_sim.proofs.FoundObjects.{container, listing, directory_agrees, directory_class, container_numbered, listing_numbered, below}
 use Rattle.histar_sim.proofs.FoundObjects.{listing_still, segment_made}
 use Rattle.histar_sim.proofs.FoundRoom.{slash_agrees, the_room}
@@ -79,12 +80,19 @@ module _ (accounts : Accounts) (ok : AreAccounts accounts) (old new : KernelMode
       (listing accounts ok (state old) f me t ready d)
       at_container (listing_numbered accounts ok (state old) f me t ready d open_so_far) m absent made.class made.fits
       made.guard made.guarded named (ltb-true (length (entries_in f d)) most_entries room) next_below in
+      let names =
+      names_created accounts (state old) f ready.represents.matched d
+      (directory_class accounts ok (state old) f me t ready d open_so_far)
+      (directory_agrees accounts ok (state old) f me t ready d open_so_far) above
+      (listing accounts ok (state old) f me t ready d)
+      at_container (listing_numbered accounts ok (state old) f me t ready d open_so_far) m absent made.class made.fits
+      made.guard made.guarded next_below made.known _ later.0 later.1 later.2 in
       let making : RawCall = make above (guard_label ready.represents.matched.category made.guard) in
       entry_written accounts ok old new f me t ready m d mode (File []) call result makes named open_so_far absent room made is_may
       (targets.File (state old).next_object) (omega (arith, low), omega (arith, next_below))
       (with_object (state old) above file) (listing_still accounts ok (state old) f me t ready d open_so_far file)
       (asked accounts ok (state old) f me t ready d ++ making ∷ []) (among_asked accounts ok (state old) f me t ready d old.line (making ∷ []))
-      linked (called.state ∙ ap (λ (s : State). with_object s above file) stays) chain later.0
+      linked (called.state ∙ ap (λ (s : State). with_object s above file) stays) chain later.0 names
       (subst (λ (q : ℕ). Runs (within (the_room accounts ok (state old) f me t ready d m)
       (guard_label ready.represents.matched.category made.guard) q) linked new t result)
       (number_is ∙ ap (λ (s : State). s.next_object) stays) rest)
@@ -93,10 +101,12 @@ module _ (accounts : Accounts) (ok : AreAccounts accounts) (old new : KernelMode
 pub create_refines : CreateRefines
 unfolding create_program
 create_refines accounts ok [] mode right me old new f t result ready run =
+    from_each accounts f me (calls.Create [] mode) old new t result ready (λ ready.
     slash_agrees accounts old new f me t ready (calls.Create [] mode) result _
-    (create_makes accounts f me ready.caller.process [] mode).needs [] old refl (same_kernel old) _ run
+    (create_makes accounts f me ready.caller.process [] mode).needs [] old refl (same_kernel old) _ run)
 create_refines accounts ok (m ∷ d) mode right me old new f t result ready run =
+    from_each accounts f me (calls.Create (m ∷ d) mode) old new t result ready (λ ready.
     entry_step accounts ok old new f me t ready m d mode (File []) (calls.Create (m ∷ d) mode) result
     (create_makes accounts f me ready.caller.process (m ∷ d) mode) make within
     (λ open_so_far. segment_made accounts ok (state old) f me t ready d open_so_far) run
-    (goes_on accounts ok old new f me t ready m (last_name m d right) d mode result)
+    (goes_on accounts ok old new f me t ready m (last_name m d right) d mode result))

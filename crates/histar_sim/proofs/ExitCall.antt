@@ -35,15 +35,17 @@ use Rattle.histar_refinement.specs.Addresses.{home_address}
 use Rattle.histar_refinement.specs.Addresses.Step.{Status, Inside, Runner}
 use Rattle.histar_refinement.specs.Guards.{guard_label, rights_label, rights_clearance}
 use Rattle.histar_refinement.specs.Labels.{process_guard, thread_rights}
-use Rattle.histar_refinement.specs.Represents.{ObjectsMatch, Represents}
+use Rattle.histar_refinement.specs.Represents.{ObjectsMatch}
+use Rattle.histar_refinement.specs.KeptNames.{RepresentsStill}
 use Rattle.histar_refinement.specs.Processes.{or_zero, process_bytes}
 use Rattle.histar_refinement.proofs.CallerFound.{where_is, caller_found}
-use Rattle.histar_refinement.proofs.Exiting.{written, written_is, represents_exited}
+use Rattle.histar_refinement.proofs.Exiting.{written, written_is, still_exited}
 use Rattle.histar_refinement.proofs.MakingRanges.{all_known}
 use Rattle.histar_refinement.proofs.RawChecks.{object}
 use Rattle.histar_layout.proofs.Declared.{equal_tested}
 use Rattle.histar_refinement.proofs.StatusFound.{numbered_runner, zero_there}
 use Rattle.histar_sim.specs.Simulation.{IsReady}
+use Rattle.histar_sim.proofs.CallErrors.{from_each}
 use Rattle.histar_sim.proofs.Chains.{all_granted, Chain}
 use Rattle.histar_sim.proofs.Steps.{Goal, granted_step, answered_step}
 use Rattle.histar_sim.specs.Laws.{ExitRefines}
@@ -68,7 +70,7 @@ module _ (accounts : Accounts) (ok : AreAccounts accounts) (number : ℕ) (small
   here = ready.caller.agrees
 
   abbrev Refined : Type 0
-  Refined = Goal accounts f me ready.caller call old new t ready.thread result
+  Refined = Goal accounts f me ready.caller call old new t ready result
 
   -- the process's container, its process segment and its internal container
   abbrev C : ℕ
@@ -168,9 +170,9 @@ module _ (accounts : Accounts) (ok : AreAccounts accounts) (number : ℕ) (small
       written_is accounts (state old) f l me p here number small C S o (at_container accounts (state old) f l me p here)
       (at_segment accounts (state old) f l me p here) at_inside
 
-  matched_after : (end : State) → CutsOff exited C o end → Represents accounts end (changed accounts f me p call)
+  matched_after : (end : State) → CutsOff exited C o end → RepresentsStill ready.represents end (changed accounts f me p call)
   matched_after end cuts =
-      represents_exited accounts (state old) f l me p here number small C S o
+      still_exited accounts (state old) f l me p here number small C S o
       (at_container accounts (state old) f l me p here) (at_segment accounts (state old) f l me p here) at_inside
       end
       (subst (λ (b : List ℕ). CutsOff (with_segment_bytes (state old) S b) C o end) (sym written_so) cuts) ready.represents.jobs_given
@@ -180,16 +182,16 @@ module _ (accounts : Accounts) (ok : AreAccounts accounts) (number : ℕ) (small
     unlinked : (later : KernelModel) → state later ≡ exited → Chain old t (all_granted (read ∷ writing ∷ [])) later
         → Runs call_error later new t result → Refined
     unlinked later is so_far on =
-        granted_step accounts f me ready.caller call old new t ready.thread result (read ∷ writing ∷ []) later so_far
+        granted_step accounts f me ready.caller call old new t ready result (read ∷ writing ∷ []) later so_far
         unlinking (λ _. Answers Done) (ap (λ (s : State). check s t unlinking) is ∙ unlink_said) on
         (λ end done cut right whole last.
-        answered_step accounts f me ready.caller call old new t ready.thread result (read ∷ writing ∷ unlinking ∷ []) end whole Done refl refl tt tt
+        answered_step accounts f me ready.caller call old new t ready result (read ∷ writing ∷ unlinking ∷ []) end whole Done refl refl tt tt
         (matched_after (state end) (subst (λ (s : State). CutsOff s C o (state end)) is cut.state)) last)
 
     -- the segment is written
     wrote : Runs (ask writing (λ _. call_error)) mid new t result → Refined
     wrote on =
-        granted_step accounts f me ready.caller call old new t ready.thread result (read ∷ []) mid chain writing
+        granted_step accounts f me ready.caller call old new t ready result (read ∷ []) mid chain writing
         (λ _. call_error) (ap (λ (s : State). check s t writing) stays ∙ write_said) on
         (λ later done called right so_far rest. unlinked later (called.state ∙ ap (λ (s : State). with_segment_bytes s S bytes) stays) so_far rest)
 
@@ -205,8 +207,9 @@ module _ (accounts : Accounts) (ok : AreAccounts accounts) (number : ℕ) (small
 -- the program of `exit` refines its rule
 pub exit_refines : ExitRefines
 exit_refines accounts ok number small me caller old new f result ready found run =
+    from_each accounts f me (calls.Exit number) old new caller.thread result ready (λ ready.
     let is = (caller_found accounts (state old) f ready.represents.matched me caller found).1 in
     let home_is : where_is accounts (state old) f ready.represents.matched me ≡ caller.home =
     λ i. record { container = or_zero (is.home i); segment = or_zero (is.segment i) } in
     exit_is_refined accounts ok number small old new f me caller.thread ready result
-    (subst (λ (home : Home). Runs (exit_program home number) old new caller.thread result) (sym home_is) run)
+    (subst (λ (home : Home). Runs (exit_program home number) old new caller.thread result) (sym home_is) run))

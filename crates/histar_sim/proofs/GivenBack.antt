@@ -28,18 +28,17 @@ use Rattle.histar_programs.specs.Replies.{sets_labels}
 use Rattle.histar_programs.specs.Programs.{AnswerOf, Outcome, Program, Runs}
 use Rattle.histar_programs.specs.Programs.Program.{Answers, Asks}
 use Rattle.histar_wrap.specs.Scratch.{or_stops, give_back, gives_back_with, or_given_back, ask_or_give_back}
-use Rattle.histar_refinement.specs.Represents.{Represents}
-use Rattle.histar_refinement.specs.Lines.{IsThreadOf}
+use Rattle.histar_refinement.specs.KeptNames.{RepresentsStill}
 use Rattle.histar_refinement.proofs.Beside.{own_set}
-use Rattle.histar_sim.specs.Simulation.{IsRunning, errno_by_rule, IsReplyOfDenial, FollowsRule}
+use Rattle.histar_sim.specs.Simulation.{IsRunning, IsReady, errno_by_rule, IsReplyOfDenial}
 use Rattle.histar_sim.proofs.Chains.{Step, all_granted, Chain, chain_after, refused_broken_off}
-use Rattle.histar_sim.proofs.CallErrors.{ReadsAmong, reply_is, chain_unanswered, given_back_refined}
+use Rattle.histar_sim.proofs.CallErrors.{FollowsFrom, ReadsAmong, reply_is, chain_unanswered, given_back_refined}
 use Rattle.histar_sim.proofs.Steps.{EndsHere, Goal, replied, granted_so, denied_step}
 
 module _ (accounts : Accounts) (f : Flat) (me : ProcName) (caller : IsRunning f me) (call : UnixCall)
-    (old new : KernelModel) (t : ℕ) (named : IsThreadOf accounts (state old) me t) (result : Result Reply Stopped) where
+    (old new : KernelModel) (t : ℕ) (ready : IsReady accounts (state old) f me t) (result : Result Reply Stopped) where
   abbrev Refined : Type 0
-  Refined = Goal accounts f me caller call old new t named result
+  Refined = Goal accounts f me caller call old new t ready result
 
   -- raw calls that were granted, the last one, which was refused, and the errno of its denial, which the flat rules reply
   module _ (calls : List RawCall) (last : RawCall) (denied : Denied) (errno : Errno)
@@ -51,7 +50,7 @@ module _ (accounts : Accounts) (f : Flat) (me : ProcName) (caller : IsRunning f 
 
       -- the reply of the flat rules is that of the denial
       reveals : IsReplyOfDenial (reply_to accounts f me call) (Some denied)
-      reveals = ap (option_map Refused) revealed ∙ ap Some (sym (reply_is accounts f me caller call old new t named (Some errno) is))
+      reveals = ap (option_map Refused) revealed ∙ ap Some (sym (reply_is accounts f me caller call old new t ready (Some errno) is))
 
       -- After the refused one the thread was given labels.
       module _ (restoring : List RawCall) (sets : AllByRecursion (λ (c : RawCall). sets_labels c ≡ true) restoring)
@@ -65,10 +64,10 @@ module _ (accounts : Accounts) (f : Flat) (me : ProcName) (caller : IsRunning f 
                 subst (λ (all : List Step). Chain old t all new) (append-nil (steps restoring))
                 (chain_after t old mid new (steps restoring) [] so_far ends.unchanged)
 
-            by : (r : Result Reply Stopped) → IsErr r → FollowsRule accounts f me call old new t r
+            by : (r : Result Reply Stopped) → IsErr r → FollowsFrom accounts f me call old new t ready.represents r
             by (Ok reply) err = absurd cc
             by (Err stopped) err =
-                chain_unanswered accounts f me caller call old new t named (steps restoring) chain
+                chain_unanswered accounts f me caller call old new t ready (steps restoring) chain
                 (refused_broken_off t (reply_to accounts f me call) old new old.line calls last denied restoring
                 reveals sets chain)
 
@@ -91,16 +90,16 @@ module _ (accounts : Accounts) (f : Flat) (me : ProcName) (caller : IsRunning f 
         ]
 
         -- the call replies the errno
-        revealed_at_last : Represents accounts (state mid) f
-            → ReadsAmong accounts f me caller call old new t named (steps restoring) (Refused errno)
+        revealed_at_last : RepresentsStill ready.represents (state mid) f
+            → ReadsAmong accounts f me caller call old new t ready (steps restoring) (Refused errno)
             → Runs (Answers (Refused errno)) mid new t result → Refined
         revealed_at_last represents reads runs =
             let end = replied t mid new (Refused errno) result runs in
-            subst (FollowsRule accounts f me call old new t) (sym end.1)
-            (given_back_refined accounts f me caller call old new t named calls last denied restoring sets
+            subst (FollowsFrom accounts f me call old new t ready.represents) (sym end.1)
+            (given_back_refined accounts f me caller call old new t ready calls last denied restoring sets
             (subst (λ (all : List Step). Chain old t all new) (append-nil (steps restoring))
             (chain_after t old mid new (steps restoring) [] so_far end.0))
-            errno revealed is reads (subst (λ (s : State). Represents accounts s f) (sym end.0.state) represents))
+            errno revealed is reads (subst (λ (s : State). RepresentsStill ready.represents s f) (sym end.0.state) represents))
 
       -- The thread takes its own label and clearance again, and the call replies the errno.
       module _ (own : Levels × Levels) where
@@ -111,8 +110,8 @@ module _ (accounts : Accounts) (f : Flat) (me : ProcName) (caller : IsRunning f 
         give_back_step : (mid : KernelModel) → Chain old t (steps []) mid
             → check (state mid) t (SetLabel own.0) ≡ None
             → check (with_changed (state mid) t (with_label own.0)) t (SetClearance own.1) ≡ None
-            → Represents accounts (own_set t (state mid) own.0 own.1) f
-            → ReadsAmong accounts f me caller call old new t named (steps taken_again) (Refused errno)
+            → RepresentsStill ready.represents (own_set t (state mid) own.0 own.1) f
+            → ReadsAmong accounts f me caller call old new t ready (steps taken_again) (Refused errno)
             → Runs (give_back own errno) mid new t result → Refined
         give_back_step mid so_far label_passes clearance_passes represents reads runs =
             restored_step [] tt mid so_far (SetLabel own.0)
@@ -122,7 +121,7 @@ module _ (accounts : Accounts) (f : Flat) (me : ProcName) (caller : IsRunning f 
             (ap (λ (s : State). check s t (SetClearance own.1)) called.state ∙ clearance_passes) on
             (λ cleared set_to called_then whole answers.
             revealed_at_last taken_again (refl, (refl, tt)) cleared whole
-            (subst (λ (s : State). Represents accounts s f)
+            (subst (λ (s : State). RepresentsStill ready.represents s f)
             (sym (called_then.state ∙ ap (λ (s : State). with_changed s t (with_clearance own.1)) called.state))
             represents) reads answers))
 
@@ -133,18 +132,18 @@ module _ (accounts : Accounts) (f : Flat) (me : ProcName) (caller : IsRunning f 
       → check (state mid) t next ≡ Some denied → errno_for next denied ≡ Some errno → errno_by_rule denied ≡ Some errno
       → check (state mid) t (SetLabel own.0) ≡ None
       → check (with_changed (state mid) t (with_label own.0)) t (SetClearance own.1) ≡ None
-      → Represents accounts (own_set t (state mid) own.0 own.1) f
-      → ReadsAmong accounts f me caller call old new t named
+      → RepresentsStill ready.represents (own_set t (state mid) own.0 own.1) f
+      → ReadsAmong accounts f me caller call old new t ready
       (all_granted calls ++ (next, Some denied) ∷ all_granted (SetLabel own.0 ∷ SetClearance own.1 ∷ []))
       (Refused errno)
       → Runs (ask_or_give_back own next rest) mid new t result → Refined
   given_back_step calls mid so_far errno is own next rest denied fails revealed by_rule label_passes clearance_passes represents reads runs =
-      denied_step accounts f me caller call old new t named result calls mid so_far next (or_given_back own (errno_for next) rest) denied fails runs
+      denied_step accounts f me caller call old new t ready result calls mid so_far next (or_given_back own (errno_for next) rest) denied fails runs
       (λ later called chain on.
       let same = called.state in
       give_back_step calls next denied errno by_rule is own later chain
       (ap (λ (s : State). check s t (SetLabel own.0)) same ∙ label_passes)
       (ap (λ (s : State). check (with_changed s t (with_label own.0)) t (SetClearance own.1)) same
       ∙ clearance_passes)
-      (subst (λ (s : State). Represents accounts (own_set t s own.0 own.1) f) (sym same) represents) reads
+      (subst (λ (s : State). RepresentsStill ready.represents (own_set t s own.0 own.1) f) (sym same) represents) reads
       (subst (λ (o : Option Errno). Runs (gives_back_with own o) later new t result) revealed on))

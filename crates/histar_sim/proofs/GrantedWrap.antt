@@ -53,7 +53,8 @@ use Rattle.histar_refinement.specs.Labels.{scratch_guard}
 use Rattle.histar_refinement.specs.Addresses.{address_of, home_address}
 use Rattle.histar_refinement.specs.Addresses.Step.{Listing, Status, Inside, Runner}
 use Rattle.histar_refinement.specs.Directories.{directory_of}
-use Rattle.histar_refinement.specs.Represents.{AreInOrder, ObjectsMatch, Represents}
+use Rattle.histar_refinement.specs.Represents.{AreInOrder, ObjectsMatch}
+use Rattle.histar_refinement.specs.KeptNames.{RepresentsStill}
 use Rattle.histar_refinement.specs.Processes.{or_zero, status_by}
 use Rattle.histar_refinement.proofs.Beside.{Beside}
 use Rattle.histar_refinement.proofs.DirectoryLaws.{spelling_fits}
@@ -92,7 +93,7 @@ module _ (accounts : Accounts) (ok : AreAccounts accounts) (me : ProcName) (call
   p = ready.caller.process
 
   abbrev Refined : Type 0
-  Refined = Goal accounts f me ready.caller (Wrap (m ∷ d)) old new t ready.thread result
+  Refined = Goal accounts f me ready.caller (Wrap (m ∷ d)) old new t ready result
 
   abbrev own : Levels
   own = own_of accounts me caller old new f result ready found
@@ -378,11 +379,11 @@ module _ (accounts : Accounts) (ok : AreAccounts accounts) (me : ProcName) (call
 
       -- that state represents the flat state of the rule
       matched_then : (few_born : before.next_object + 3 < greatest)
-          → Represents accounts (spawned before t caller.home (status_by f.processes later.naming.number me p) kin own_then
+          → RepresentsStill ready.represents (spawned before t caller.home (status_by f.processes later.naming.number me p) kin own_then
           later_clearance) (changed accounts f me p call)
       matched_then few_born =
-          subst (λ (s : State). Represents accounts s (changed accounts f me p call)) (sym (held_then few_born))
-          (wrapping.represents_wrapped accounts (state old) f ready.represents me p wrapper named few_entries
+          subst (λ (s : State). RepresentsStill ready.represents s (changed accounts f me p call)) (sym (held_then few_born))
+          (wrapping.still_wrapped accounts (state old) f ready.represents me p wrapper named few_entries
           few_born)
 
       -- with all raw calls the call is answered
@@ -393,17 +394,17 @@ module _ (accounts : Accounts) (ok : AreAccounts accounts) (me : ProcName) (call
           later_clearance → before.next_object + 3 < greatest → Runs (Answers (Child child)) end new t result
           → Refined
       answered calls end kept chain is few_born runs =
-          answered_step accounts f me ready.caller call old new t ready.thread result calls end chain (Child child) refl
+          answered_step accounts f me ready.caller call old new t ready result calls end chain (Child child) refl
           refused_nowhere tt
           (has_walk accounts ok (state old) f me t ready m d (entries_of old.line t (all_granted calls)) kept)
-          (subst (λ (s : State). Represents accounts s (changed accounts f me p call)) (sym is) (matched_then few_born)) runs
+          (subst (λ (s : State). RepresentsStill ready.represents s (changed accounts f me p call)) (sym is) (matched_then few_born)) runs
 
       -- the job's first process is born
       born : (calls : List RawCall) (mid : KernelModel) → AreAmong reads (entries_of old.line t (all_granted calls))
           → Chain old t (all_granted calls) mid → state mid ≡ before
           → Runs (birth_then status (with_level own job Star) (with_level own_clearance job L3)) mid new t result → Refined
       born calls mid kept chain at runs =
-          birth_made accounts f me ready.caller call old new t ready.thread result before caller.home
+          birth_made accounts f me ready.caller call old new t ready result before caller.home
           (status_by f.processes later.naming.number me p) kin own_then later_clearance fits
           (Child child) reads answered calls mid kept chain at
           (subst (λ (x : ProcessStatus × Levels × Levels). Runs (birth_then x.0 x.1 x.2) mid new t result)
@@ -432,7 +433,7 @@ module _ (accounts : Accounts) (ok : AreAccounts accounts) (me : ProcName) (call
           let apart =
           wrapping.not_named accounts (state old) f ready.represents me p wrapper d
           (record { class = above; content = Dir }) guard.0 at_parent guard.1 in
-          granted_step accounts f me ready.caller call old new t ready.thread result calls mid chain write
+          granted_step accounts f me ready.caller call old new t ready result calls mid chain write
           (λ _. birth_then status (with_level own job Star) (with_level own_clearance job L3))
           (ap (λ (s : State). check s t write) at
           ∙ write_said accounts ok (state old) f me t ready d open_so_far unused i declared may stranger apart.0
@@ -446,7 +447,7 @@ module _ (accounts : Accounts) (ok : AreAccounts accounts) (me : ProcName) (call
   unfolding hold_job
   job_begun long room open_so_far absent room_above may i declared has calls kept linked at chain runs =
       let next : RawCall = MakeSegment number due [] in
-      numbered_step accounts f me ready.caller call old new t ready.thread result calls linked chain next after_segment refl
+      numbered_step accounts f me ready.caller call old new t ready result calls linked chain next after_segment refl
       (subst (λ (s : State). check s t next ≡ unless (has_number s) TooBig) (sym at)
       (make_said accounts ok (state old) f me t ready d open_so_far unused i declared)) runs
       (λ more mid listing called right longer goes.

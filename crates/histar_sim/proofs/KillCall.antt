@@ -48,13 +48,14 @@ use Rattle.histar_refinement.specs.Categories.{among, booted}
 use Rattle.histar_refinement.specs.Categories.CategoryName.{OfBoot, ReadsGroup, WritesGroup, OfJob}
 use Rattle.histar_refinement.specs.Guards.{guard_label, rights_label, rights_clearance}
 use Rattle.histar_refinement.specs.Labels.{boot_guard, process_guard, reading, writing, owned_as, thread_rights}
-use Rattle.histar_refinement.specs.Represents.{ObjectsMatch, Represents}
+use Rattle.histar_refinement.specs.Represents.{ObjectsMatch}
+use Rattle.histar_refinement.specs.KeptNames.{RepresentsStill}
 use Rattle.histar_refinement.specs.Laws.{RunsAs}
 use Rattle.histar_refinement.specs.Processes.{process_bytes}
 use Rattle.histar_refinement.proofs.CallerFound.{where_is}
 use Rattle.histar_refinement.proofs.CategoryTests.{among-append, among_none}
 use Rattle.histar_refinement.proofs.ClassTests.{sees_unguarded, jobs_apart}
-use Rattle.histar_refinement.proofs.Killing.{represents_left}
+use Rattle.histar_refinement.proofs.Killing.{still_left}
 use Rattle.histar_refinement.proofs.LeftObjects.{root_found, root_label}
 use Rattle.histar_refinement.proofs.RawChecks.{object, unlink_check}
 use Rattle.histar_layout.proofs.Declared.{equal_names}
@@ -62,6 +63,7 @@ use Rattle.histar_refinement.proofs.Agreeing.{thread_found, step_linked}
 use Rattle.histar_refinement.proofs.Steps.{step_tests_equality}
 use Rattle.histar_refinement.proofs.Tested.{below_by_names}
 use Rattle.histar_sim.specs.Simulation.{IsReady}
+use Rattle.histar_sim.proofs.CallErrors.{from_each}
 use Rattle.histar_sim.proofs.Chains.{all_granted, Chain}
 use Rattle.histar_sim.proofs.Steps.{Goal, granted_step, refused_step, answered_step}
 use Rattle.histar_sim.proofs.Walks.{among_granted_all, among_then, among_also}
@@ -147,7 +149,7 @@ module _ (accounts : Accounts) (ok : AreAccounts accounts) (old new : KernelMode
   calls_to name = search_reads accounts (state old) f me t ready name
 
   abbrev Refined : ProcName → Type 0
-  Refined name = Goal accounts f me ready.caller (calls.Kill name) old new t ready.thread result
+  Refined name = Goal accounts f me ready.caller (calls.Kill name) old new t ready result
 
   -- what refuses the search refuses the kill
   kill_refuses : (name : ProcName) → Refuses accounts ok old new f me t ready (calls.Kill name) result name
@@ -167,8 +169,8 @@ module _ (accounts : Accounts) (ok : AreAccounts accounts) (old new : KernelMode
       (λ home status. ask (raw.Unlink root_number (home_number (length accounts.users))) (λ _. Answers Done)) run
       (kill_refuses [])
       (λ found first here seen mid stays chain on.
-      refused_step accounts f me ready.caller (calls.Kill []) old new t ready.thread result (calls_to []) mid chain
-      stays ready.represents EACCES refl unlinks (λ _. Answers Done) Modify
+      refused_step accounts f me ready.caller (calls.Kill []) old new t ready result (calls_to []) mid chain
+      stays EACCES refl unlinks (λ _. Answers Done) Modify
       (ap (λ (s : State). check s t unlinks) stays ∙ first_kept accounts (state old) f l me p t (runs_as accounts (state old) f me t ready)) refl refl
       (has_search accounts (state old) f me t ready [] _ (among_also old.line t (calls_to []) (calls_to []) ((unlinks, Some Modify) ∷ [])
       (among_granted_all old.line t (calls_to [])))) on)
@@ -250,11 +252,11 @@ module _ (accounts : Accounts) (ok : AreAccounts accounts) (old new : KernelMode
             (linked_then accounts (state old) f l above parent here n child there me p t runs outside (state cut) cuts)
             bytes (killed_few accounts (state old) f l above parent here n)
 
-        matched_after : Represents accounts (with_segment_bytes (state cut) S bytes) (without_process f name)
+        matched_after : RepresentsStill ready.represents (with_segment_bytes (state cut) S bytes) (without_process f name)
         matched_after =
-            subst (λ (b : List ℕ). Represents accounts (with_segment_bytes (state cut) S b) (without_process f name))
+            subst (λ (b : List ℕ). RepresentsStill ready.represents (with_segment_bytes (state cut) S b) (without_process f name))
             (sym (killed_bytes accounts (state old) f l above parent here n))
-            (represents_left accounts (state old) f l above parent here n C S o
+            (still_left accounts (state old) f l above parent here n C S o
             (at_container accounts (state old) f l above parent here)
             (at_segment accounts (state old) f l above parent here)
             (at_container accounts (state old) f l name child there)
@@ -263,25 +265,25 @@ module _ (accounts : Accounts) (ok : AreAccounts accounts) (old new : KernelMode
         -- the parent's segment is written, and the call is answered
         written : Runs call_error cut new t result → Refined name
         written on =
-            granted_step accounts f me ready.caller call old new t ready.thread result (calls_to name ++ unlinking ∷ [])
+            granted_step accounts f me ready.caller call old new t ready result (calls_to name ++ unlinking ∷ [])
             cut so_far writing_call (λ _. Answers Done) write_said on
             (λ end done wrote right whole last.
             let all = (calls_to name ++ unlinking ∷ []) ++ writing_call ∷ [] in
-            answered_step accounts f me ready.caller call old new t ready.thread result all end whole Done refl (refused_by true mine) tt
+            answered_step accounts f me ready.caller call old new t ready result all end whole Done refl (refused_by true mine) tt
             (has_search accounts (state old) f me t ready name _
             (among_then old.line t (calls_to name) (calls_to name ++ unlinking ∷ []) (writing_call ∷ [])
             (among_then old.line t (calls_to name) (calls_to name) (unlinking ∷ [])
             (among_granted_all old.line t (calls_to name)))))
-            (subst (λ (s : State). Represents accounts s (without_process f name)) (sym wrote.state) matched_after) last)
+            (subst (λ (s : State). RepresentsStill ready.represents s (without_process f name)) (sym wrote.state) matched_after) last)
 
       by_kin : (b : Bool) → same above me ≡ b → Runs (ask unlinking (λ _. call_error)) mid new t result → Refined name
       by_kin false is on =
-          refused_step accounts f me ready.caller call old new t ready.thread result (calls_to name) mid chain stays
-          ready.represents EACCES (refused_by false is) unlinking (λ _. call_error) Modify (said false is) refl refl
+          refused_step accounts f me ready.caller call old new t ready result (calls_to name) mid chain stays
+          EACCES (refused_by false is) unlinking (λ _. call_error) Modify (said false is) refl refl
           (has_search accounts (state old) f me t ready name _ (among_also old.line t (calls_to name) (calls_to name)
           ((unlinking, Some Modify) ∷ []) (among_granted_all old.line t (calls_to name)))) on
       by_kin true is on =
-          granted_step accounts f me ready.caller call old new t ready.thread result (calls_to name) mid chain unlinking
+          granted_step accounts f me ready.caller call old new t ready result (calls_to name) mid chain unlinking
           (λ _. call_error) (said true is) on
           (λ cut done called right so_far rest. written is cut (subst (λ (s : State). CutsOff s C o (state cut)) stays called.state) so_far rest)
 
@@ -307,5 +309,9 @@ module _ (accounts : Accounts) (ok : AreAccounts accounts) (old new : KernelMode
 
 -- the program of `kill` refines its rule
 pub kill_refines : KillRefines
-kill_refines accounts ok [] me old new f t result ready run = kill_of_first accounts ok old new f me t ready result run
-kill_refines accounts ok (n ∷ above) me old new f t result ready run = kill_is_refined accounts ok old new f me t ready result n above run
+kill_refines accounts ok [] me old new f t result ready run =
+    from_each accounts f me (calls.Kill []) old new t result ready (λ ready.
+    kill_of_first accounts ok old new f me t ready result run)
+kill_refines accounts ok (n ∷ above) me old new f t result ready run =
+    from_each accounts f me (calls.Kill (n ∷ above)) old new t result ready (λ ready.
+    kill_is_refined accounts ok old new f me t ready result n above run)

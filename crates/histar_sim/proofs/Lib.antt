@@ -52,3 +52,4 @@ pub mod JobFit
 pub mod GrantedWrap
 pub mod GivenBack
 pub mod WrapCall
+pub mod StayingNames

@@ -1,5 +1,5 @@
 -- The program of `list` refines its rule.
-use Rattle.std.proofs.Common.{◌≡◌, ℕ, true, [], ◌∷◌, Result, refl, sym, ap, ◌∙◌, subst, length}
+use Rattle.std.proofs.Common.{◌≡◌, ℕ, true, [], ◌∷◌, Result, refl, ap, ◌∙◌, length}
 use Rattle.histar_base.specs.Refusals.{◌orelse◌, unless}
 use Rattle.histar_flat.specs.declared.calls.UnixCall.{UnixCall}
 use Rattle.histar_flat.specs.declared.calls.UnixCall.TheVariants as calls
@@ -10,7 +10,6 @@ use Rattle.histar_flat.specs.Words.{Path, ProcName}
 use Rattle.histar_flat.specs.Accounts.{Accounts}
 use Rattle.histar_flat.specs.FlatState.{Flat, is_some_and, is_dir, reads, into, entries_in}
 use Rattle.histar_flat.specs.FlatCalls.{refused}
-use Rattle.histar_object.specs.State.{State}
 use Rattle.histar_syscall.specs.KernelModel.{KernelModel, state}
 use Rattle.histar_layout.specs.Listing.{names_in}
 use Rattle.histar_programs.specs.declared.call_error.Stopped.{Stopped}
@@ -20,12 +19,13 @@ use Rattle.histar_calls.specs.ListCall.{list_program}
 use Rattle.histar_programs.specs.Start.{roots_of}
 use Rattle.histar_refinement.specs.Accounts.{AreAccounts}
 use Rattle.histar_refinement.specs.Directories.{directory_of}
-use Rattle.histar_refinement.specs.Represents.{Represents}
+use Rattle.histar_refinement.proofs.KeepingNames.{still_represents}
 use Rattle.histar_refinement.proofs.Listings.{names_directory}
 use Rattle.histar_refinement.proofs.Making.{entry_leads}
 use Rattle.histar_refinement.proofs.Agreeing.{root_is_dir}
 use Rattle.histar_sim.specs.Simulation.{IsReady}
 use Rattle.histar_sim.specs.Laws.{ListRefines}
+use Rattle.histar_sim.proofs.CallErrors.{from_each}
 use Rattle.histar_sim.proofs.Steps.{Goal, answered_step}
 use Rattle.histar_sim.proofs.Walks.{walk_reads, has_way, among_granted_all, walk_step}
 
@@ -48,19 +48,21 @@ module _ (accounts : Accounts) (ok : AreAccounts accounts) (old new : KernelMode
       (λ n there at. entry_leads accounts (state old) f ready.represents.matched (n ∷ path) there at)
 
   list_is_refined : Runs (list_program (roots_of (length accounts.users)) path) old new t result
-      → Goal accounts f me ready.caller call old new t ready.thread result
+      → Goal accounts f me ready.caller call old new t ready result
   unfolding list_program
   list_is_refined run =
       let walk = walk_reads accounts ok (state old) f me t ready path in
       walk_step accounts ok old new f me t ready call result path (λ directory. Answers (Entries (names_in directory.entries))) run
       (λ errno is steps among. (refused_is path ∙ is, has_way accounts ok (state old) f me t ready path _ among))
       (λ open_so_far mid stays chain on.
-      answered_step accounts f me ready.caller call old new t ready.thread result walk mid chain
+      answered_step accounts f me ready.caller call old new t ready result walk mid chain
       (Entries (names_in (directory_of f.files ready.represents.matched.naming.number path))) (ap Entries names_are)
       (refused_is path ∙ open_so_far) tt
       (has_way accounts ok (state old) f me t ready path _ (among_granted_all old.line t walk))
-      (subst (λ (s : State). Represents accounts s f) (sym stays) ready.represents) on)
+      (still_represents ready.represents _ stays) on)
 
 -- the program of `list` refines its rule
 pub list_refines : ListRefines
-list_refines accounts ok path me old new f t result ready run = list_is_refined accounts ok old new f me t ready path result run
+list_refines accounts ok path me old new f t result ready run =
+    from_each accounts f me (calls.List path) old new t result ready (λ ready.
+    list_is_refined accounts ok old new f me t ready path result run)

@@ -45,7 +45,8 @@ use Rattle.histar_refinement.specs.Categories.{CategoryName, among}
 use Rattle.histar_refinement.specs.Categories.CategoryName.{ReadsProcess, WritesProcess}
 use Rattle.histar_refinement.specs.Guards.{Rights, rights_label, rights_clearance}
 use Rattle.histar_refinement.specs.Labels.{thread_rights, gate_rights}
-use Rattle.histar_refinement.specs.Represents.{ObjectsMatch, Represents}
+use Rattle.histar_refinement.specs.Represents.{ObjectsMatch}
+use Rattle.histar_refinement.specs.KeptNames.{RepresentsStill}
 use Rattle.histar_refinement.specs.Laws.{RunsAs}
 use Rattle.histar_layout.proofs.Declared.{user_range}
 use Rattle.histar_refinement.proofs.Agreeing.{thread_found}
@@ -54,12 +55,13 @@ use Rattle.histar_refinement.proofs.LeftObjects.{password_found, unnumbered_user
 use Rattle.histar_refinement.proofs.CallerFound.{caller_found}
 use Rattle.histar_refinement.proofs.LoginChecks.{more, wanted, limit, entered, as_user, enter_said, read_password_said, user_owns_less, own_owns_less}
 use Rattle.histar_refinement.proofs.LoginChecks.{set_label_said, relabelled_state, set_clearance_said}
-use Rattle.histar_refinement.proofs.LoggingIn.{represents_login}
+use Rattle.histar_refinement.proofs.LoggingIn.{still_login}
 use Rattle.histar_refinement.proofs.GateLabels.{gate_label_is, gate_clearance_is}
 use Rattle.histar_refinement.proofs.CallLabels.{equal_bytes, number_by_place, user_label_is, user_clearance_is}
+use Rattle.histar_sim.proofs.CallErrors.{FollowsFrom, from_each}
 use Rattle.histar_sim.proofs.TakenLabels.{labels_taken, labels_back, kept_bytes}
 use Rattle.histar_sim.specs.Laws.{LoginRefines}
-use Rattle.histar_sim.specs.Simulation.{IsReady, FollowsRule}
+use Rattle.histar_sim.specs.Simulation.{IsReady}
 use Rattle.histar_sim.specs.Reads.{AreAmong}
 use Rattle.histar_sim.proofs.ReadsByCall.{reads_of_login}
 use Rattle.histar_sim.proofs.Chains.{all_granted, entries_of, Chain}
@@ -86,7 +88,7 @@ module _ (accounts : Accounts) (name : Name) (password : Password) (me : ProcNam
   call = Login name password
 
   abbrev Goal : Type 0
-  Goal = FollowsRule accounts f me call old new t result
+  Goal = FollowsFrom accounts f me call old new t ready.represents result
 
   runs_as : RunsAs accounts (state old) f l me p t
   runs_as = (ready.caller.agrees, ready.caller.runs, (thread_back accounts (state old) f l me t ready.thread).3)
@@ -111,7 +113,7 @@ module _ (accounts : Accounts) (name : Name) (password : Password) (me : ProcNam
   -- no user has the name
   unknown : place_of accounts.users name ≡ None → Runs (Answers (Refused ENOENT)) old new t result → Goal
   unknown nowhere runs =
-      refused_at_once accounts f me ready.caller call old new t ready.thread result [] old (same_kernel old) refl ready.represents ENOENT
+      refused_at_once accounts f me ready.caller call old new t ready result [] old (same_kernel old) refl ENOENT
       (refused_is None (is_free p) (unnumbered_user accounts name
       (number_by_place accounts name ∙ ap (option_map (λ place. place + 1)) nowhere)) refl) refl refl
       (subst (λ (o : Option ℕ). AreAmong (reads_of_login accounts o false) []) (sym nowhere) tt) runs
@@ -236,7 +238,7 @@ module _ (accounts : Accounts) (name : Name) (password : Password) (me : ProcNam
           → state labelled ≡ after_label
           → Runs (ask (takes_clearance right) (λ _. Answers (reply_if right))) labelled new t result → GoesOn → Goal
       cleared labelled chain is runs go_on =
-          granted_step accounts f me ready.caller call old new t ready.thread result
+          granted_step accounts f me ready.caller call old new t ready result
           (OwnLabel ∷ enters ∷ reads ∷ takes_label right ∷ []) labelled chain (takes_clearance right)
           (λ _. Answers (reply_if right))
           ((λ k. check (is k) t (SetClearance (clearance_is k)))
@@ -251,7 +253,7 @@ module _ (accounts : Accounts) (name : Name) (password : Password) (me : ProcNam
 
       taken : Runs (taking right) mid new t result → GoesOn → Goal
       taken runs go_on =
-          granted_step accounts f me ready.caller call old new t ready.thread result (OwnLabel ∷ enters ∷ reads ∷ [])
+          granted_step accounts f me ready.caller call old new t ready result (OwnLabel ∷ enters ∷ reads ∷ [])
           mid so_far (takes_label right) (λ _. ask (takes_clearance right) (λ _. Answers (reply_if right)))
           ((λ k. check (at k) t (SetLabel (label_is k)))
           ∙ set_label_said accounts (state old) f l me p t runs_as name (place + 1) numbered r owned fewer
@@ -291,25 +293,25 @@ module _ (accounts : Accounts) (name : Name) (password : Password) (me : ProcNam
           (user_owns_less accounts (state old) f l me p t runs_as name (place + 1) numbered) (λ c e. e) (λ c e. e)
           user_takes user_clears mid so_far at runs
           (λ later chain later_is answers.
-          answered_step accounts f me ready.caller call old new t ready.thread result (all_calls true) later chain Done
+          answered_step accounts f me ready.caller call old new t ready result (all_calls true) later chain Done
           refl (refused_by true is) tt (among_calls true)
-          (subst (λ (s : State). Represents accounts s (with_process f me process_then)) (sym later_is)
-          (represents_login accounts (state old) f ready.represents me p runs_as.0 runs_as.1 name
+          (subst (λ (s : State). RepresentsStill ready.represents s (with_process f me process_then)) (sym later_is)
+          (still_login accounts (state old) f ready.represents me p runs_as.0 runs_as.1 name
           (ap is_some numbered) t runs_as.2)) answers)
       ends false is mid so_far at runs =
           taken false (thread_rights accounts me p)
           (own_owns_less accounts (state old) f l me p t runs_as name (place + 1) numbered) (λ c e. e) (λ c e. e)
           refl refl mid so_far at runs
           (λ later chain later_is answers.
-          refused_at_once accounts f me ready.caller call old new t ready.thread result (all_calls false) later chain
-          (later_is ∙ labels_back (state old) t own clearance thread) ready.represents EAUTH (refused_by false is)
+          refused_at_once accounts f me ready.caller call old new t ready result (all_calls false) later chain
+          (later_is ∙ labels_back (state old) t own clearance thread) EAUTH (refused_by false is)
           refl refl (among_calls false) answers)
 
       -- the password is read
       from_gate : (inside : KernelModel) → Chain old t (all_granted (OwnLabel ∷ enters ∷ [])) inside
           → state inside ≡ behind → Runs reading inside new t result → Goal
       from_gate inside chain is runs =
-          granted_step accounts f me ready.caller call old new t ready.thread result (OwnLabel ∷ enters ∷ []) inside
+          granted_step accounts f me ready.caller call old new t ready result (OwnLabel ∷ enters ∷ []) inside
           chain reads (λ kept. taking (bytes_eq kept password))
           (ap (λ (s : State). check s t reads) is ∙ read_password_said accounts (state old) f l me p t runs_as name (place + 1) numbered) runs
           (λ read kept called kept_is longer goes.
@@ -322,7 +324,7 @@ module _ (accounts : Accounts) (name : Name) (password : Password) (me : ProcNam
       let_in : (asked : KernelModel) → Chain old t (all_granted (OwnLabel ∷ [])) asked → state asked ≡ state old
           → Runs (ask enters (λ _. reading)) asked new t result → Goal
       let_in asked chain stays runs =
-          granted_step accounts f me ready.caller call old new t ready.thread result (OwnLabel ∷ []) asked chain enters
+          granted_step accounts f me ready.caller call old new t ready result (OwnLabel ∷ []) asked chain enters
           (λ _. reading)
           (ap (λ (s : State). check s t enters) stays ∙ enters_said ∙ ap (λ (b : Bool). unless b Gate) alone) runs
           (λ inside entry called entry_is longer goes.
@@ -332,8 +334,8 @@ module _ (accounts : Accounts) (name : Name) (password : Password) (me : ProcNam
     kept_out : is_free p ≡ false → (asked : KernelModel) → Chain old t (all_granted (OwnLabel ∷ [])) asked
         → state asked ≡ state old → Runs (ask enters (λ _. reading)) asked new t result → Goal
     kept_out jobbed asked chain stays runs =
-        refused_step accounts f me ready.caller call old new t ready.thread result (OwnLabel ∷ []) asked chain stays
-        ready.represents EACCES (refused_is (Some user.0) false user.1 jobbed) enters (λ _. reading) Gate
+        refused_step accounts f me ready.caller call old new t ready result (OwnLabel ∷ []) asked chain stays
+        EACCES (refused_is (Some user.0) false user.1 jobbed) enters (λ _. reading) Gate
         (ap (λ (s : State). check s t enters) stays ∙ enters_said ∙ ap (λ (b : Bool). unless b Gate) jobbed) refl refl
         (subst (λ (o : Option ℕ). AreAmong (reads_of_login accounts o false)
         (entries_of old.line t (all_granted (OwnLabel ∷ []) ++ (enters, Some Gate) ∷ []))) (sym at_place)
@@ -359,7 +361,7 @@ module _ (accounts : Accounts) (name : Name) (password : Password) (me : ProcNam
     someone : Runs (login_as_program caller (place + 1) owners password) old new t result → Goal
     unfolding login_as_program
     someone runs =
-        granted_step accounts f me ready.caller call old new t ready.thread result [] old (same_kernel old) OwnLabel with_labels asks_said runs
+        granted_step accounts f me ready.caller call old new t ready result [] old (same_kernel old) OwnLabel with_labels asks_said runs
         (λ asked revealed called reveals chain goes.
         let revealed_is : revealed ≡ (own, clearance) =
         λ k. (
@@ -376,4 +378,5 @@ module _ (accounts : Accounts) (name : Name) (password : Password) (me : ProcNam
 -- The program of `login` refines its rule.
 pub login_refines : LoginRefines
 login_refines accounts ok name password me caller old new f result ready found runs =
-    by_place accounts name password me caller old new f result ready found (place_of accounts.users name) refl runs
+    from_each accounts f me (Login name password) old new caller.thread result ready (λ ready.
+    by_place accounts name password me caller old new f result ready found (place_of accounts.users name) refl runs)

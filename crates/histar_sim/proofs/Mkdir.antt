@@ -39,11 +39,12 @@ use Rattle.histar_refinement.specs.Guards.{guard_label}
 use Rattle.histar_refinement.specs.Addresses.{address_of}
 use Rattle.histar_refinement.specs.Represents.{ObjectsMatch}
 use Rattle.histar_refinement.proofs.ClassTests.{observes_class, modifies_class}
-use Rattle.histar_refinement.proofs.Creating.{matched_directory_created}
+use Rattle.histar_refinement.proofs.Creating.{matched_directory_created, names_of_directory}
 use Rattle.histar_refinement.proofs.FileChecks.{is_known}
 use Rattle.histar_refinement.proofs.Tested.{guard_owns_nothing}
 use Rattle.histar_sim.specs.Simulation.{IsReady}
 use Rattle.histar_sim.specs.Laws.{MkdirRefines}
+use Rattle.histar_sim.proofs.CallErrors.{from_each}
 use Rattle.histar_sim.proofs.Chains.{all_granted, Chain}
 use Rattle.histar_sim.proofs.Steps.{Goal, granted_step, exhausted_step}
 use Rattle.histar_sim.proofs.Walks.{runs, walk_reads, among_then}
@@ -77,7 +78,7 @@ module _ (accounts : Accounts) (ok : AreAccounts accounts) (old new : KernelMode
   call = calls.Mkdir (m ∷ d) mode
 
   abbrev Refined : Type 0
-  Refined = Goal accounts f me ready.caller call old new t ready.thread result
+  Refined = Goal accounts f me ready.caller call old new t ready result
 
   abbrev l : ObjectsMatch accounts (state old) f
   l = ready.represents.matched
@@ -157,24 +158,27 @@ module _ (accounts : Accounts) (ok : AreAccounts accounts) (old new : KernelMode
           matched_directory_created accounts (state old) f l d class agrees above listing_there at_container
           at_listing m absent made.class made.fits made.guard made.guarded named
           (ltb-true (length (entries_in f d)) most_entries room) number_left in
+          let names =
+          names_of_directory accounts (state old) f l d class agrees above listing_there at_container
+          at_listing m absent made.class made.fits made.guard made.guarded number_left made.known _ later.0 later.1 later.2 in
           entry_written accounts ok old new f me t ready m d mode Dir call result makes named open_so_far absent room made is_may
           (targets.Directory new_container (new_container + 1))
           ((omega (arith, low), omega (arith, number_left)), (omega (arith, low), omega (arith, number_left)))
           (with_object with_container new_container segment) (listing_then accounts ok (state old) f me t ready d open_so_far held segment)
           (before ++ next ∷ []) (among_then old.line t (walk_reads accounts ok (state old) f me t ready d) before (next ∷ [])
           (among_asked accounts ok (state old) f me t ready d old.line (make above due ∷ [])))
-          inside (called.state ∙ ap (λ (s : State). with_object s new_container segment) linked_state) chain later.0
+          inside (called.state ∙ ap (λ (s : State). with_object s new_container segment) linked_state) chain later.0 names
           (subst (λ (q : ℕ). Runs (call_error room_here new_container q) inside new t result)
           (number_is ∙ ap (λ (s : State). s.next_object) linked_state) rest)
 
       by_more : (more : Bool) → has_number with_container ≡ more → Runs (ask next (call_error room_here new_container)) linked new t result → Refined
       by_more false is on =
-          exhausted_step accounts f me ready.caller call old new t ready.thread result before linked so_far next
+          exhausted_step accounts f me ready.caller call old new t ready result before linked so_far next
           (call_error room_here new_container)
           (ap (λ (s : State). check s t next) linked_state ∙ next_said false is) refl
           (ap has_number linked_state ∙ is) on
       by_more true is on =
-          granted_step accounts f me ready.caller call old new t ready.thread result before linked so_far next
+          granted_step accounts f me ready.caller call old new t ready result before linked so_far next
           (call_error room_here new_container) (ap (λ (s : State). check s t next) linked_state ∙ next_said true is)
           on
           (λ inside number called number_is chain rest. written is inside number called number_is chain rest)
@@ -193,10 +197,12 @@ module _ (accounts : Accounts) (ok : AreAccounts accounts) (old new : KernelMode
 pub mkdir_refines : MkdirRefines
 unfolding mkdir_program
 mkdir_refines accounts ok [] mode right me old new f t result ready run =
+    from_each accounts f me (calls.Mkdir [] mode) old new t result ready (λ ready.
     slash_agrees accounts old new f me t ready (calls.Mkdir [] mode) result _
-    (mkdir_makes accounts f me ready.caller.process [] mode).needs [] old refl (same_kernel old) _ run
+    (mkdir_makes accounts f me ready.caller.process [] mode).needs [] old refl (same_kernel old) _ run)
 mkdir_refines accounts ok (m ∷ d) mode right me old new f t result ready run =
+    from_each accounts f me (calls.Mkdir (m ∷ d) mode) old new t result ready (λ ready.
     entry_step accounts ok old new f me t ready m d mode Dir (calls.Mkdir (m ∷ d) mode) result
     (mkdir_makes accounts f me ready.caller.process (m ∷ d) mode) make within
     (λ open_so_far. container_made accounts ok (state old) f me t ready d open_so_far) run
-    (goes_on accounts ok old new f me t ready m (last_name m d right) d mode result)
+    (goes_on accounts ok old new f me t ready m (last_name m d right) d mode result))

@@ -28,11 +28,11 @@ use Rattle.histar_programs.specs.Programs.Program.{Answers}
 use Rattle.histar_programs.specs.Parts.{ask}
 use Rattle.histar_calls.specs.Read.{read_program}
 use Rattle.histar_refinement.specs.Accounts.{AreAccounts}
-use Rattle.histar_refinement.specs.Represents.{Represents}
+use Rattle.histar_refinement.proofs.KeepingNames.{still_represents}
 use Rattle.histar_sim.specs.Simulation.{IsReady, EndsWithRead}
 use Rattle.histar_sim.specs.Laws.{ReadRefines}
 use Rattle.histar_sim.proofs.Chains.{all_granted, entries_of, Chain}
-use Rattle.histar_sim.proofs.CallErrors.{read_last}
+use Rattle.histar_sim.proofs.CallErrors.{from_each, read_last}
 use Rattle.histar_sim.proofs.Steps.{Goal, granted_step, refused_step, answered_step}
 use Rattle.histar_sim.proofs.Walks.{walk_reads, walked_then, walked_also}
 use Rattle.histar_sim.proofs.Files.{ReachesFile, slash_is_no_file, reached, file_step}
@@ -55,7 +55,7 @@ module _ (accounts : Accounts) (ok : AreAccounts accounts) (old new : KernelMode
   p = ready.caller.process
 
   abbrev Refined : Type 0
-  Refined = Goal accounts f me ready.caller call old new t ready.thread result
+  Refined = Goal accounts f me ready.caller call old new t ready result
 
   -- the segment of the file, and the read of it
   abbrev file : ℕ
@@ -84,11 +84,11 @@ module _ (accounts : Accounts) (ok : AreAccounts accounts) (old new : KernelMode
 
     by_right : (may : Bool) → reads accounts f p (m ∷ d) ≡ may → Runs (ask next (λ (b : List ℕ). Answers (Data b))) mid new t result → Refined
     by_right false is on =
-        refused_step accounts f me ready.caller call old new t ready.thread result walk mid chain stays ready.represents
+        refused_step accounts f me ready.caller call old new t ready result walk mid chain stays
         EACCES (refused_by false is) next (λ (b : List ℕ). Answers (Data b)) Observe
         (said_by false is) refl refl (walked_also accounts ok (state old) f me t ready m d old.line ((next, Some Observe) ∷ [])) on
     by_right true is on =
-        granted_step accounts f me ready.caller call old new t ready.thread result walk mid chain next
+        granted_step accounts f me ready.caller call old new t ready result walk mid chain next
         (λ (b : List ℕ). Answers (Data b)) (said_by true is) on
         (λ later answer called right longer end.
         let answer_is : answer ≡ bytes_at f (m ∷ d) = right ∙ held in
@@ -99,19 +99,21 @@ module _ (accounts : Accounts) (ok : AreAccounts accounts) (old new : KernelMode
         (subst (EndsWithRead (state old) (entries_of old.line t (all_granted walk ++ (next, None) ∷ []))) held
         (read_last old mid t walk chain (container accounts ok (state old) f me t ready d) file)) in
         let same : state later ≡ state old = called.state ∙ stays in
-        answered_step accounts f me ready.caller call old new t ready.thread result (walk ++ next ∷ []) later longer
+        answered_step accounts f me ready.caller call old new t ready result (walk ++ next ∷ []) later longer
         (Data answer) (ap Data answer_is) (refused_by true is) backed
         (walked_then accounts ok (state old) f me t ready m d old.line (next ∷ []))
-        (subst (λ (s : State). Represents accounts s f) (sym same) ready.represents) end)
+        (still_represents ready.represents _ same) end)
 
 -- the program of `read` refines its rule
 pub read_refines : ReadRefines
 unfolding read_program
 read_refines accounts ok [] me old new f t result ready run =
+    from_each accounts f me (calls.Read []) old new t result ready (λ ready.
     slash_is_no_file accounts old new f me t ready (calls.Read []) result _
-    (read_reaches accounts f me ready.caller.process []) _ run
+    (read_reaches accounts f me ready.caller.process []) _ run)
 read_refines accounts ok (m ∷ d) me old new f t result ready run =
+    from_each accounts f me (calls.Read (m ∷ d)) old new t result ready (λ ready.
     file_step accounts ok old new f me t ready m d (calls.Read (m ∷ d)) result _ (read_reaches accounts f me ready.caller.process (m ∷ d)) _ run
     (λ open_so_far class bytes at mid stays chain on.
     by_right accounts ok old new f me t ready m d result open_so_far class bytes at mid stays chain
-    (reads accounts f ready.caller.process (m ∷ d)) refl on)
+    (reads accounts f ready.caller.process (m ∷ d)) refl on))

@@ -36,12 +36,13 @@ use Rattle.histar_refinement.specs.Accounts.{AreAccounts}
 use Rattle.histar_refinement.specs.Addresses.{address_of}
 use Rattle.histar_refinement.specs.Addresses.Step.{Listing}
 use Rattle.histar_refinement.specs.Directories.{directory_of}
-use Rattle.histar_refinement.specs.Represents.{Represents}
+use Rattle.histar_refinement.specs.KeptNames.{RepresentsStill}
 use Rattle.histar_refinement.proofs.DirectoryLaws.{get_directory}
 use Rattle.histar_refinement.proofs.FileChecks.{write_listing_said}
 use Rattle.histar_refinement.proofs.ListedFiles.{leads_at}
-use Rattle.histar_refinement.proofs.Renaming.{listable_renamed, represents_renamed}
+use Rattle.histar_refinement.proofs.Renaming.{listable_renamed, still_renamed}
 use Rattle.histar_sim.specs.Simulation.{IsReady}
+use Rattle.histar_sim.proofs.CallErrors.{from_each}
 use Rattle.histar_sim.proofs.Chains.{all_granted, Chain}
 use Rattle.histar_sim.proofs.Steps.{Goal, granted_step, refused_step, refused_at_once, answered_step}
 use Rattle.histar_sim.proofs.Walks.{runs, place_at, walk_reads, among_granted_all, agrees, at_container, at_listing, dir, seen, nothing_there}
@@ -59,7 +60,7 @@ module _ (accounts : Accounts) (ok : AreAccounts accounts) (old new : KernelMode
   walk = walk_reads accounts ok (state old) f me t ready d
 
   abbrev Refined : Type 0
-  Refined = Goal accounts f me ready.caller call old new t ready.thread result
+  Refined = Goal accounts f me ready.caller call old new t ready result
 
   abbrev p : Process
   p = ready.caller.process
@@ -139,26 +140,26 @@ module _ (accounts : Accounts) (ok : AreAccounts accounts) (old new : KernelMode
           ∙ ap (λ (b : Bool). unless b Modify) is_may
 
       -- the kernel has the objects of the flat state with the entry renamed
-      matched_after : Represents accounts (with_segment_bytes (state old) listing (spelling renamed)) (with_renamed f (m ∷ d) (name ∷ d))
+      matched_after : RepresentsStill ready.represents (with_segment_bytes (state old) listing (spelling renamed)) (with_renamed f (m ∷ d) (name ∷ d))
       matched_after =
-          represents_renamed accounts (state old) f ready.represents.matched m name d listing at_N absent target leads
+          still_renamed accounts (state old) f ready.represents.matched m name d listing at_N absent target leads
           ready.represents.jobs_given named is_dir_here
 
       by_right : (may : Bool) → may_write accounts p root ≡ may → Runs (ask next (λ _. Answers Done)) mid new t result → Refined
       by_right false is_may on =
-          refused_step accounts f me ready.caller call old new t ready.thread result walk mid chain stays
-          ready.represents EACCES (refused_by None false absent is_may) next (λ _. Answers Done) Modify
+          refused_step accounts f me ready.caller call old new t ready result walk mid chain stays
+          EACCES (refused_by None false absent is_may) next (λ _. Answers Done) Modify
           (said false is_may) refl refl
           (walked_also accounts ok (state old) f me t ready m d old.line ((next, Some Modify) ∷ [])) on
       by_right true is_may on =
-          granted_step accounts f me ready.caller call old new t ready.thread result walk mid chain next (λ _. Answers Done) (said true is_may) on
+          granted_step accounts f me ready.caller call old new t ready result walk mid chain next (λ _. Answers Done) (said true is_may) on
           (λ later answer called right longer end.
           let new_state : state later ≡ with_segment_bytes (state old) listing (spelling renamed) =
           called.state ∙ ap (λ (s : State). with_segment_bytes s listing (spelling renamed)) stays in
-          answered_step accounts f me ready.caller call old new t ready.thread result (walk ++ next ∷ []) later longer
+          answered_step accounts f me ready.caller call old new t ready result (walk ++ next ∷ []) later longer
           Done refl (refused_by None true absent is_may) tt
           (walked_then accounts ok (state old) f me t ready m d old.line (next ∷ []))
-          (subst (λ (s : State). Represents accounts s (with_renamed f (m ∷ d) (name ∷ d))) (sym new_state) matched_after) end)
+          (subst (λ (s : State). RepresentsStill ready.represents s (with_renamed f (m ∷ d) (name ∷ d))) (sym new_state) matched_after) end)
 
     -- once the new name was looked up
     abbrev at_name : Option Target → Program
@@ -169,8 +170,8 @@ module _ (accounts : Accounts) (ok : AreAccounts accounts) (old new : KernelMode
         by_right absent (may_write accounts p root) refl (subst (λ (o : Option Target). Runs (at_name o) mid new t result)
         (nothing_there accounts ok (state old) f me t ready name d absent) on)
     by_name (Some node) is on =
-        refused_at_once accounts f me ready.caller call old new t ready.thread result walk mid chain stays
-        ready.represents EEXIST (refused_by (Some node) (may_write accounts p root) is refl) refl refl
+        refused_at_once accounts f me ready.caller call old new t ready result walk mid chain stays
+        EEXIST (refused_by (Some node) (may_write accounts p root) is refl) refl refl
         (has_walk accounts ok (state old) f me t ready m d _ (among_granted_all old.line t walk))
         (subst (λ (o : Option Target). Runs (at_name o) mid new t result)
         (entry_leads accounts ok (state old) f me t ready name d node.class node.content is) on)
@@ -187,14 +188,17 @@ module _ (accounts : Accounts) (ok : AreAccounts accounts) (old new : KernelMode
 rename_of_slash : (accounts : Accounts) (old new : KernelModel) (f : Flat) (me : ProcName) (t : ℕ) (name : Name)
     (result : Result Reply Stopped) (ready : IsReady accounts (state old) f me t)
     → Runs (rename_program (roots_of (length accounts.users)) [] name) old new t result
-    → Goal accounts f me ready.caller (calls.Rename [] name) old new t ready.thread result
+    → Goal accounts f me ready.caller (calls.Rename [] name) old new t ready result
 unfolding rename_program find_entry
 rename_of_slash accounts old new f me t name result ready run =
-    refused_at_once accounts f me ready.caller (calls.Rename [] name) old new t ready.thread result [] old
-    (same_kernel old) refl ready.represents EBUSY refl refl refl tt run
+    refused_at_once accounts f me ready.caller (calls.Rename [] name) old new t ready result [] old
+    (same_kernel old) refl EBUSY refl refl refl tt run
 
 -- the program of `rename` refines its rule
 pub rename_refines : RenameRefines
-rename_refines accounts ok [] name named me old new f t result ready run = rename_of_slash accounts old new f me t name result ready run
+rename_refines accounts ok [] name named me old new f t result ready run =
+    from_each accounts f me (calls.Rename [] name) old new t result ready (λ ready.
+    rename_of_slash accounts old new f me t name result ready run)
 rename_refines accounts ok (m ∷ d) name named me old new f t result ready run =
-    rename_is_refined accounts ok old new f me t ready m d name named result run
+    from_each accounts f me (calls.Rename (m ∷ d) name) old new t result ready (λ ready.
+    rename_is_refined accounts ok old new f me t ready m d name named result run)

@@ -35,7 +35,7 @@ use Rattle.histar_refinement.proofs.Making.{count_entries}
 use Rattle.histar_sim.specs.Simulation.{IsReady}
 use Rattle.histar_sim.specs.Reads.{AreAmong, tested}
 use Rattle.histar_sim.proofs.Chains.{Step, all_granted, entries_of, Chain}
-use Rattle.histar_sim.proofs.CallErrors.{ReadsAmong}
+use Rattle.histar_sim.proofs.CallErrors.{from_each, ReadsAmong}
 use Rattle.histar_sim.proofs.Steps.{Goal, refused_at_once}
 use Rattle.histar_sim.proofs.Walks.{read_of, walk_reads, directory_read, has_way, among_granted_all, among_refused, read_step}
 use Rattle.histar_sim.specs.Laws.{RmdirRefines}
@@ -62,7 +62,7 @@ module _ (accounts : Accounts) (ok : AreAccounts accounts) (old new : KernelMode
   read = read_of accounts ok (state old) f me t ready (m ∷ d)
 
   abbrev Refined : Type 0
-  Refined = Goal accounts f me ready.caller call old new t ready.thread result
+  Refined = Goal accounts f me ready.caller call old new t ready result
 
   -- the reads that the call cannot do without are those of the walk, and that of the directory itself where the way leads into it
   reads_are : (b : Bool) → (not (is_some (into accounts f p d)) && is_dir_at f (m ∷ d)) ≡ b
@@ -81,13 +81,13 @@ module _ (accounts : Accounts) (ok : AreAccounts accounts) (old new : KernelMode
   module _ (steps : List Step) (r : Reply) where
     walk_suffices : (not (is_some (into accounts f p d)) && is_dir_at f (m ∷ d)) ≡ false
         → AreAmong walk (entries_of old.line t steps)
-        → ReadsAmong accounts f me ready.caller call old new t ready.thread steps r
+        → ReadsAmong accounts f me ready.caller call old new t ready steps r
     walk_suffices none among = has_way accounts ok (state old) f me t ready (m ∷ d) _
         (subst (λ (calls : List RawCall). AreAmong calls (entries_of old.line t steps)) (sym (reads_are false none ∙ append-nil walk)) among)
 
     both_suffice : into accounts f p d ≡ None → is_dir_at f (m ∷ d) ≡ true
         → AreAmong (walk ++ read ∷ []) (entries_of old.line t steps)
-        → ReadsAmong accounts f me ready.caller call old new t ready.thread steps r
+        → ReadsAmong accounts f me ready.caller call old new t ready steps r
     both_suffice open_so_far dir among = has_way accounts ok (state old) f me t ready (m ∷ d) _
         (subst (λ (calls : List RawCall). AreAmong calls (entries_of old.line t steps))
         (sym (reads_are true (λ i. not (is_some (open_so_far i)) && dir i))) among)
@@ -128,8 +128,8 @@ module _ (accounts : Accounts) (ok : AreAccounts accounts) (old new : KernelMode
             (λ _. take_away (entry_of accounts ok (state old) f me t ready m d Dir) (λ _. Answers Done))) mid
             new t result → Refined
         by_entries false is on =
-            refused_at_once accounts f me ready.caller call old new t ready.thread result (walk ++ read ∷ []) mid chain
-            stays ready.represents ENOTEMPTY (refused_by Dir class true false at sees is) refl refl
+            refused_at_once accounts f me ready.caller call old new t ready result (walk ++ read ∷ []) mid chain
+            stays ENOTEMPTY (refused_by Dir class true false at sees is) refl refl
             (both_suffice (all_granted (walk ++ read ∷ [])) (Refused ENOTEMPTY) open_so_far is_dir_here
             (among_granted_all old.line t (walk ++ read ∷ []))) on
         by_entries true is on =
@@ -161,8 +161,8 @@ module _ (accounts : Accounts) (ok : AreAccounts accounts) (old new : KernelMode
           ))
           (λ sees later same longer rest. emptied class at sees later same longer rest)
       by_content class (File bytes) at on =
-          refused_at_once accounts f me ready.caller call old new t ready.thread result walk mid chain stays
-          ready.represents ENOTDIR
+          refused_at_once accounts f me ready.caller call old new t ready result walk mid chain stays
+          ENOTDIR
           (refused_by (File bytes) class (reads accounts f p (m ∷ d)) is_empty at refl refl) refl refl
           (walk_suffices (all_granted walk) (Refused ENOTDIR)
           (λ i. not (is_some (open_so_far i)) && is_some_and (at i) is_dir) (among_granted_all old.line t walk))
@@ -180,13 +180,17 @@ module _ (accounts : Accounts) (ok : AreAccounts accounts) (old new : KernelMode
 rmdir_of_slash : (accounts : Accounts) (old new : KernelModel) (f : Flat) (me : ProcName) (t : ℕ)
     (result : Result Reply Stopped) (ready : IsReady accounts (state old) f me t)
     → Runs (rmdir_program (roots_of (length accounts.users)) []) old new t result
-    → Goal accounts f me ready.caller (calls.Rmdir []) old new t ready.thread result
+    → Goal accounts f me ready.caller (calls.Rmdir []) old new t ready result
 unfolding rmdir_program find_entry
 rmdir_of_slash accounts old new f me t result ready run =
-    refused_at_once accounts f me ready.caller (calls.Rmdir []) old new t ready.thread result [] old (same_kernel old)
-    refl ready.represents EBUSY refl refl refl tt run
+    refused_at_once accounts f me ready.caller (calls.Rmdir []) old new t ready result [] old (same_kernel old)
+    refl EBUSY refl refl refl tt run
 
 -- the program of `rmdir` refines its rule
 pub rmdir_refines : RmdirRefines
-rmdir_refines accounts ok [] me old new f t result ready run = rmdir_of_slash accounts old new f me t result ready run
-rmdir_refines accounts ok (m ∷ d) me old new f t result ready run = rmdir_is_refined accounts ok old new f me t ready m d result run
+rmdir_refines accounts ok [] me old new f t result ready run =
+    from_each accounts f me (calls.Rmdir []) old new t result ready (λ ready.
+    rmdir_of_slash accounts old new f me t result ready run)
+rmdir_refines accounts ok (m ∷ d) me old new f t result ready run =
+    from_each accounts f me (calls.Rmdir (m ∷ d)) old new t result ready (λ ready.
+    rmdir_is_refined accounts ok old new f me t ready m d result run)

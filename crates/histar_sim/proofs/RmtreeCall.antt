@@ -20,6 +20,7 @@ use Rattle.histar_moves.specs.Rmtree.{rmtree_program}
 use Rattle.histar_programs.specs.Start.{roots_of}
 use Rattle.histar_refinement.specs.Accounts.{AreAccounts}
 use Rattle.histar_sim.specs.Simulation.{IsReady}
+use Rattle.histar_sim.proofs.CallErrors.{from_each}
 use Rattle.histar_sim.proofs.Steps.{Goal, refused_at_once}
 use Rattle.histar_sim.proofs.Walks.{walk_reads, has_walk}
 use Rattle.histar_sim.specs.Laws.{RmtreeRefines}
@@ -36,7 +37,7 @@ module _ (accounts : Accounts) (ok : AreAccounts accounts) (old new : KernelMode
   refusal = unless (writes accounts f ready.caller.process d) EACCES
 
   rmtree_is_refined : Runs (rmtree_program (roots_of (length accounts.users)) (m ∷ d)) old new t result
-      → Goal accounts f me ready.caller call old new t ready.thread result
+      → Goal accounts f me ready.caller call old new t ready result
   unfolding rmtree_program
   rmtree_is_refined run =
       entry_step accounts ok old new f me t ready m d call result refusal refl
@@ -56,13 +57,17 @@ module _ (accounts : Accounts) (ok : AreAccounts accounts) (old new : KernelMode
 rmtree_of_slash : (accounts : Accounts) (old new : KernelModel) (f : Flat) (me : ProcName) (t : ℕ)
     (result : Result Reply Stopped) (ready : IsReady accounts (state old) f me t)
     → Runs (rmtree_program (roots_of (length accounts.users)) []) old new t result
-    → Goal accounts f me ready.caller (calls.Rmtree []) old new t ready.thread result
+    → Goal accounts f me ready.caller (calls.Rmtree []) old new t ready result
 unfolding rmtree_program find_entry
 rmtree_of_slash accounts old new f me t result ready run =
-    refused_at_once accounts f me ready.caller (calls.Rmtree []) old new t ready.thread result [] old (same_kernel old)
-    refl ready.represents EBUSY refl refl refl tt run
+    refused_at_once accounts f me ready.caller (calls.Rmtree []) old new t ready result [] old (same_kernel old)
+    refl EBUSY refl refl refl tt run
 
 -- the program of `rmtree` refines its rule
 pub rmtree_refines : RmtreeRefines
-rmtree_refines accounts ok [] me old new f t result ready run = rmtree_of_slash accounts old new f me t result ready run
-rmtree_refines accounts ok (m ∷ d) me old new f t result ready run = rmtree_is_refined accounts ok old new f me t ready m d result run
+rmtree_refines accounts ok [] me old new f t result ready run =
+    from_each accounts f me (calls.Rmtree []) old new t result ready (λ ready.
+    rmtree_of_slash accounts old new f me t result ready run)
+rmtree_refines accounts ok (m ∷ d) me old new f t result ready run =
+    from_each accounts f me (calls.Rmtree (m ∷ d)) old new t result ready (λ ready.
+    rmtree_is_refined accounts ok old new f me t ready m d result run)

@@ -33,9 +33,10 @@ use Rattle.histar_programs.specs.Kin.{kin_of}
 use Rattle.histar_process.specs.SpawnCall.{spawn_program}
 use Rattle.histar_programs.specs.Start.{roots_of}
 use Rattle.histar_refinement.specs.Accounts.{AreAccounts}
-use Rattle.histar_refinement.specs.Represents.{Represents}
+use Rattle.histar_refinement.specs.KeptNames.{RepresentsStill}
 use Rattle.histar_sim.specs.Simulation.{IsReady}
 use Rattle.histar_sim.specs.Reads.{AreAmong}
+use Rattle.histar_sim.proofs.CallErrors.{from_each}
 use Rattle.histar_sim.proofs.Chains.{all_granted, entries_of, Chain}
 use Rattle.histar_sim.proofs.Steps.{Goal, answered_step}
 use Rattle.histar_sim.specs.Laws.{SpawnRefines}
@@ -60,7 +61,7 @@ module _ (accounts : Accounts) (ok : AreAccounts accounts) (me : ProcName) (call
   p = ready.caller.process
 
   abbrev Refined : Type 0
-  Refined = Goal accounts f me ready.caller Spawn old new t ready.thread result
+  Refined = Goal accounts f me ready.caller Spawn old new t ready result
 
   abbrev status : ProcessStatus
   status = status_of accounts me caller old new f result ready found
@@ -107,8 +108,8 @@ module _ (accounts : Accounts) (ok : AreAccounts accounts) (me : ProcName) (call
         → (state old).next_object + 3 < greatest
         → Runs (Answers reply) later new t result → Refined
     answered calls later kept chain is few runs =
-        answered_step accounts f me ready.caller Spawn old new t ready.thread result calls later chain reply refl refused_nowhere tt tt
-        (subst (λ (s : State). Represents accounts s (flat.with_child f me p p.chain)) (sym is)
+        answered_step accounts f me ready.caller Spawn old new t ready result calls later chain reply refl refused_nowhere tt tt
+        (subst (λ (s : State). RepresentsStill ready.represents s (flat.with_child f me p p.chain)) (sym is)
         (spawned_matched accounts ok (state old) f ready.represents me p ready.caller.agrees ready.caller.runs few_born
         caller.home.container caller.home.segment
         (at_home accounts me caller old new f result ready found) (at_status accounts me caller old new f result ready found) t
@@ -118,7 +119,7 @@ module _ (accounts : Accounts) (ok : AreAccounts accounts) (me : ProcName) (call
     born : (mid : KernelModel) → Chain old t (all_granted (before ++ OwnLabel ∷ [])) mid → state mid ≡ state old
         → Runs (with_labels status (own, clearance)) mid new t result → Refined
     born mid chain stays runs =
-        birth_made accounts f me ready.caller Spawn old new t ready.thread result (state old) caller.home status (kin_of accounts own) own clearance
+        birth_made accounts f me ready.caller Spawn old new t ready result (state old) caller.home status (kin_of accounts own) own clearance
         (fit accounts ok (state old) f ready.represents me p ready.caller.agrees ready.caller.runs few_born caller.home.container caller.home.segment
         (at_home accounts me caller old new f result ready found) (at_status accounts me caller old new f result ready found) t
         (at_thread accounts me caller old new f result ready found)) reply []
@@ -133,7 +134,8 @@ module _ (accounts : Accounts) (ok : AreAccounts accounts) (me : ProcName) (call
 pub spawn_refines : SpawnRefines
 unfolding spawn_program
 spawn_refines accounts ok me caller old new f result ready found runs =
+    from_each accounts f me Spawn old new caller.thread result ready (λ ready.
     child_room_step accounts me caller old new f result ready found Spawn None
     (needs accounts ok me caller old new f result ready found)
     (in_room accounts ok me caller old new f result ready found) runs
-    (λ long room mid chain stays on. asked accounts ok me caller old new f result ready found long room mid chain stays on)
+    (λ long room mid chain stays on. asked accounts ok me caller old new f result ready found long room mid chain stays on))

@@ -43,7 +43,7 @@ use Rattle.histar_refinement.specs.Addresses.Step.{Slash}
 use Rattle.histar_refinement.specs.Directories.{directory_of}
 use Rattle.histar_refinement.specs.Guards.{Guard, guard_label}
 use Rattle.histar_refinement.specs.Labels.{class_guard}
-use Rattle.histar_refinement.specs.Represents.{Represents}
+use Rattle.histar_refinement.proofs.KeepingNames.{still_represents}
 use Rattle.histar_refinement.specs.Lines.{IsObjectAt}
 use Rattle.histar_refinement.proofs.ClassFound.{HasOwnerAndMode, class_revealed}
 use Rattle.histar_refinement.proofs.FileChecks.{label_said}
@@ -54,7 +54,7 @@ use Rattle.histar_sim.specs.Reads.{AreAmong}
 use Rattle.histar_sim.proofs.ReadsByCall.{AreReadsOf, HasWay, HasLabel, walked_paths}
 use Rattle.histar_sim.specs.Laws.{StatRefines}
 use Rattle.histar_sim.proofs.Chains.{all_granted, entries_of, Chain}
-use Rattle.histar_sim.proofs.CallErrors.{IsBacked, ReadsAmong}
+use Rattle.histar_sim.proofs.CallErrors.{from_each, IsBacked, ReadsAmong}
 use Rattle.histar_sim.proofs.Steps.{Goal, granted_step, refused_at_once, answered_step}
 use Rattle.histar_sim.proofs.Walks.{runs, place_at, walk_reads, reads_way, has_way, agrees, found, holds, at_container, at_listing, dir, seen}
 use Rattle.histar_sim.proofs.Walks.{nothing_there, file_number, file_there, directory_there, among_granted_all, look_step}
@@ -69,7 +69,7 @@ label_less accounts s f m d errno entries p way =
 module _ (accounts : Accounts) (ok : AreAccounts accounts) (old new : KernelModel) (f : Flat) (me : ProcName) (t : ℕ)
     (ready : IsReady accounts (state old) f me t) (result : Result Reply Stopped) where
   abbrev Refined : Path → Type 0
-  Refined q = Goal accounts f me ready.caller (calls.Stat q) old new t ready.thread result
+  Refined q = Goal accounts f me ready.caller (calls.Stat q) old new t ready result
 
   -- the label of the object at a path is asked for, once these raw calls were made
   module _ (q : Path) (there : Node) (at : get f.files q ≡ Some there) (D O : ℕ)
@@ -105,22 +105,22 @@ module _ (accounts : Accounts) (ok : AreAccounts accounts) (old new : KernelMode
           ∙ label_at accounts (state old) f ready.represents.matched q there at O numbered guard.0 guard.1) in
           ap (λ (l : Levels). class_reply (is_dir there) (class_shown accounts l)) same ∙ ap (class_reply (is_dir there)) reveals.is
 
-      all_reads : ReadsAmong accounts f me ready.caller call old new t ready.thread (all_granted (reads ++ next ∷ [])) due
+      all_reads : ReadsAmong accounts f me ready.caller call old new t ready (all_granted (reads ++ next ∷ [])) due
       all_reads = (reads, next ∷ [], are_reads, (D, O, object_at, refl), among_granted_all old.line t (reads ++ next ∷ []))
 
       label_step : Runs (ask next (λ label. class_reply (is_dir there) (class_shown accounts label))) mid new t result → Refined q
       label_step on =
-          granted_step accounts f me ready.caller call old new t ready.thread result reads mid chain next
+          granted_step accounts f me ready.caller call old new t ready result reads mid chain next
           (λ label. class_reply (is_dir there) (class_shown accounts label))
           (ap (λ (s : State). check s t next) stays ∙ passes) on
           (λ later label called right longer end.
           let same : state later ≡ state old = called.state ∙ stays in
           let entries = entries_of old.line t (all_granted (reads ++ next ∷ [])) in
-          answered_step accounts f me ready.caller call old new t ready.thread result (reads ++ next ∷ []) later longer due due_is allowed
+          answered_step accounts f me ready.caller call old new t ready result (reads ++ next ∷ []) later longer due due_is allowed
           (subst (IsBacked (state old) entries) due_is tt) (subst
-          (ReadsAmong accounts f me ready.caller call old new t ready.thread (all_granted (reads ++ next ∷ [])))
+          (ReadsAmong accounts f me ready.caller call old new t ready (all_granted (reads ++ next ∷ [])))
           due_is all_reads)
-          (subst (λ (s : State). Represents accounts s f) (sym same) ready.represents)
+          (still_represents ready.represents _ same)
           (subst (λ (program : Program). Runs program later new t result) (revealed_is label right) end))
 
   module _ (m : Name) (d : Path) where
@@ -197,8 +197,8 @@ module _ (accounts : Accounts) (ok : AreAccounts accounts) (old new : KernelMode
 
       by_agrees : (o : Option Node) → get f.files (m ∷ d) ≡ o → Refined (m ∷ d)
       by_agrees None at =
-          refused_at_once accounts f me ready.caller stat old new t ready.thread result walk mid chain stays
-          ready.represents ENOENT (refused_is None None open_so_far at) refl refl
+          refused_at_once accounts f me ready.caller stat old new t ready result walk mid chain stays
+          ENOENT (refused_is None None open_so_far at) refl refl
           (label_less accounts (state old) f m d ENOENT _ ready.caller.process
           (has_way accounts ok (state old) f me t ready d _ (among_granted_all old.line t walk)))
           (leads None (nothing_there accounts ok (state old) f me t ready m d at))
@@ -232,5 +232,9 @@ module _ (accounts : Accounts) (ok : AreAccounts accounts) (old new : KernelMode
 
 -- the program of `stat` refines its rule
 pub stat_refines : StatRefines
-stat_refines accounts ok [] me old new f t result ready run = stat_of_slash accounts ok old new f me t ready result run
-stat_refines accounts ok (m ∷ d) me old new f t result ready run = stat_is_refined accounts ok old new f me t ready result m d run
+stat_refines accounts ok [] me old new f t result ready run =
+    from_each accounts f me (calls.Stat []) old new t result ready (λ ready.
+    stat_of_slash accounts ok old new f me t ready result run)
+stat_refines accounts ok (m ∷ d) me old new f t result ready run =
+    from_each accounts f me (calls.Stat (m ∷ d)) old new t result ready (λ ready.
+    stat_is_refined accounts ok old new f me t ready result m d run)

@@ -18,9 +18,9 @@ use Rattle.histar_programs.specs.Programs.Program.{Answers}
 use Rattle.histar_process.specs.StatusCall.{status_reply, status_program}
 use Rattle.histar_programs.specs.Start.{roots_of}
 use Rattle.histar_refinement.specs.Accounts.{AreAccounts}
-use Rattle.histar_refinement.specs.Represents.{Represents}
+use Rattle.histar_refinement.proofs.KeepingNames.{still_represents}
 use Rattle.histar_sim.specs.Simulation.{IsReady}
-use Rattle.histar_sim.proofs.CallErrors.{IsBacked}
+use Rattle.histar_sim.proofs.CallErrors.{from_each, IsBacked}
 use Rattle.histar_sim.proofs.Steps.{Goal, answered_step}
 use Rattle.histar_sim.proofs.Walks.{among_granted_all}
 use Rattle.histar_sim.specs.Laws.{StatusRefines}
@@ -45,18 +45,20 @@ module _ (accounts : Accounts) (ok : AreAccounts accounts) (old new : KernelMode
   said other here = life_is other.exited ∙ ap life_reply (sym here)
 
   status_is_refined : Runs (status_program (roots_of (length accounts.users)) name) old new t result
-      → Goal accounts f me ready.caller call old new t ready.thread result
+      → Goal accounts f me ready.caller call old new t ready result
   unfolding status_program
   status_is_refined run =
       let reads = search_reads accounts (state old) f me t ready name in
       search_step accounts ok old new f me t ready call result name (λ home status. Answers (status_reply status.exited)) run
       (λ errno is steps among. (is, has_search accounts (state old) f me t ready name _ among))
       (λ found other here seen mid stays chain on.
-      answered_step accounts f me ready.caller call old new t ready.thread result reads mid chain (status_reply other.exited) (said other here) found
+      answered_step accounts f me ready.caller call old new t ready result reads mid chain (status_reply other.exited) (said other here) found
       (subst (IsBacked (state old) _) (said other here) (life_backed (state old) _ other.exited))
       (has_search accounts (state old) f me t ready name _ (among_granted_all old.line t reads))
-      (subst (λ (s : State). Represents accounts s f) (sym stays) ready.represents) on)
+      (still_represents ready.represents _ stays) on)
 
 -- the program of `status` refines its rule
 pub status_refines : StatusRefines
-status_refines accounts ok name me old new f t result ready run = status_is_refined accounts ok old new f me t ready name result run
+status_refines accounts ok name me old new f t result ready run =
+    from_each accounts f me (calls.Status name) old new t result ready (λ ready.
+    status_is_refined accounts ok old new f me t ready name result run)

@@ -27,11 +27,10 @@ use Rattle.histar_programs.specs.Replies.{is_access, is_permission}
 use Rattle.histar_programs.specs.Programs.{AnswerOf, IsAnswer, Outcome, Program, Asked, Completes, Begins, Runs}
 use Rattle.histar_programs.specs.Programs.Program.{Answers, Asks, Stops}
 use Rattle.histar_programs.specs.Parts.{refused_with, or_refused, ask, if_there, list}
-use Rattle.histar_refinement.specs.Represents.{Represents}
-use Rattle.histar_refinement.specs.Lines.{IsThreadOf}
-use Rattle.histar_sim.specs.Simulation.{errno_by_rule, IsRunning, has_category, FollowsRule}
+use Rattle.histar_refinement.specs.KeptNames.{RepresentsStill}
+use Rattle.histar_sim.specs.Simulation.{errno_by_rule, IsRunning, IsReady, has_category}
 use Rattle.histar_sim.proofs.Chains.{Step, all_granted, entries_of, Chain, chain_after, granted_broken_off, exhausted_broken_off}
-use Rattle.histar_sim.proofs.CallErrors.{IsBacked, ReadsAmong, chain_unanswered, granted_refined, unchanged_refined, refused_refined}
+use Rattle.histar_sim.proofs.CallErrors.{FollowsFrom, IsBacked, ReadsAmong, chain_unanswered, granted_refined, unchanged_refined, refused_refined}
 
 -- the call ended here without a reply
 pub record EndsHere (old new : KernelModel) (result : Result Reply Stopped) : Type 0 where
@@ -131,10 +130,10 @@ module _ (t : ℕ) (old new : KernelModel) where
             })
 
 module _ (accounts : Accounts) (f : Flat) (me : ProcName) (caller : IsRunning f me) (call : UnixCall)
-    (old new : KernelModel) (t : ℕ) (named : IsThreadOf accounts (state old) me t) (result : Result Reply Stopped) where
+    (old new : KernelModel) (t : ℕ) (ready : IsReady accounts (state old) f me t) (result : Result Reply Stopped) where
   -- what is to be shown: the call follows its rule
   abbrev pub Goal : Type 0
-  Goal = FollowsRule accounts f me call old new t result
+  Goal = FollowsFrom accounts f me call old new t ready.represents result
 
   -- the raw calls so far, each granted
   module _ (calls : List RawCall) (mid : KernelModel) (so_far : Chain old t (all_granted calls) mid) where
@@ -158,10 +157,10 @@ module _ (accounts : Accounts) (f : Flat) (me : ProcName) (caller : IsRunning f 
         chain : Chain old t (all_granted calls) new
         chain = kept ends.unchanged
 
-        by : (r : Result Reply Stopped) → IsErr r → FollowsRule accounts f me call old new t r
+        by : (r : Result Reply Stopped) → IsErr r → FollowsFrom accounts f me call old new t ready.represents r
         by (Ok reply) err = absurd cc
         by (Err stopped) err =
-            chain_unanswered accounts f me caller call old new t named (all_granted calls) chain
+            chain_unanswered accounts f me caller call old new t ready (all_granted calls) chain
             (granted_broken_off t (reply_to accounts f me call) old new old.line calls chain)
 
     -- a raw call that the rules grant, whatever would follow a denial
@@ -209,13 +208,13 @@ module _ (accounts : Accounts) (f : Flat) (me : ProcName) (caller : IsRunning f 
           let here = stopped_here t end.mid new result (subst (λ (program : Program). Runs program end.mid new t result) stops end.runs) in
           let last : Chain mid t ((next, Some TooBig) ∷ []) new = (end.mid, end.called, here.unchanged) in
           let chain = chain_after t old mid new (all_granted calls) ((next, Some TooBig) ∷ []) so_far last in
-          by result here.unanswered (chain_unanswered accounts f me caller call old new t named
+          by result here.unanswered (chain_unanswered accounts f me caller call old new t ready
           (all_granted calls ++ (next, Some TooBig) ∷ []) chain (exhausted_broken_off t
           (reply_to accounts f me call) old mid new old.line calls next so_far last greatest))
     ]
       where
-        by : (r : Result Reply Stopped) → IsErr r → FollowsRule accounts f me call old new t (Err (record {}))
-            → FollowsRule accounts f me call old new t r
+        by : (r : Result Reply Stopped) → IsErr r → FollowsFrom accounts f me call old new t ready.represents (Err (record {}))
+            → FollowsFrom accounts f me call old new t ready.represents r
         by (Ok reply) err refined = absurd cc
         by (Err stopped) err refined = refined
 
@@ -236,12 +235,12 @@ module _ (accounts : Accounts) (f : Flat) (me : ProcName) (caller : IsRunning f 
         → Runs (ask next rest) mid new t result → Goal
     exhausted_category_step next rest fails unrevealed greatest runs = counted_out next rest fails unrevealed (inr greatest) runs
 
-    module _ (stays : state mid ≡ state old) (represents : Represents accounts (state old) f) (errno : Errno)
+    module _ (stays : state mid ≡ state old) (errno : Errno)
         (is : refused accounts f me caller.process call ≡ Some errno) where
       -- a raw call that the rules refuse, as the flat rules refuse the call
       pub refused_step : (next : RawCall) (rest : AnswerOf next → Program) (denied : Denied)
           → check (state mid) t next ≡ Some denied → errno_for next denied ≡ Some errno → errno_by_rule denied ≡ Some errno
-          → ReadsAmong accounts f me caller call old new t named (all_granted calls ++ (next, Some denied) ∷ [])
+          → ReadsAmong accounts f me caller call old new t ready (all_granted calls ++ (next, Some denied) ∷ [])
           (Refused errno) → Runs (ask next rest) mid new t result → Goal
       refused_step next rest denied fails revealed by_rule reads runs =
           elim (refused_so t mid new next (or_refused (errno_for next) rest) denied fails result runs) [
@@ -251,31 +250,31 @@ module _ (accounts : Accounts) (f : Flat) (me : ProcName) (caller : IsRunning f 
                 replied t end.mid new (Refused errno) result
                 (subst (λ (o : Option Errno). Runs (refused_with o) end.mid new t result) revealed end.runs) in
                 let chain = chain_after t old mid new (all_granted calls) ((next, Some denied) ∷ []) so_far (end.mid, end.called, said.0) in
-                subst (FollowsRule accounts f me call old new t) (sym said.1)
-                (refused_refined accounts f me caller call old new t named (said.0.state ∙ end.called.state ∙ stays)
-                represents calls next denied chain errno by_rule is reads)
+                subst (FollowsFrom accounts f me call old new t ready.represents) (sym said.1)
+                (refused_refined accounts f me caller call old new t ready (said.0.state ∙ end.called.state ∙ stays)
+                calls next denied chain errno by_rule is reads)
           ]
 
       -- a call that is refused with no further raw call
       pub refused_at_once : is_access errno ≡ false → is_permission errno ≡ false
-          → ReadsAmong accounts f me caller call old new t named (all_granted calls) (Refused errno)
+          → ReadsAmong accounts f me caller call old new t ready (all_granted calls) (Refused errno)
           → Runs (Answers (Refused errno)) mid new t result → Goal
       refused_at_once no_access no_permission reads runs =
           let end = replied t mid new (Refused errno) result runs in
-          subst (FollowsRule accounts f me call old new t) (sym end.1)
-          (unchanged_refined accounts f me caller call old new t named (end.0.state ∙ stays) represents calls
+          subst (FollowsFrom accounts f me call old new t ready.represents) (sym end.1)
+          (unchanged_refined accounts f me caller call old new t ready (end.0.state ∙ stays) calls
           (kept end.0) errno no_access no_permission is reads)
 
     -- a call that replies what the flat rules answer
     pub answered_step : (reply : Reply) → reply ≡ flat.answer f me caller.process call
         → refused accounts f me caller.process call ≡ None
         → IsBacked (state old) (entries_of old.line t (all_granted calls)) (flat.answer f me caller.process call)
-        → ReadsAmong accounts f me caller call old new t named (all_granted calls)
+        → ReadsAmong accounts f me caller call old new t ready (all_granted calls)
         (flat.answer f me caller.process call)
-        → Represents accounts (state mid) (changed accounts f me caller.process call)
+        → RepresentsStill ready.represents (state mid) (changed accounts f me caller.process call)
         → Runs (Answers reply) mid new t result → Goal
-    answered_step reply said is backed reads represents runs =
+    answered_step reply said is backed reads still runs =
         let end = replied t mid new reply result runs in
-        subst (FollowsRule accounts f me call old new t) (sym (end.1 ∙ ap Ok said))
-        (granted_refined accounts f me caller call old new t named calls (kept end.0) is backed reads
-        (subst (λ (s : State). Represents accounts s (changed accounts f me caller.process call)) (sym end.0.state) represents))
+        subst (FollowsFrom accounts f me call old new t ready.represents) (sym (end.1 ∙ ap Ok said))
+        (granted_refined accounts f me caller call old new t ready calls (kept end.0) is backed reads
+        (subst (λ (s : State). RepresentsStill ready.represents s (changed accounts f me caller.process call)) (sym end.0.state) still))

@@ -47,7 +47,8 @@ use Rattle.histar_refinement.specs.Addresses.{Step, same_step, address_of, home_
 use Rattle.histar_refinement.specs.Addresses.Step.{Listing, Named, Inside, Runner}
 use Rattle.histar_refinement.specs.Directories.{directory_of}
 use Rattle.histar_refinement.proofs.Expected.{expected}
-use Rattle.histar_refinement.specs.Represents.{ObjectsMatch, Represents}
+use Rattle.histar_refinement.specs.Represents.{ObjectsMatch}
+use Rattle.histar_refinement.specs.KeptNames.{RepresentsStill}
 use Rattle.histar_refinement.specs.Laws.{RunsAs}
 use Rattle.histar_refinement.proofs.Steps.{step_tests_equality}
 use Rattle.histar_refinement.proofs.Moving.{one_address}
@@ -55,7 +56,7 @@ use Rattle.histar_refinement.proofs.ClassTests.{observes_class, modifies_class}
 use Rattle.histar_refinement.proofs.DirectoryLaws.{spelling_fits}
 use Rattle.histar_refinement.proofs.RawChecks.{object, write_check}
 use Rattle.histar_refinement.proofs.FileChecks.{fits, unlink_said}
-use Rattle.histar_refinement.proofs.Removing.{under_home, represents_removed}
+use Rattle.histar_refinement.proofs.Removing.{under_home, still_removed}
 use Rattle.histar_refinement.proofs.Agreeing.{thread_found, guard_at, container_found, listing_found, step_linked}
 use Rattle.histar_sim.specs.Simulation.{IsReady}
 use Rattle.histar_sim.specs.Reads.{AreAmong}
@@ -182,10 +183,10 @@ module _ (accounts : Accounts) (ok : AreAccounts accounts) (old new : KernelMode
   module _ (rule : TakesAway) (open_so_far : into accounts f p d ≡ None) (class : Class) (content : Content)
       (at : get f.files (m ∷ d) ≡ Some (record { class = class; content = content }))
       (calls : List RawCall) (has_reads : (steps : List Made) (r : Reply) → AreAmong calls (entries_of old.line t steps)
-      → ReadsAmong accounts f me ready.caller call old new t ready.thread steps r)
+      → ReadsAmong accounts f me ready.caller call old new t ready steps r)
       (mid : KernelModel) (same : state mid ≡ state old) (chain : Chain old t (all_granted calls) mid) where
     abbrev Refined : Type 0
-    Refined = Goal accounts f me ready.caller call old new t ready.thread result
+    Refined = Goal accounts f me ready.caller call old new t ready result
 
     is_dir_here : is_dir_at f d ≡ true
     is_dir_here = dir accounts ok (state old) f me t ready d open_so_far
@@ -244,33 +245,34 @@ module _ (accounts : Accounts) (ok : AreAccounts accounts) (old new : KernelMode
           (state cut) cuts sees may
           (map.remove entries m) (listable_remove entries m (ready.represents.matched.listable d is_dir_here))
 
-      matched_after : Represents accounts (with_segment_bytes (state cut) listing (spelling (map.remove entries m))) (without_below f (m ∷ d))
+      matched_after : RepresentsStill ready.represents (with_segment_bytes (state cut) listing (spelling (map.remove entries m)))
+          (without_below f (m ∷ d))
       matched_after =
-          represents_removed accounts (state old) f ready.represents.matched m d container listing o at_D at_N at_O
+          still_removed accounts (state old) f ready.represents.matched m d container listing o at_D at_N at_O
           (state cut) cuts ready.represents.jobs_given is_dir_here
 
       -- the directory is written, and the call is answered
       written : Runs call_error cut new t result → Refined
       written on =
-          granted_step accounts f me ready.caller call old new t ready.thread result (calls ++ unlinks ∷ []) cut so_far
+          granted_step accounts f me ready.caller call old new t ready result (calls ++ unlinks ∷ []) cut so_far
           writing (λ _. Answers Done) write_said on
           (λ end done wrote right whole last.
           let all = (calls ++ unlinks ∷ []) ++ writing ∷ [] in
           let among_all = among_then old.line t calls (calls ++ unlinks ∷ []) (writing ∷ []) (among (unlinks ∷ [])) in
-          answered_step accounts f me ready.caller call old new t ready.thread result all end whole Done (sym rule.answers) (refused_so true may)
+          answered_step accounts f me ready.caller call old new t ready result all end whole Done (sym rule.answers) (refused_so true may)
           (subst (IsBacked (state old) (entries_of old.line t (all_granted all))) (sym rule.answers) tt)
           (has_reads (all_granted all) (flat.answer f me p call) among_all)
-          (subst (Represents accounts (state end)) (sym rule.removes)
-          (subst (λ (s : State). Represents accounts s (without_below f (m ∷ d))) (sym wrote.state)
+          (subst (RepresentsStill ready.represents (state end)) (sym rule.removes)
+          (subst (λ (s : State). RepresentsStill ready.represents s (without_below f (m ∷ d))) (sym wrote.state)
           matched_after)) last)
 
     by_right : (may : Bool) → may_write accounts p root ≡ may → Runs (ask unlinks (λ _. call_error)) mid new t result → Refined
     by_right false is on =
-        refused_step accounts f me ready.caller call old new t ready.thread result calls mid chain same ready.represents
+        refused_step accounts f me ready.caller call old new t ready result calls mid chain same
         EACCES (refused_so false is) unlinks (λ _. call_error) Modify (said false is) refl refl
         (has_reads _ _ (among_also old.line t calls calls ((unlinks, Some Modify) ∷ []) (among_granted_all old.line t calls))) on
     by_right true is on =
-        granted_step accounts f me ready.caller call old new t ready.thread result calls mid chain unlinks (λ _. call_error) (said true is) on
+        granted_step accounts f me ready.caller call old new t ready result calls mid chain unlinks (λ _. call_error) (said true is) on
         (λ cut done called right longer rest. written is cut (subst (λ (s : State). CutsOff s container o (state cut)) same called.state) longer rest)
 
     -- the entry is removed, or the call is refused

@@ -28,6 +28,7 @@ use Rattle.histar_moves.specs.Unlink.{unlink_program}
 use Rattle.histar_programs.specs.Start.{roots_of}
 use Rattle.histar_refinement.specs.Accounts.{AreAccounts}
 use Rattle.histar_sim.specs.Simulation.{IsReady}
+use Rattle.histar_sim.proofs.CallErrors.{from_each}
 use Rattle.histar_sim.proofs.Chains.{all_granted, Chain}
 use Rattle.histar_sim.proofs.Steps.{Goal, refused_at_once}
 use Rattle.histar_sim.proofs.Walks.{walk_reads, has_walk, among_granted_all}
@@ -44,7 +45,7 @@ module _ (accounts : Accounts) (ok : AreAccounts accounts) (old new : KernelMode
   walk = walk_reads accounts ok (state old) f me t ready d
 
   abbrev Refined : Type 0
-  Refined = Goal accounts f me ready.caller call old new t ready.thread result
+  Refined = Goal accounts f me ready.caller call old new t ready result
 
   -- what the flat rules refuse of the entry
   abbrev refusal : Option Errno
@@ -70,8 +71,8 @@ module _ (accounts : Accounts) (ok : AreAccounts accounts) (old new : KernelMode
         → get f.files (m ∷ d) ≡ Some (record { class = class; content = content })
         → Runs (at_entry (entry_of accounts ok (state old) f me t ready m d content)) mid new t result → Refined
     by_content class Dir at on =
-        refused_at_once accounts f me ready.caller call old new t ready.thread result walk mid chain stays
-        ready.represents EISDIR (refused_by class Dir at) refl refl
+        refused_at_once accounts f me ready.caller call old new t ready result walk mid chain stays
+        EISDIR (refused_by class Dir at) refl refl
         (has_walk accounts ok (state old) f me t ready m d _ (among_granted_all old.line t walk)) on
     by_content class (File bytes) at on =
         take_away_step accounts ok old new f me t ready m d call result
@@ -90,13 +91,17 @@ module _ (accounts : Accounts) (ok : AreAccounts accounts) (old new : KernelMode
 unlink_of_slash : (accounts : Accounts) (old new : KernelModel) (f : Flat) (me : ProcName) (t : ℕ)
     (result : Result Reply Stopped) (ready : IsReady accounts (state old) f me t)
     → Runs (unlink_program (roots_of (length accounts.users)) []) old new t result
-    → Goal accounts f me ready.caller (calls.Unlink []) old new t ready.thread result
+    → Goal accounts f me ready.caller (calls.Unlink []) old new t ready result
 unfolding unlink_program find_entry
 unlink_of_slash accounts old new f me t result ready run =
-    refused_at_once accounts f me ready.caller (calls.Unlink []) old new t ready.thread result [] old (same_kernel old)
-    refl ready.represents EBUSY refl refl refl tt run
+    refused_at_once accounts f me ready.caller (calls.Unlink []) old new t ready result [] old (same_kernel old)
+    refl EBUSY refl refl refl tt run
 
 -- the program of `unlink` refines its rule
 pub unlink_refines : UnlinkRefines
-unlink_refines accounts ok [] me old new f t result ready run = unlink_of_slash accounts old new f me t result ready run
-unlink_refines accounts ok (m ∷ d) me old new f t result ready run = unlink_is_refined accounts ok old new f me t ready m d result run
+unlink_refines accounts ok [] me old new f t result ready run =
+    from_each accounts f me (calls.Unlink []) old new t result ready (λ ready.
+    unlink_of_slash accounts old new f me t result ready run)
+unlink_refines accounts ok (m ∷ d) me old new f t result ready run =
+    from_each accounts f me (calls.Unlink (m ∷ d)) old new t result ready (λ ready.
+    unlink_is_refined accounts ok old new f me t ready m d result run)

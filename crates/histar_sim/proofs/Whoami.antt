@@ -1,5 +1,5 @@
 -- The program of `whoami` refines its rule.
-use Rattle.std.proofs.Common.{◌≡◌, ℕ, [], ◌∷◌, Some, Result, inl, refl, sym, ap, ◌∙◌, subst, length}
+use Rattle.std.proofs.Common.{◌≡◌, ℕ, [], ◌∷◌, Some, Result, inl, refl, ap, ◌∙◌, length}
 use Rattle.std.specs.Prelude.{not}
 use Rattle.std.proofs.lemmas.Option.{same_Some}
 use Rattle.histar_flat.specs.declared.calls.UnixCall.TheVariants as calls
@@ -12,7 +12,6 @@ use Rattle.histar_flat.specs.FlatState.{Flat}
 use Rattle.histar_flat.specs.FlatCalls as flat
 use Rattle.histar_level.specs.Levels.{Levels}
 use Rattle.histar_object.specs.Objects.{label_there, thread_of}
-use Rattle.histar_object.specs.State.{State}
 use Rattle.histar_rules.specs.declared.raw.RawCall.TheVariants.{OwnLabel}
 use Rattle.histar_syscall.specs.KernelModel.{KernelModel, state}
 use Rattle.histar_syscall.proofs.Runs.{same_kernel}
@@ -26,10 +25,12 @@ use Rattle.histar_process.specs.Whoami.{whoami_program}
 use Rattle.histar_refinement.specs.Accounts.{AreAccounts}
 use Rattle.histar_refinement.specs.Guards.{rights_label, rights_clearance}
 use Rattle.histar_refinement.specs.Labels.{thread_rights}
-use Rattle.histar_refinement.specs.Represents.{ObjectsMatch, Represents}
+use Rattle.histar_refinement.specs.Represents.{ObjectsMatch}
+use Rattle.histar_refinement.proofs.KeepingNames.{still_represents}
 use Rattle.histar_refinement.proofs.RawChecks.{caller_passes}
 use Rattle.histar_refinement.proofs.Agreeing.{thread_found}
 use Rattle.histar_sim.specs.Simulation.{IsReady}
+use Rattle.histar_sim.proofs.CallErrors.{from_each}
 use Rattle.histar_sim.proofs.Steps.{Goal, granted_step, answered_step}
 use Rattle.histar_sim.specs.Laws.{WhoamiRefines}
 use Rattle.histar_refinement.proofs.OwnLabels.{own_user_is, name_of_number}
@@ -66,17 +67,19 @@ module _ (accounts : Accounts) (ok : AreAccounts accounts) (old new : KernelMode
       let is : label ≡ own = same_Some label own (right ∙ ap label_there thread) in
       ap reply_by is ∙ (λ i. replies.User (name_is i) (not (none_if_free l.category accounts me p i)))
 
-  whoami_is_refined : Runs (whoami_program accounts) old new t result → Goal accounts f me ready.caller calls.Whoami old new t ready.thread result
+  whoami_is_refined : Runs (whoami_program accounts) old new t result → Goal accounts f me ready.caller calls.Whoami old new t ready result
   unfolding whoami_program
   whoami_is_refined run =
-      granted_step accounts f me ready.caller calls.Whoami old new t ready.thread result [] old (same_kernel old)
+      granted_step accounts f me ready.caller calls.Whoami old new t ready result [] old (same_kernel old)
       OwnLabel (λ label. Answers (reply_by label.0))
       (caller_passes (state old) t own (rights_clearance l.category (thread_rights accounts me p)) thread) run
       (λ later label called right longer on.
-      answered_step accounts f me ready.caller calls.Whoami old new t ready.thread result (OwnLabel ∷ []) later longer
+      answered_step accounts f me ready.caller calls.Whoami old new t ready result (OwnLabel ∷ []) later longer
       (reply_by label.0) (revealed label.0 right.0) refl tt (inl (refl, tt))
-      (subst (λ (s : State). Represents accounts s f) (sym called.state) ready.represents) on)
+      (still_represents ready.represents _ called.state) on)
 
 -- the program of `whoami` refines its rule
 pub whoami_refines : WhoamiRefines
-whoami_refines accounts ok me old new f t result ready run = whoami_is_refined accounts ok old new f me t ready result run
+whoami_refines accounts ok me old new f t result ready run =
+    from_each accounts f me calls.Whoami old new t result ready (λ ready.
+    whoami_is_refined accounts ok old new f me t ready result run)

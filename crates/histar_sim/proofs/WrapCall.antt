@@ -40,12 +40,13 @@ use Rattle.histar_programs.specs.Start.{roots_of}
 use Rattle.histar_wrap.specs.Scratch.{ask_or_give_back, directory_label, hold_job, kin_in, make_scratch, or_given_back}
 use Rattle.histar_wrap.specs.WrapCall.{wrap_program}
 use Rattle.histar_refinement.specs.Accounts.{AreAccounts}
-use Rattle.histar_refinement.specs.Represents.{Represents}
+use Rattle.histar_refinement.specs.KeptNames.{RepresentsStill}
 use Rattle.histar_refinement.proofs.Beside.{own_set}
 use Rattle.histar_refinement.proofs.Agreeing.{some_of}
-use Rattle.histar_refinement.proofs.WrapRefused.{represents_refused}
+use Rattle.histar_refinement.proofs.WrapRefused.{still_refused}
 use Rattle.histar_sim.specs.Simulation.{errno_by_rule, IsReady, has_category}
 use Rattle.histar_sim.specs.Reads.{AreAmong}
+use Rattle.histar_sim.proofs.CallErrors.{from_each}
 use Rattle.histar_sim.proofs.ReadsByCall.{HasWalk, HasWalkUnlessFull}
 use Rattle.histar_sim.proofs.Chains.{all_granted, entries_of, Chain}
 use Rattle.histar_sim.proofs.Steps.{Goal, allowed_step, spent_step}
@@ -127,7 +128,7 @@ module _ (accounts : Accounts) (ok : AreAccounts accounts) (me : ProcName) (call
 
     module _ (m : Name) (named : IsTrue (is_name m)) (d : Path) where
       abbrev Refined : Type 0
-      Refined = Goal accounts f me ready.caller (Wrap (m ∷ d)) old new t ready.thread result
+      Refined = Goal accounts f me ready.caller (Wrap (m ∷ d)) old new t ready result
 
       abbrev walk : List RawCall
       walk = walk_reads accounts ok (state old) f me t ready d
@@ -173,13 +174,13 @@ module _ (accounts : Accounts) (ok : AreAccounts accounts) (me : ProcName) (call
             → errno_for next denied ≡ Some errno → errno_by_rule denied ≡ Some errno
             → refused accounts f me p (Wrap (m ∷ d)) ≡ Some errno → Runs (ask_or_give_back (own, clearance) next within) mid new t result → Refined
         given_back denied errno fails revealed by_rule is on =
-            given_back_step accounts f me ready.caller (Wrap (m ∷ d)) old new t ready.thread result before mid chain
+            given_back_step accounts f me ready.caller (Wrap (m ∷ d)) old new t ready result before mid chain
             errno is (own, clearance) next within denied fails revealed by_rule
             (ap (λ (s : State). check s t (SetLabel own)) counted ∙ set_label_said accounts ok (state old) f me t ready)
             (ap (λ (s : State). check (with_changed s t (with_label own)) t (SetClearance clearance)) counted
             ∙ set_clearance_said accounts ok (state old) f me t ready)
-            (subst (λ (s : State). Represents accounts (own_set t s own clearance) f) (sym counted)
-            (represents_refused accounts (state old) f ready.represents me p ready.caller.agrees
+            (subst (λ (s : State). RepresentsStill ready.represents (own_set t s own clearance) f) (sym counted)
+            (still_refused accounts (state old) f ready.represents me p ready.caller.agrees
             ready.caller.runs t (at_thread accounts me caller old new f result ready found)))
             (has_reads accounts ok old new f me t ready m d (Wrap (m ∷ d)) result not_nobody (needs_room (m ∷ d))
             (all_granted before ++ (next, Some denied) ∷ all_granted (SetLabel own ∷ SetClearance clearance ∷ []))
@@ -196,11 +197,11 @@ module _ (accounts : Accounts) (ok : AreAccounts accounts) (me : ProcName) (call
             ∙ ap (λ (b : Bool). unless (not b) EPERM)
             (is_nobody accounts ok (state old) f me t ready is_declared)) on
         by_right true true false is_may is_declared is_has said on =
-            spent_step accounts f me ready.caller (Wrap (m ∷ d)) old new t ready.thread result before mid chain next
+            spent_step accounts f me ready.caller (Wrap (m ∷ d)) old new t ready result before mid chain next
             (or_given_back (own, clearance) (errno_for next) within) said refl
             (inl (ap has_number counted ∙ is_has)) on
         by_right true true true is_may is_declared is_has said on =
-            allowed_step accounts f me ready.caller (Wrap (m ∷ d)) old new t ready.thread result before mid chain next
+            allowed_step accounts f me ready.caller (Wrap (m ∷ d)) old new t ready result before mid chain next
             (or_given_back (own, clearance) (errno_for next) within) said on
             (λ linked number called number_is longer rest.
             let user = some_of (user_number accounts p.user) is_declared in
@@ -228,7 +229,7 @@ module _ (accounts : Accounts) (ok : AreAccounts accounts) (me : ProcName) (call
       roomed open_so_far absent roomy mid stays chain on =
           own_label_step accounts me caller old new f result ready found (Wrap (m ∷ d)) (first ++ walk) mid chain stays (with_labels status room) on
           (λ labelled longer still rest.
-          category_step accounts f me ready.caller (Wrap (m ∷ d)) old new t ready.thread result
+          category_step accounts f me ready.caller (Wrap (m ∷ d)) old new t ready result
           ((first ++ walk) ++ OwnLabel ∷ []) labelled longer MakeCategory (in_job status (own, clearance) room) refl
           (ap (λ (s : State). check s t MakeCategory) still
           ∙ category_said (state old) t own clearance (thread accounts ok (state old) f me t ready)
@@ -248,7 +249,7 @@ module _ (accounts : Accounts) (ok : AreAccounts accounts) (me : ProcName) (call
   wrapped : (q : Path) → IsTrue (is_path q) → nat_lt (length me) most_numbers ≡ true
       → nat_lt p.born most_children ≡ true → (mid : KernelModel) → Chain old t (all_granted first) mid
       → state mid ≡ state old → Runs (with_child q status) mid new t result
-      → Goal accounts f me ready.caller (Wrap q) old new t ready.thread result
+      → Goal accounts f me ready.caller (Wrap q) old new t ready result
   wrapped [] right long few mid chain stays on =
       slash_agrees accounts old new f me t ready (Wrap []) result not_nobody (needs_room long few []) first mid stays
       chain (with_room status) on
@@ -258,7 +259,8 @@ module _ (accounts : Accounts) (ok : AreAccounts accounts) (me : ProcName) (call
 pub wrap_refines : WrapRefines
 unfolding wrap_program
 wrap_refines accounts ok q right me caller old new f result ready found runs =
+    from_each accounts f me (Wrap q) old new caller.thread result ready (λ ready.
     child_room_step accounts me caller old new f result ready found (Wrap q)
     (no_room accounts f ready.caller.process q orelse unless (not (same ready.caller.process.user nobody)) EPERM)
     (needs_child accounts ok me caller old new f result ready found q) (with_child accounts ok me caller old new f result ready found q) runs
-    (λ long few mid chain stays on. wrapped accounts ok me caller old new f result ready found q right long few mid chain stays on)
+    (λ long few mid chain stays on. wrapped accounts ok me caller old new f result ready found q right long few mid chain stays on))

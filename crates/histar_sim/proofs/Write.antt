@@ -7,6 +7,7 @@ use Rattle.histar_flat.specs.Classes.{Process}
 use Rattle.histar_flat.specs.FlatState.{Flat}
 use Rattle.histar_calls.specs.Write.{write_program}
 use Rattle.histar_sim.specs.Laws.{WriteRefines}
+use Rattle.histar_sim.proofs.CallErrors.{from_each}
 use Rattle.histar_sim.proofs.Files.{WritesFile, slash_is_no_file, writing_step}
 
 -- the file has the new bytes then
@@ -19,8 +20,10 @@ write_writes accounts f me p q bytes =
 pub write_refines : WriteRefines
 unfolding write_program
 write_refines accounts ok [] bytes me old new f t result ready run =
+    from_each accounts f me (calls.Write [] bytes) old new t result ready (λ ready.
     slash_is_no_file accounts old new f me t ready (calls.Write [] bytes) result _
-    (write_writes accounts f me ready.caller.process [] bytes).reaches _ run
+    (write_writes accounts f me ready.caller.process [] bytes).reaches _ run)
 write_refines accounts ok (m ∷ d) bytes me old new f t result ready run =
+    from_each accounts f me (calls.Write (m ∷ d) bytes) old new t result ready (λ ready.
     writing_step accounts ok old new f me t ready m d (calls.Write (m ∷ d) bytes) result 0 bytes bytes
-    (write_writes accounts f me ready.caller.process (m ∷ d) bytes) (λ few. refl) run
+    (write_writes accounts f me ready.caller.process (m ∷ d) bytes) (λ few. refl) run)

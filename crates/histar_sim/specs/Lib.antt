@@ -3,3 +3,4 @@ pub mod Reads
 pub mod Simulation
 pub mod Refines
 pub mod Laws
+pub mod NamesOfLines

@@ -27,6 +27,7 @@ use Rattle.histar_syscall.specs.Runs.{IsBy, IsRun, some_label_refusal, some_rang
 use Rattle.histar_programs.specs.declared.call_error.Stopped.{Stopped}
 use Rattle.histar_programs.specs.Replies.{is_no_access, is_no_permission, IsRefusedOnce, IsRestoring}
 use Rattle.histar_refinement.specs.Represents.{Represents}
+use Rattle.histar_refinement.specs.KeptNames.{RepresentsStill}
 use Rattle.histar_refinement.specs.Lines.{IsThreadOf}
 use Rattle.histar_sim.specs.Reads.{HasReads}
 
@@ -79,11 +80,14 @@ pub record IsLine (accounts : Accounts) (before : State) (line : ℕ) (process :
   pub gone : reply ≡ Gone → entries ≡ []
 
 -- The line refines its rule: its reply is what the flat state says, it has the reads that the call cannot do without, and the
--- state after it represents the flat state after the call.
+-- state after it represents the flat state after the call. Whatever names the state before is represented under, the one after is
+-- under names that keep their numbers.
 pub record SimulatesLine (accounts : Accounts) (before : State) (f : Flat) (asked : CallLine) (entries : List TraceEntry) (after : State) : Type 0 where
   pub line : IsLine accounts before asked.line asked.process (reply_to accounts f asked.process asked.call) entries after
   pub reads : HasReads accounts before f (running f asked.process) asked.call (reply_to accounts f asked.process asked.call) entries
   pub represents : Represents accounts after (flat_after accounts f asked.process asked.call)
+  pub keeps : (old : Represents accounts before f)
+      → RepresentsStill old after (flat_after accounts f asked.process asked.call)
 
 -- the lines of a script, one after another, from a state that represents this flat state: each refines its rule
 abbrev pub SimulatesLines : Accounts → State → Flat → List CallLine → List TraceEntry → State → Type 0

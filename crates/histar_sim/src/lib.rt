@@ -6,3 +6,4 @@
 #![tactic(auto)]
 
 pub mod calls;
+pub mod names;
