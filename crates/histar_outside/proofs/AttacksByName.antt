@@ -232,13 +232,13 @@ module _ (accounts : Accounts) (n : ℕ) (wrapper : ProcName) (v : ℕ) (late : 
 
 module _ (accounts : Accounts) (job : ProcName) (v : ℕ) (m : MachineModel) (f : Flat) (at : HasJob accounts job v m f) where
   abbrev l : ObjectsMatch accounts (state m.kernel) f
-  l = at.shows.represents.matched
+  l = at.under_way.shows.represents.matched
 
   jobs : AreJobs f
-  jobs = subst AreJobs at.reached.1 (jobs_at_end accounts at.reached.0)
+  jobs = subst AreJobs at.under_way.reached.1 (jobs_at_end accounts at.under_way.reached.0)
 
   family : IsFamily f
-  family = subst IsFamily at.reached.1 (processes_are_a_tree accounts at.reached.0)
+  family = subst IsFamily at.under_way.reached.1 (processes_are_a_tree accounts at.under_way.reached.0)
 
   started : IsStarted job f
   started = jobs.started at.known.0 at.known.1 job at.known.2 at.known.3
@@ -248,7 +248,7 @@ module _ (accounts : Accounts) (job : ProcName) (v : ℕ) (m : MachineModel) (f 
 
   itself : AreAlikeMachines accounts v m m f
   itself =
-      attacks_start accounts v m f at.shows at.sound at.runs late
+      attacks_start accounts v m f at.under_way.shows at.under_way.sound at.under_way.runs late
       (subst (λ q. q < (state m.kernel).next_category) at.number (l.made (OfJob job) (inl at.known)).1)
 
   -- the container of the job's first process, if it is there, is sealed
@@ -267,9 +267,9 @@ holds_at_start : (accounts : Accounts) (n : ℕ) (wrapper : ProcName) (v : ℕ) 
 holds_at_start accounts n wrapper v m f at = record {
   alike = itself accounts (n ∷ wrapper) v m f at;
   started = started accounts (n ∷ wrapper) v m f at;
-  rep = at.shows.represents;
-  others = subst (IsNoOthers accounts f at.shows.represents.matched.category (n ∷ wrapper)) at.number
-      (only_job accounts (state m.kernel) f at.shows.represents.matched (n ∷ wrapper));
+  rep = at.under_way.shows.represents;
+  others = subst (IsNoOthers accounts f at.under_way.shows.represents.matched.category (n ∷ wrapper)) at.number
+      (only_job accounts (state m.kernel) f at.under_way.shows.represents.matched (n ∷ wrapper));
   sealed = sealed_first accounts (n ∷ wrapper) v m f at;
 }
 

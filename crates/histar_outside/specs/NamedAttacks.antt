@@ -4,21 +4,24 @@ use Rattle.histar_flat.specs.Calls.{IsCall}
 use Rattle.histar_flat.specs.Words.{ProcName}
 use Rattle.histar_flat.specs.Accounts.{Accounts}
 use Rattle.histar_flat.specs.FlatState.{Flat}
-use Rattle.histar_flat.specs.Meaning.{answered_from, flat_end}
+use Rattle.histar_flat.specs.FlatCalls.{flat_after}
+use Rattle.histar_flat.specs.Meaning.{RepliedCall, boot, answered_from, flat_end}
 use Rattle.histar_flat.specs.PathOrder.{under_process}
-use Rattle.histar_noninterference.specs.Comparison.{is_outsider}
+use Rattle.histar_noninterference.specs.Comparison.{is_outsider, is_wrap_reply}
 use Rattle.histar_secrecy.specs.Noninterference.{IsReached}
-use Rattle.histar_object.specs.State.{State}
+use Rattle.histar_object.specs.State.{State, empty_state}
 use Rattle.histar_rules.specs.Sound.{IsSound}
 use Rattle.histar_rules.specs.Visible.{IsTaintedCaller}
+use Rattle.histar_trace.specs.declared.entries.TraceEntry.{TraceEntry}
 use Rattle.histar_syscall.specs.KernelModel.{state}
+use Rattle.histar_syscall.specs.Runs.{IsRun}
 use Rattle.histar_programs.specs.Start.{roots_of}
 use Rattle.histar_refinement.specs.Categories.{IsKnown}
 use Rattle.histar_refinement.specs.Categories.CategoryName.{OfJob}
 use Rattle.histar_refinement.specs.Represents.{Represents}
 use Rattle.histar_shell.specs.Answers.{calls_of}
 use Rattle.histar_shell.specs.Machine.{MachineModel, AnswersLine}
-use Rattle.histar_shell.specs.Meaning.{Shows}
+use Rattle.histar_shell.specs.Meaning.{Shows, ShowsStart}
 use Rattle.histar_outside.specs.Attacks.{MixedLine, MakesAttack, IsRawStep, outside_of, AreAlikeMachines}
 use Rattle.histar_outside.specs.Attacks.MixedLine.{Outside, Inside, Raw}
 use Rattle.histar_outside.specs.Search.{IsOutsideCaller}
@@ -37,15 +40,37 @@ MakesAttackOn job v m (Raw t call ∷ more) end =
     (mid : MachineModel) × IsTaintedCaller (state m.kernel) v t × IsRawStep m mid t call
     × MakesAttackOn job v mid more end
 
--- The machine represents a flat state, to which calls lead, in which some process is in the job or holds it; and v is
--- the number of the job's category.
-pub record HasJob (accounts : Accounts) (job : ProcName) (v : ℕ) (m : MachineModel) (f : Flat) : Type 0 where
+-- The machine runs, and represents a flat state to which calls lead.
+pub record IsUnderWay (accounts : Accounts) (m : MachineModel) (f : Flat) : Type 0 where
   pub shows : Shows accounts m f
   pub sound : IsSound (state m.kernel)
   pub runs : m.is_stopped ≡ false
   pub reached : IsReached accounts f
+
+-- In such a state some process is in the job or holds it, and v is the number of the job's category.
+pub record HasJob (accounts : Accounts) (job : ProcName) (v : ℕ) (m : MachineModel) (f : Flat) : Type 0 where
+  pub under_way : IsUnderWay accounts m f
   pub known : IsKnown f job
-  pub number : shows.represents.matched.category (OfJob job) ≡ v
+  pub number : under_way.shows.represents.matched.category (OfJob job) ≡ v
+
+-- A machine that represents the flat start, and whose state a run of the kernel leads to, is under way.
+abbrev pub BootedAreUnderWay : Type 0
+BootedAreUnderWay = (accounts : Accounts) (m : MachineModel) (entries : List TraceEntry) → ShowsStart accounts m
+    → IsRun empty_state entries (state m.kernel) → m.is_stopped ≡ false → IsUnderWay accounts m (boot accounts)
+
+-- Each line that is answered leads on, to the flat state after its call.
+abbrev pub LinesLeadOn : Type 0
+LinesLeadOn = (accounts : Accounts) (m mid : MachineModel) (f : Flat) (a : RepliedCall) → IsUnderWay accounts m f
+    → IsCall a.call.call → AnswersLine m mid a.call.line a.call.process a.call.call (Ok a.reply)
+    → IsUnderWay accounts mid (flat_after accounts f a.call.process a.call.call)
+
+-- After a wrap that is answered with the name of its job the machine has this job, which has a category.
+abbrev pub WrapsStartJobs : Type 0
+WrapsStartJobs = (accounts : Accounts) (m mid : MachineModel) (f : Flat) (a : RepliedCall) (job : ProcName)
+    → IsUnderWay accounts m f
+    → IsCall a.call.call → AnswersLine m mid a.call.line a.call.process a.call.call (Ok a.reply)
+    → is_wrap_reply job a.call.call a.reply ≡ true
+    → (v : ℕ) × HasJob accounts job v mid (flat_after accounts f a.call.process a.call.call)
 
 -- In a state that represents a flat state, to which calls lead, each outsider of a job is outside the job's category.
 abbrev pub OutsidersAreOutside : Type 0
