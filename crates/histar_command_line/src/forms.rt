@@ -168,13 +168,17 @@ pub(crate) fn trust<'a>() -> Form<'a>
     Form {
         name: "trust",
         about: "Run a script and print which processes could leak or change what is at a path",
-        after_help: "After what is at PATH comes a line for each running process and for each user:
-  trusted PROC USER    it may read the file, and may hand on what it read
-  confined PROC USER   it may read the file, and what it writes only those read who may read the file
-  outside PROC USER    it may not read the file
-  login USER           a process that logs in as USER could read the file
-  changer PROC USER    it may write what is at PATH, or a directory on the way to it
+        after_help: "After what is at PATH, or `no entry`, comes a line for each running process and for each user. A
+process reaches a file if it may read it, and each directory above it:
+  trusted PROC USER    it reaches the file, and may hand on what it read
+  confined PROC USER   it reaches the file, and what it writes only those read who may read all of the way
+  outside PROC USER    it doesn't reach the file
+  login USER           a process that logs in as USER would reach the file
+  changer PROC USER    it may write what is at PATH, or a directory on the way, and reaches its directory
   changer-login USER   a process that logs in as USER could
+
+Whoever is not confined may act: the first to be told anything of the file is a trusted process, or one
+that it has started since.
 
 Example:
   histar trust --at 21 /tmp/letters examples/scan.histar

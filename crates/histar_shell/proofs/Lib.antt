@@ -16,3 +16,4 @@ pub mod ShallowPaths
 pub mod ShownTrees
 pub mod SessionMeanings
 pub mod SameTraces
+pub mod MachinesKeepNames

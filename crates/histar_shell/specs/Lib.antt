@@ -9,3 +9,4 @@ pub mod Meaning
 pub mod Run
 pub mod AllAnswers
 pub mod OneTrace
+pub mod MachineNames

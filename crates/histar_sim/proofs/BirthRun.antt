@@ -34,7 +34,7 @@ use Rattle.histar_process.specs.Birth.{birth, outer_label, inner_label, thread_l
 use Rattle.histar_refinement.proofs.RawChecks.{object}
 use Rattle.histar_refinement.proofs.Spawned.{births}
 use Rattle.histar_refinement.proofs.Beside.{own_set}
-use Rattle.histar_sim.specs.Simulation.{IsReady, IsRunning, has_category}
+use Rattle.histar_sim.specs.Simulation.{IsReady, has_category}
 use Rattle.histar_sim.specs.Reads.{AreAmong}
 use Rattle.histar_sim.proofs.Chains.{all_granted, entries_of, Chain}
 use Rattle.histar_sim.proofs.Steps.{Goal, granted_step}
@@ -73,12 +73,12 @@ spawned s t home status kin own own_clearance =
     (record { label = outer_label kin (s.next_category + 1); kind = Segment (status_bytes (started (s.next_object + 1) (s.next_object + 1 + 1))) })
     (status_bytes (with_child_listed s.next_object (s.next_object + 1 + 1 + 1) status))) own own_clearance
 
-module _ (accounts : Accounts) (f : Flat) (me : ProcName) (caller : IsRunning f me) (call : UnixCall)
+module _ (accounts : Accounts) (f : Flat) (me : ProcName) (call : UnixCall)
     (old new : KernelModel) (t : ℕ) (ready : IsReady accounts (state old) f me t) (result : Result Reply Stopped)
     (s : State) (home : Home) (status : ProcessStatus) (kin : Kin) (own own_clearance : Levels)
     (fit : IsFit s t home status kin own own_clearance) (reply : Reply) (wanted : List RawCall) where
   abbrev Refined : Type 0
-  Refined = Goal accounts f me caller call old new t ready result
+  Refined = Goal accounts f me call old new t ready result
 
   -- the numbers that the kernel gives
   abbrev read : ℕ
@@ -169,13 +169,13 @@ module _ (accounts : Accounts) (f : Flat) (me : ProcName) (caller : IsRunning f 
       (calls : List RawCall) (later : KernelModel) → AreAmong wanted (entries_of old.line t (all_granted calls))
       → Chain old t (all_granted calls) later → state later ≡ spawned s t home status kin own own_clearance
       → s.next_object + 3 < greatest → Runs (Answers reply) later new t result
-      → Goal accounts f me caller call old new t ready result
+      → Goal accounts f me call old new t ready result
 
   module _ (ends : Ends) where
     clearance_set : s.next_object + 3 < greatest → (calls : List RawCall) (mid : KernelModel) → AreKept calls
         → Chain old t (all_granted calls) mid → state mid ≡ eighth → Runs after_label mid new t result → Refined
     clearance_set few calls mid kept chain at runs =
-        granted_step accounts f me caller call old new t ready result calls mid chain (SetClearance own_clearance) (λ _. Answers reply)
+        granted_step accounts f me call old new t ready result calls mid chain (SetClearance own_clearance) (λ _. Answers reply)
         (ap (λ (x : State). check x t (SetClearance own_clearance)) at
         ∙ checks.set_clearance_said t home.container home.segment fit.owner fit.owner_clearance fit.label
         fit.held u fit.around outer inner label clearance own own_clearance child_bytes own_bytes fit.under
@@ -187,7 +187,7 @@ module _ (accounts : Accounts) (f : Flat) (me : ProcName) (caller : IsRunning f 
     label_set : s.next_object + 3 < greatest → (calls : List RawCall) (mid : KernelModel) → AreKept calls
         → Chain old t (all_granted calls) mid → state mid ≡ seventh → Runs after_write mid new t result → Refined
     label_set few calls mid kept chain at runs =
-        granted_step accounts f me caller call old new t ready result calls mid chain (SetLabel own) (λ _. after_label)
+        granted_step accounts f me call old new t ready result calls mid chain (SetLabel own) (λ _. after_label)
         (ap (λ (x : State). check x t (SetLabel own)) at
         ∙ checks.set_label_said t home.container home.segment fit.owner fit.owner_clearance fit.label fit.held u
         fit.around outer inner label clearance own own_clearance child_bytes own_bytes fit.under fit.seen
@@ -201,7 +201,7 @@ module _ (accounts : Accounts) (f : Flat) (me : ProcName) (caller : IsRunning f 
         → Runs (after_segment m (m + 1 + 1 + 1)) mid new t result → Refined
     segment_written few calls mid kept chain at runs =
         let next : RawCall = Write home.container home.segment 0 own_bytes in
-        granted_step accounts f me caller call old new t ready result calls mid chain next (λ _. after_write)
+        granted_step accounts f me call old new t ready result calls mid chain next (λ _. after_write)
         (ap (λ (x : State). check x t next) at
         ∙ checks.write_said t home.container home.segment fit.owner fit.owner_clearance fit.label fit.held u
         fit.around outer inner label clearance own own_clearance child_bytes own_bytes fit.under fit.seen
@@ -214,7 +214,7 @@ module _ (accounts : Accounts) (f : Flat) (me : ProcName) (caller : IsRunning f 
         → state mid ≡ fifth → Runs (after_thread write m (m + 1) (m + 1 + 1)) mid new t result → Refined
     segment_made calls mid kept chain at runs =
         let next : RawCall = MakeSegment m outer child_bytes in
-        numbered_step accounts f me caller call old new t ready result calls mid chain next (after_segment m) refl
+        numbered_step accounts f me call old new t ready result calls mid chain next (after_segment m) refl
         (subst (λ (x : State). check x t next ≡ unless (has_number x) TooBig) (sym at)
         (checks.make_segment_said t home.container home.segment fit.owner fit.owner_clearance fit.label fit.held
         u fit.around outer inner label clearance own own_clearance child_bytes own_bytes fit.under fit.seen
@@ -230,7 +230,7 @@ module _ (accounts : Accounts) (f : Flat) (me : ProcName) (caller : IsRunning f 
         → state mid ≡ fourth → Runs (after_internal read write m (m + 1)) mid new t result → Refined
     thread_made calls mid kept chain at runs =
         let next : RawCall = MakeThread (m + 1) label clearance in
-        numbered_step accounts f me caller call old new t ready result calls mid chain next (after_thread write m (m + 1)) refl
+        numbered_step accounts f me call old new t ready result calls mid chain next (after_thread write m (m + 1)) refl
         (subst (λ (x : State). check x t next ≡ unless (has_number x) TooBig) (sym at)
         (checks.make_thread_said t home.container home.segment fit.owner fit.owner_clearance fit.label fit.held
         u fit.around outer inner label clearance own own_clearance child_bytes own_bytes fit.under fit.seen
@@ -244,7 +244,7 @@ module _ (accounts : Accounts) (f : Flat) (me : ProcName) (caller : IsRunning f 
         → state mid ≡ third → Runs (after_container read write m) mid new t result → Refined
     internal_made calls mid kept chain at runs =
         let next : RawCall = MakeContainer m inner in
-        numbered_step accounts f me caller call old new t ready result calls mid chain next (after_internal read write m) refl
+        numbered_step accounts f me call old new t ready result calls mid chain next (after_internal read write m) refl
         (subst (λ (x : State). check x t next ≡ unless (has_number x) TooBig) (sym at)
         (checks.make_internal_said t home.container home.segment fit.owner fit.owner_clearance fit.label
         fit.held u fit.around outer inner label clearance own own_clearance child_bytes own_bytes fit.under
@@ -259,7 +259,7 @@ module _ (accounts : Accounts) (f : Flat) (me : ProcName) (caller : IsRunning f 
         → state mid ≡ u → Runs (after_categories read write) mid new t result → Refined
     container_made calls mid kept chain at runs =
         let next : RawCall = MakeContainer home.container outer in
-        numbered_step accounts f me caller call old new t ready result calls mid chain next (after_container read write) refl
+        numbered_step accounts f me call old new t ready result calls mid chain next (after_container read write) refl
         (subst (λ (x : State). check x t next ≡ unless (has_number x) TooBig) (sym at)
         (checks.make_container_said t home.container home.segment fit.owner fit.owner_clearance fit.label
         fit.held u fit.around outer inner label clearance own own_clearance child_bytes own_bytes fit.under
@@ -278,7 +278,7 @@ module _ (accounts : Accounts) (f : Flat) (me : ProcName) (caller : IsRunning f 
     write_made : (calls : List RawCall) (mid : KernelModel) → AreKept calls → Chain old t (all_granted calls) mid
         → state mid ≡ with_category s t → Runs (after_category read) mid new t result → Refined
     write_made calls mid kept chain at runs =
-        category_step accounts f me caller call old new t ready result calls mid chain MakeCategory (after_categories read) refl
+        category_step accounts f me call old new t ready result calls mid chain MakeCategory (after_categories read) refl
         (subst (λ (x : State). check x t MakeCategory ≡ unless (has_category x) TooBig) (sym at)
         (category_said (with_category s t) t (with_level own s.next_category Star)
         (with_level own_clearance s.next_category L3) thread_then)) runs
@@ -290,7 +290,7 @@ module _ (accounts : Accounts) (f : Flat) (me : ProcName) (caller : IsRunning f 
     read_made : (calls : List RawCall) (mid : KernelModel) → AreKept calls → Chain old t (all_granted calls) mid
         → state mid ≡ s → Runs (ask MakeCategory after_category) mid new t result → Refined
     read_made calls mid kept chain at runs =
-        category_step accounts f me caller call old new t ready result calls mid chain MakeCategory after_category refl
+        category_step accounts f me call old new t ready result calls mid chain MakeCategory after_category refl
         (subst (λ (x : State). check x t MakeCategory ≡ unless (has_category x) TooBig) (sym at)
         (category_said s t own own_clearance fit.thread)) runs
         (λ later number called right longer goes.

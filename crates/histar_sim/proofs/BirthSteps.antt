@@ -14,14 +14,14 @@ use Rattle.histar_programs.specs.declared.call_error.Stopped.{Stopped}
 use Rattle.histar_programs.specs.Refusals.{errno_for}
 use Rattle.histar_programs.specs.Programs.{AnswerOf, IsAnswer, Program, Runs}
 use Rattle.histar_programs.specs.Parts.{ask}
-use Rattle.histar_sim.specs.Simulation.{IsReady, IsRunning, has_category}
+use Rattle.histar_sim.specs.Simulation.{IsReady, has_category}
 use Rattle.histar_sim.proofs.Chains.{all_granted, Chain}
 use Rattle.histar_sim.proofs.Steps.{Goal, granted_step, exhausted_step, exhausted_category_step}
 
-module _ (accounts : Accounts) (f : Flat) (me : ProcName) (caller : IsRunning f me) (call : UnixCall)
+module _ (accounts : Accounts) (f : Flat) (me : ProcName) (call : UnixCall)
     (old new : KernelModel) (t : ℕ) (ready : IsReady accounts (state old) f me t) (result : Result Reply Stopped) where
   abbrev Refined : Type 0
-  Refined = Goal accounts f me caller call old new t ready result
+  Refined = Goal accounts f me call old new t ready result
 
   -- what comes after a raw call that was granted
   abbrev GoesOn : List RawCall → KernelModel → (next : RawCall) → (AnswerOf next → Program) → Type 0
@@ -36,10 +36,10 @@ module _ (accounts : Accounts) (f : Flat) (me : ProcName) (caller : IsRunning f 
         → check (state mid) t next ≡ unless (has_number (state mid)) TooBig → Runs (ask next rest) mid new t result
         → (has_number (state mid) ≡ true → GoesOn calls mid next rest) → Refined
     numbered_by false is said runs go_on =
-        exhausted_step accounts f me caller call old new t ready result calls mid so_far next rest
+        exhausted_step accounts f me call old new t ready result calls mid so_far next rest
         (said ∙ ap (λ (b : Bool). unless b TooBig) is) unrevealed is runs
     numbered_by true is said runs go_on =
-        granted_step accounts f me caller call old new t ready result calls mid so_far next rest
+        granted_step accounts f me call old new t ready result calls mid so_far next rest
         (said ∙ ap (λ (b : Bool). unless b TooBig) is) runs (go_on is)
 
     pub numbered_step : check (state mid) t next ≡ unless (has_number (state mid)) TooBig
@@ -51,10 +51,10 @@ module _ (accounts : Accounts) (f : Flat) (me : ProcName) (caller : IsRunning f 
         → check (state mid) t next ≡ unless (has_category (state mid)) TooBig → Runs (ask next rest) mid new t result
         → GoesOn calls mid next rest → Refined
     category_by false is said runs go_on =
-        exhausted_category_step accounts f me caller call old new t ready result calls mid so_far next rest
+        exhausted_category_step accounts f me call old new t ready result calls mid so_far next rest
         (said ∙ ap (λ (b : Bool). unless b TooBig) is) unrevealed is runs
     category_by true is said runs go_on =
-        granted_step accounts f me caller call old new t ready result calls mid so_far next rest
+        granted_step accounts f me call old new t ready result calls mid so_far next rest
         (said ∙ ap (λ (b : Bool). unless b TooBig) is) runs go_on
 
     pub category_step : check (state mid) t next ≡ unless (has_category (state mid)) TooBig

@@ -30,7 +30,7 @@ use Rattle.histar_refinement.specs.Represents.{Represents}
 use Rattle.histar_refinement.specs.KeptNames.{RepresentsStill}
 use Rattle.histar_refinement.proofs.KeepingNames.{still_represents}
 use Rattle.histar_refinement.specs.Lines.{IsThreadOf}
-use Rattle.histar_sim.specs.Simulation.{IsRunning, IsReady, errno_by_rule, IsReplyOfDenial, EndsWithRead, IsLine, IsUnanswered}
+use Rattle.histar_sim.specs.Simulation.{IsReady, errno_by_rule, IsReplyOfDenial, EndsWithRead, IsLine, IsUnanswered}
 use Rattle.histar_sim.specs.Simulation.{IsBrokenOff, FollowsRule}
 use Rattle.histar_sim.specs.Reads.{HasReads}
 use Rattle.histar_sim.proofs.ReadsByCall.{HasReadsByCall, reads_due}
@@ -166,31 +166,31 @@ module _ (accounts : Accounts) (f : Flat) (me : ProcName) (call : UnixCall) (old
       )
   from_each (Err stopped) ready each = each ready
 
-module _ (accounts : Accounts) (f : Flat) (me : ProcName) (caller : IsRunning f me) (call : UnixCall)
+module _ (accounts : Accounts) (f : Flat) (me : ProcName) (call : UnixCall)
     (old new : KernelModel) (t : ℕ) (ready : IsReady accounts (state old) f me t) where
   -- what is to be shown, with this result
   abbrev Follows : Result Reply Stopped → Type 0
   Follows = FollowsFrom accounts f me call old new t ready.represents
 
   -- the process runs
-  runs : running f me ≡ Some caller.process
+  runs : running f me ≡ Some ready.caller.process
   runs =
-      ap if_running caller.agrees
-      ∙ ap (λ (x : Option ℕ). elim x as (λ _. Option Process) [ None ↦ Some caller.process | Some n ↦ None ])
-      caller.runs
+      ap if_running ready.caller.agrees
+      ∙ ap (λ (x : Option ℕ). elim x as (λ _. Option Process) [ None ↦ Some ready.caller.process | Some n ↦ None ])
+      ready.caller.runs
 
   -- the reply of a call of a running process is that of its flat rule, and the state after it is the rule's too
-  pub reply_is : (refusal : Option Errno) → refused accounts f me caller.process call ≡ refusal
-      → reply_to accounts f me call ≡ reply_or refusal (flat.answer f me caller.process call)
+  pub reply_is : (refusal : Option Errno) → refused accounts f me ready.caller.process call ≡ refusal
+      → reply_to accounts f me call ≡ reply_or refusal (flat.answer f me ready.caller.process call)
   reply_is refusal e =
       ap (λ (r : Option Process). reply_by accounts f me r call) runs
-      ∙ ap (λ (r : Option Errno). reply_or r (flat.answer f me caller.process call)) e
+      ∙ ap (λ (r : Option Errno). reply_or r (flat.answer f me ready.caller.process call)) e
 
-  after_is : (refusal : Option Errno) → refused accounts f me caller.process call ≡ refusal
-      → flat_after accounts f me call ≡ flat_or refusal f (changed accounts f me caller.process call)
+  after_is : (refusal : Option Errno) → refused accounts f me ready.caller.process call ≡ refusal
+      → flat_after accounts f me call ≡ flat_or refusal f (changed accounts f me ready.caller.process call)
   after_is refusal e =
       ap (λ (r : Option Process). flat_by accounts f me r call) runs
-      ∙ ap (λ (r : Option Errno). flat_or r f (changed accounts f me caller.process call)) e
+      ∙ ap (λ (r : Option Errno). flat_or r f (changed accounts f me ready.caller.process call)) e
 
   -- a chain that was broken off before that reply ends without one
   pub chain_unanswered : (steps : List Step) → Chain old t steps new
@@ -208,11 +208,11 @@ module _ (accounts : Accounts) (f : Flat) (me : ProcName) (caller : IsRunning f 
 
   -- the reads that the call cannot do without, given this reply, are among these raw calls
   abbrev pub ReadsAmong : List Step → Reply → Type 0
-  ReadsAmong steps r = HasReadsByCall accounts (state old) f caller.process call r (entries_of old.line t steps)
+  ReadsAmong steps r = HasReadsByCall accounts (state old) f ready.caller.process call r (entries_of old.line t steps)
 
   -- what the flat rules answer where they allow the call
   abbrev pub allowed : Reply
-  allowed = flat.answer f me caller.process call
+  allowed = flat.answer f me ready.caller.process call
 
   -- each entry is of the line's thread
   all_own : (line : ℕ) (steps : List Step)
@@ -223,11 +223,11 @@ module _ (accounts : Accounts) (f : Flat) (me : ProcName) (caller : IsRunning f 
 
   -- a call refines its rule if its raw calls agree with the flat rules' reply, and the state represents the flat state after the call
   agreed_refined : (steps : List Step) → Chain old t steps new → (refusal : Option Errno)
-      → refused accounts f me caller.process call ≡ refusal → (r : Reply) → reply_or refusal allowed ≡ r
+      → refused accounts f me ready.caller.process call ≡ refusal → (r : Reply) → reply_or refusal allowed ≡ r
       → Agrees r (entries_of old.line t steps)
       → ((bytes : List ℕ) → r ≡ Data bytes → EndsWithRead (state old) (entries_of old.line t steps) bytes)
       → ReadsAmong steps r → r ≢ Gone
-      → RepresentsStill ready.represents (state new) (flat_or refusal f (changed accounts f me caller.process call))
+      → RepresentsStill ready.represents (state new) (flat_or refusal f (changed accounts f me ready.caller.process call))
       → Follows (Ok r)
   agreed_refined steps chain refusal is r r_is reply_agrees revealed reads lives still =
       let part = chain_run t old new steps chain in
@@ -250,18 +250,18 @@ module _ (accounts : Accounts) (f : Flat) (me : ProcName) (caller : IsRunning f 
           line = part.line;
           is_line = subst (λ (x : Reply). IsLine accounts (state old) old.line me x entries (state new)) (sym reply) is_line;
           reads = subst (λ (o : Option Process). HasReads accounts (state old) f o call (reply_to accounts f me call) entries) (sym runs)
-              (reads_due accounts (state old) f caller.process call (reply_to accounts f me call) entries
-              (subst (λ (x : Reply). HasReadsByCall accounts (state old) f caller.process call x entries) (sym reply) reads));
+              (reads_due accounts (state old) f ready.caller.process call (reply_to accounts f me call) entries
+              (subst (λ (x : Reply). HasReadsByCall accounts (state old) f ready.caller.process call x entries) (sym reply) reads));
           still = subst (RepresentsStill ready.represents (state new)) (sym (after_is refusal is)) still;
         },
       )
 
   -- where every raw call was granted, a call that the flat rules allow is answered what they answer
   pub granted_refined : (calls : List RawCall) → Chain old t (all_granted calls) new
-      → refused accounts f me caller.process call ≡ None
+      → refused accounts f me ready.caller.process call ≡ None
       → IsBacked (state old) (entries_of old.line t (all_granted calls)) allowed
       → ReadsAmong (all_granted calls) allowed
-      → RepresentsStill ready.represents (state new) (changed accounts f me caller.process call) → Follows (Ok allowed)
+      → RepresentsStill ready.represents (state new) (changed accounts f me ready.caller.process call) → Follows (Ok allowed)
   granted_refined calls chain is backed reads still =
       let entries = entries_of old.line t (all_granted calls) in
       agreed_refined (all_granted calls) chain None is allowed refl
@@ -273,7 +273,7 @@ module _ (accounts : Accounts) (f : Flat) (me : ProcName) (caller : IsRunning f 
   pub given_back_refined : (calls : List RawCall) (last : RawCall) (denied : Denied) (restoring : List RawCall)
       → AllByRecursion (λ (c : RawCall). sets_labels c ≡ true) restoring
       → Chain old t (all_granted calls ++ (last, Some denied) ∷ all_granted restoring) new → (errno : Errno)
-      → errno_by_rule denied ≡ Some errno → refused accounts f me caller.process call ≡ Some errno
+      → errno_by_rule denied ≡ Some errno → refused accounts f me ready.caller.process call ≡ Some errno
       → ReadsAmong (all_granted calls ++ (last, Some denied) ∷ all_granted restoring) (Refused errno)
       → RepresentsStill ready.represents (state new) f → Follows (Ok (Refused errno))
   given_back_refined calls last denied restoring sets chain errno revealed is reads still =
@@ -287,7 +287,7 @@ module _ (accounts : Accounts) (f : Flat) (me : ProcName) (caller : IsRunning f 
 
     -- where every raw call was granted and nothing has changed, a call that the flat rules refuse otherwise than by label is answered their errno
     pub unchanged_refined : (calls : List RawCall) → Chain old t (all_granted calls) new → (errno : Errno)
-        → is_access errno ≡ false → is_permission errno ≡ false → refused accounts f me caller.process call ≡ Some errno
+        → is_access errno ≡ false → is_permission errno ≡ false → refused accounts f me ready.caller.process call ≡ Some errno
         → ReadsAmong (all_granted calls) (Refused errno) → Follows (Ok (Refused errno))
     unchanged_refined calls chain errno no_access no_permission is reads =
         agreed_refined (all_granted calls) chain (Some errno) is (Refused errno) refl
@@ -296,7 +296,7 @@ module _ (accounts : Accounts) (f : Flat) (me : ProcName) (caller : IsRunning f 
 
     -- where only the last raw call was refused and nothing has changed, a call that the flat rules refuse with its errno refines its rule
     pub refused_refined : (calls : List RawCall) (last : RawCall) (denied : Denied) → Chain old t (all_granted calls ++ (last, Some denied) ∷ []) new
-        → (errno : Errno) → errno_by_rule denied ≡ Some errno → refused accounts f me caller.process call ≡ Some errno
+        → (errno : Errno) → errno_by_rule denied ≡ Some errno → refused accounts f me ready.caller.process call ≡ Some errno
         → ReadsAmong (all_granted calls ++ (last, Some denied) ∷ []) (Refused errno)
         → Follows (Ok (Refused errno))
     refused_refined calls last denied chain errno revealed is reads =

@@ -130,10 +130,10 @@ module _ (accounts : Accounts) (me : ProcName) (caller : Caller) (old new : Kern
       → Runs (ask OwnLabel rest) mid new t result
       → ((after : KernelModel) → Chain old t (all_granted (calls ++ OwnLabel ∷ [])) after → state after ≡ state old
       → Runs (rest (own_of, own_clearance_of)) after new t result
-      → Goal accounts f me ready.caller call old new t ready result)
-      → Goal accounts f me ready.caller call old new t ready result
+      → Goal accounts f me call old new t ready result)
+      → Goal accounts f me call old new t ready result
   own_label_step call calls mid chain stays rest runs go_on =
-      granted_step accounts f me ready.caller call old new t ready result calls mid chain OwnLabel rest
+      granted_step accounts f me call old new t ready result calls mid chain OwnLabel rest
       (ap (λ (s : State). check s t OwnLabel) stays ∙ λ i. unless (is_thread (around.thread i)) NoThread) runs
       (λ after revealed called reveals longer goes.
       let label = reveals.0 ∙ ap (λ (s : State). label_there (s.objects t)) stays ∙ ap label_there around.thread in
@@ -144,7 +144,7 @@ module _ (accounts : Accounts) (me : ProcName) (caller : Caller) (old new : Kern
 
   module _ (call : UnixCall) (behind : Option Errno) (needs : NeedsChild accounts f me p call behind) (rest : ProcessStatus → Program) where
     abbrev Refined : Type 0
-    Refined = Goal accounts f me ready.caller call old new t ready result
+    Refined = Goal accounts f me call old new t ready result
 
     -- the call goes on with room for a child
     abbrev pub GoesOn : Type 0
@@ -171,7 +171,7 @@ module _ (accounts : Accounts) (me : ProcName) (caller : Caller) (old new : Kern
         → (mid : KernelModel) → Chain old t (all_granted (reads ∷ [])) mid → state mid ≡ state old
         → Runs (given (must_have_room b) (λ _. rest status_of)) mid new t result → GoesOn → Refined
     by_born false is long mid chain stays runs go_on =
-        refused_at_once accounts f me ready.caller call old new t ready result (reads ∷ []) mid chain stays
+        refused_at_once accounts f me call old new t ready result (reads ∷ []) mid chain stays
         EAGAIN (refused_is false true is long) refl refl
         (needs.reads (all_granted (reads ∷ [])) old.line t (state old)) runs
     by_born true is long mid chain stays runs go_on = go_on long is mid chain stays runs
@@ -182,7 +182,7 @@ module _ (accounts : Accounts) (me : ProcName) (caller : Caller) (old new : Kern
 
     read : nat_lt (length me) most_numbers ≡ true → Runs (ask reads with_bytes) old new t result → GoesOn → Refined
     read long runs go_on =
-        granted_step accounts f me ready.caller call old new t ready result [] old (same_kernel old) reads with_bytes read_said runs
+        granted_step accounts f me call old new t ready result [] old (same_kernel old) reads with_bytes read_said runs
         (λ later bytes called right longer goes.
         by_born (nat_lt p.born most_children) refl long later longer called.state
         (subst (λ (o : Option ProcessStatus). Runs (if_there ESRCH with_status o) later new t result)
@@ -193,7 +193,7 @@ module _ (accounts : Accounts) (me : ProcName) (caller : Caller) (old new : Kern
         → Runs (given (must_have_room b) (λ _. read_status caller.home with_status)) old new t result → GoesOn → Refined
     unfolding read_status
     by_length false is runs go_on =
-        refused_at_once accounts f me ready.caller call old new t ready result [] old (same_kernel old) refl EAGAIN
+        refused_at_once accounts f me call old new t ready result [] old (same_kernel old) refl EAGAIN
         (refused_is (nat_lt p.born most_children) false refl is ∙ either_again (nat_lt p.born most_children)) refl refl
         (needs.reads [] old.line t (state old)) runs
     by_length true is runs go_on = read is runs go_on

@@ -89,10 +89,10 @@ module _ (accounts : Accounts) (ok : AreAccounts accounts) (old new : KernelMode
     (result : Result Reply Stopped) (later : Option Errno)
     (split : refused accounts f me ready.caller.process call ≡ (no_entry accounts f ready.caller.process (m ∷ d) orelse later))
     (has_reads : (not (is_some (into accounts f ready.caller.process d)) && is_dir_at f (m ∷ d)) ≡ false → (steps : List Step) (r : Reply)
-    → AreAmong (walk_reads accounts ok (state old) f me t ready d) (entries_of old.line t steps) → ReadsAmong accounts f me ready.caller call old new
+    → AreAmong (walk_reads accounts ok (state old) f me t ready d) (entries_of old.line t steps) → ReadsAmong accounts f me call old new
     t ready steps r) where
   abbrev Refined : Type 0
-  Refined = Goal accounts f me ready.caller call old new t ready result
+  Refined = Goal accounts f me call old new t ready result
 
   abbrev walk : List RawCall
   walk = walk_reads accounts ok (state old) f me t ready d
@@ -139,7 +139,7 @@ module _ (accounts : Accounts) (ok : AreAccounts accounts) (old new : KernelMode
 
       by_agrees : (o : Option Node) → get f.files (m ∷ d) ≡ o → Refined
       by_agrees None is =
-          refused_at_once accounts f me ready.caller call old new t ready result walk mid chain stays ENOENT
+          refused_at_once accounts f me call old new t ready result walk mid chain stays ENOENT
           (refused_is None None open_so_far is) refl refl (has_reads
           (λ i. not (is_some (open_so_far i)) && is_some_and (is i) is_dir) (all_granted walk) (Refused ENOENT)
           (among_granted_all old.line t walk))

@@ -70,7 +70,7 @@ module _ (accounts : Accounts) (ok : AreAccounts accounts) (number : ℕ) (small
   here = ready.caller.agrees
 
   abbrev Refined : Type 0
-  Refined = Goal accounts f me ready.caller call old new t ready result
+  Refined = Goal accounts f me call old new t ready result
 
   -- the process's container, its process segment and its internal container
   abbrev C : ℕ
@@ -182,16 +182,16 @@ module _ (accounts : Accounts) (ok : AreAccounts accounts) (number : ℕ) (small
     unlinked : (later : KernelModel) → state later ≡ exited → Chain old t (all_granted (read ∷ writing ∷ [])) later
         → Runs call_error later new t result → Refined
     unlinked later is so_far on =
-        granted_step accounts f me ready.caller call old new t ready result (read ∷ writing ∷ []) later so_far
+        granted_step accounts f me call old new t ready result (read ∷ writing ∷ []) later so_far
         unlinking (λ _. Answers Done) (ap (λ (s : State). check s t unlinking) is ∙ unlink_said) on
         (λ end done cut right whole last.
-        answered_step accounts f me ready.caller call old new t ready result (read ∷ writing ∷ unlinking ∷ []) end whole Done refl refl tt tt
+        answered_step accounts f me call old new t ready result (read ∷ writing ∷ unlinking ∷ []) end whole Done refl refl tt tt
         (matched_after (state end) (subst (λ (s : State). CutsOff s C o (state end)) is cut.state)) last)
 
     -- the segment is written
     wrote : Runs (ask writing (λ _. call_error)) mid new t result → Refined
     wrote on =
-        granted_step accounts f me ready.caller call old new t ready result (read ∷ []) mid chain writing
+        granted_step accounts f me call old new t ready result (read ∷ []) mid chain writing
         (λ _. call_error) (ap (λ (s : State). check s t writing) stays ∙ write_said) on
         (λ later done called right so_far rest. unlinked later (called.state ∙ ap (λ (s : State). with_segment_bytes s S bytes) stays) so_far rest)
 

@@ -65,10 +65,10 @@ pub slash_is_no_file : (accounts : Accounts) (old new : KernelModel) (f : Flat) 
     (later : Option Errno)
     → ReachesFile accounts f me ready.caller.process [] call later → (rest : FoundFile → Program)
     → Runs (find_file (roots_of (length accounts.users)) [] rest) old new t result
-    → Goal accounts f me ready.caller call old new t ready result
+    → Goal accounts f me call old new t ready result
 unfolding find_file
 slash_is_no_file accounts old new f me t ready call result later file rest run =
-    refused_at_once accounts f me ready.caller call old new t ready result [] old (same_kernel old) refl
+    refused_at_once accounts f me call old new t ready result [] old (same_kernel old) refl
     EISDIR file.refuses refl refl (file.reads (state old) (Refused EISDIR) [] tt) run
 
 -- what the flat rules refuse of a file that is written
@@ -94,7 +94,7 @@ module _ (accounts : Accounts) (ok : AreAccounts accounts) (old new : KernelMode
     (ready : IsReady accounts (state old) f me t) (m : Name) (d : Path) (call : UnixCall)
     (result : Result Reply Stopped) where
   abbrev Refined : Type 0
-  Refined = Goal accounts f me ready.caller call old new t ready result
+  Refined = Goal accounts f me call old new t ready result
 
   abbrev p : Process
   p = ready.caller.process
@@ -106,7 +106,7 @@ module _ (accounts : Accounts) (ok : AreAccounts accounts) (old new : KernelMode
     -- the reads of the walk are reads that the call cannot do without
     pub has_reads : (steps : List Step) (reply : Reply)
         → AreAmong (walk_reads accounts ok (state old) f me t ready d) (entries_of old.line t steps)
-        → ReadsAmong accounts f me ready.caller call old new t ready steps reply
+        → ReadsAmong accounts f me call old new t ready steps reply
     has_reads steps reply among =
         file.reads (state old) reply (entries_of old.line t steps)
         (has_walk accounts ok (state old) f me t ready m d (entries_of old.line t steps) among)
@@ -160,7 +160,7 @@ module _ (accounts : Accounts) (ok : AreAccounts accounts) (old new : KernelMode
 
         by_content : (class : Class) (c : Content) → get f.files (m ∷ d) ≡ Some (record { class = class; content = c }) → Refined
         by_content class Dir is =
-            refused_at_once accounts f me ready.caller call old new t ready result walk mid chain stays EISDIR
+            refused_at_once accounts f me call old new t ready result walk mid chain stays EISDIR
             (refused_is None (Some (record { class = class; content = Dir })) open_so_far is) refl refl
             (has_reads (all_granted walk) (Refused EISDIR) among)
             (leads _ (directory_there accounts ok (state old) f me t ready m d class is))
@@ -170,7 +170,7 @@ module _ (accounts : Accounts) (ok : AreAccounts accounts) (old new : KernelMode
 
         by_agrees : (o : Option Node) → get f.files (m ∷ d) ≡ o → Refined
         by_agrees None is =
-            refused_at_once accounts f me ready.caller call old new t ready result walk mid chain stays ENOENT
+            refused_at_once accounts f me call old new t ready result walk mid chain stays ENOENT
             (refused_is None None open_so_far is) refl refl (has_reads (all_granted walk) (Refused ENOENT) among)
             (leads _ (nothing_there accounts ok (state old) f me t ready m d is))
         by_agrees (Some node) is = by_content node.class node.content is
@@ -223,7 +223,7 @@ module _ (accounts : Accounts) (ok : AreAccounts accounts) (old new : KernelMode
       denied : (d : Denied) (errno : Errno) → check (state mid) t next ≡ Some d → write_errno_of d ≡ Some errno → errno_by_rule d ≡ Some errno
           → refused accounts f me p call ≡ Some errno → Runs (ask next (λ _. Answers Done)) mid new t result → Refined
       denied d errno fails revealed by_rule is on =
-          refused_step accounts f me ready.caller call old new t ready result walk mid chain stays
+          refused_step accounts f me call old new t ready result walk mid chain stays
           errno is next (λ _. Answers Done) d fails revealed by_rule
           (has_reads (refusal may fits) writing.reaches _ _
           (among_also old.line t walk walk ((next, Some d) ∷ []) (among_granted_all old.line t walk))) on
@@ -246,11 +246,11 @@ module _ (accounts : Accounts) (ok : AreAccounts accounts) (old new : KernelMode
       by_right false is_fits e more on = denied Modify EACCES (said_by false is_fits e more) refl refl (refused_by false is_fits e more) on
       by_right true false e more on = denied TooBig EFBIG (said_by true false e more) refl refl (refused_by true false e more) on
       by_right true true e more on =
-          granted_step accounts f me ready.caller call old new t ready result walk mid chain next
+          granted_step accounts f me call old new t ready result walk mid chain next
           (λ _. Answers Done) (said_by true true e more) on
           (λ later answer called right longer end.
           let new_state : state later ≡ with_segment_bytes (state old) file whole = called.state ∙ left (state mid) stays in
-          answered_step accounts f me ready.caller call old new t ready result (walk ++ next ∷ []) later longer
+          answered_step accounts f me call old new t ready result (walk ++ next ∷ []) later longer
           Done (sym writing.answers) (refused_by true true e more)
           (subst (λ (r : Reply). IsBacked (state old) (entries_of old.line t (all_granted (walk ++ next ∷ []))) r) (sym writing.answers) tt)
           (has_reads (refusal may fits) writing.reaches _ _ (among_then old.line t walk walk (next ∷ []) (among_granted_all old.line t walk)))

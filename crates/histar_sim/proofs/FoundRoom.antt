@@ -57,10 +57,10 @@ pub slash_agrees : (accounts : Accounts) (old new : KernelModel) (f : Flat) (me 
     → NeedsRoom accounts f me ready.caller.process [] call behind → (before : List RawCall) (start : KernelModel)
     → state start ≡ state old → Chain old t (all_granted before) start
     → (rest : Room → Program) → Runs (find_room (roots_of (length accounts.users)) [] rest) start new t result
-    → Goal accounts f me ready.caller call old new t ready result
+    → Goal accounts f me call old new t ready result
 unfolding find_room
 slash_agrees accounts old new f me t ready call result behind needs before start unchanged begun rest run =
-    refused_at_once accounts f me ready.caller call old new t ready result before start begun unchanged
+    refused_at_once accounts f me call old new t ready result before start begun unchanged
     EEXIST needs.refuses refl refl
     (needs.reads (state old) (Refused EEXIST) (entries_of old.line t (all_granted before)) tt) run
 
@@ -75,7 +75,7 @@ module _ (accounts : Accounts) (ok : AreAccounts accounts) (old new : KernelMode
     (result : Result Reply Stopped)
     (behind : Option Errno) (needs : NeedsRoom accounts f me ready.caller.process (m ∷ d) call behind) where
   abbrev Refined : Type 0
-  Refined = Goal accounts f me ready.caller call old new t ready result
+  Refined = Goal accounts f me call old new t ready result
 
   abbrev p : Process
   p = ready.caller.process
@@ -92,7 +92,7 @@ module _ (accounts : Accounts) (ok : AreAccounts accounts) (old new : KernelMode
   -- the reads of the walk are reads that the call cannot do without
   pub has_reads : (steps : List Step) (reply : Reply)
       → AreAmong (walk_reads accounts ok (state old) f me t ready d) (entries_of old.line t steps)
-      → ReadsAmong accounts f me ready.caller call old new t ready steps reply
+      → ReadsAmong accounts f me call old new t ready steps reply
   has_reads steps reply among =
       needs.reads (state old) reply (entries_of old.line t steps)
       (has_walk accounts ok (state old) f me t ready m d (entries_of old.line t steps) among)
@@ -153,7 +153,7 @@ module _ (accounts : Accounts) (ok : AreAccounts accounts) (old new : KernelMode
       ends_here : (errno : Errno) → is_access errno ≡ false → is_permission errno ≡ false
           → refused accounts f me p call ≡ Some errno → Runs (Answers (Refused errno)) mid new t result → Refined
       ends_here errno no_access no_permission is end =
-          refused_at_once accounts f me ready.caller call old new t ready result reached mid chain stays
+          refused_at_once accounts f me call old new t ready result reached mid chain stays
           errno is no_access no_permission
           (has_reads (all_granted reached) (Refused errno) (among_granted_behind old.line t before reads)) end
 

@@ -30,19 +30,19 @@ use Rattle.histar_programs.specs.Programs.Program.{Answers, Asks}
 use Rattle.histar_wrap.specs.Scratch.{or_stops, give_back, gives_back_with, or_given_back, ask_or_give_back}
 use Rattle.histar_refinement.specs.KeptNames.{RepresentsStill}
 use Rattle.histar_refinement.proofs.Beside.{own_set}
-use Rattle.histar_sim.specs.Simulation.{IsRunning, IsReady, errno_by_rule, IsReplyOfDenial}
+use Rattle.histar_sim.specs.Simulation.{IsReady, errno_by_rule, IsReplyOfDenial}
 use Rattle.histar_sim.proofs.Chains.{Step, all_granted, Chain, chain_after, refused_broken_off}
 use Rattle.histar_sim.proofs.CallErrors.{FollowsFrom, ReadsAmong, reply_is, chain_unanswered, given_back_refined}
 use Rattle.histar_sim.proofs.Steps.{EndsHere, Goal, replied, granted_so, denied_step}
 
-module _ (accounts : Accounts) (f : Flat) (me : ProcName) (caller : IsRunning f me) (call : UnixCall)
+module _ (accounts : Accounts) (f : Flat) (me : ProcName) (call : UnixCall)
     (old new : KernelModel) (t : ℕ) (ready : IsReady accounts (state old) f me t) (result : Result Reply Stopped) where
   abbrev Refined : Type 0
-  Refined = Goal accounts f me caller call old new t ready result
+  Refined = Goal accounts f me call old new t ready result
 
   -- raw calls that were granted, the last one, which was refused, and the errno of its denial, which the flat rules reply
   module _ (calls : List RawCall) (last : RawCall) (denied : Denied) (errno : Errno)
-      (revealed : errno_by_rule denied ≡ Some errno) (is : refused accounts f me caller.process call ≡ Some errno)
+      (revealed : errno_by_rule denied ≡ Some errno) (is : refused accounts f me ready.caller.process call ≡ Some errno)
     where
       -- after the refused one come these, which are granted
       abbrev steps : List RawCall → List Step
@@ -50,7 +50,7 @@ module _ (accounts : Accounts) (f : Flat) (me : ProcName) (caller : IsRunning f 
 
       -- the reply of the flat rules is that of the denial
       reveals : IsReplyOfDenial (reply_to accounts f me call) (Some denied)
-      reveals = ap (option_map Refused) revealed ∙ ap Some (sym (reply_is accounts f me caller call old new t ready (Some errno) is))
+      reveals = ap (option_map Refused) revealed ∙ ap Some (sym (reply_is accounts f me call old new t ready (Some errno) is))
 
       -- After the refused one the thread was given labels.
       module _ (restoring : List RawCall) (sets : AllByRecursion (λ (c : RawCall). sets_labels c ≡ true) restoring)
@@ -67,7 +67,7 @@ module _ (accounts : Accounts) (f : Flat) (me : ProcName) (caller : IsRunning f 
             by : (r : Result Reply Stopped) → IsErr r → FollowsFrom accounts f me call old new t ready.represents r
             by (Ok reply) err = absurd cc
             by (Err stopped) err =
-                chain_unanswered accounts f me caller call old new t ready (steps restoring) chain
+                chain_unanswered accounts f me call old new t ready (steps restoring) chain
                 (refused_broken_off t (reply_to accounts f me call) old new old.line calls last denied restoring
                 reveals sets chain)
 
@@ -91,12 +91,12 @@ module _ (accounts : Accounts) (f : Flat) (me : ProcName) (caller : IsRunning f 
 
         -- the call replies the errno
         revealed_at_last : RepresentsStill ready.represents (state mid) f
-            → ReadsAmong accounts f me caller call old new t ready (steps restoring) (Refused errno)
+            → ReadsAmong accounts f me call old new t ready (steps restoring) (Refused errno)
             → Runs (Answers (Refused errno)) mid new t result → Refined
         revealed_at_last represents reads runs =
             let end = replied t mid new (Refused errno) result runs in
             subst (FollowsFrom accounts f me call old new t ready.represents) (sym end.1)
-            (given_back_refined accounts f me caller call old new t ready calls last denied restoring sets
+            (given_back_refined accounts f me call old new t ready calls last denied restoring sets
             (subst (λ (all : List Step). Chain old t all new) (append-nil (steps restoring))
             (chain_after t old mid new (steps restoring) [] so_far end.0))
             errno revealed is reads (subst (λ (s : State). RepresentsStill ready.represents s f) (sym end.0.state) represents))
@@ -111,7 +111,7 @@ module _ (accounts : Accounts) (f : Flat) (me : ProcName) (caller : IsRunning f 
             → check (state mid) t (SetLabel own.0) ≡ None
             → check (with_changed (state mid) t (with_label own.0)) t (SetClearance own.1) ≡ None
             → RepresentsStill ready.represents (own_set t (state mid) own.0 own.1) f
-            → ReadsAmong accounts f me caller call old new t ready (steps taken_again) (Refused errno)
+            → ReadsAmong accounts f me call old new t ready (steps taken_again) (Refused errno)
             → Runs (give_back own errno) mid new t result → Refined
         give_back_step mid so_far label_passes clearance_passes represents reads runs =
             restored_step [] tt mid so_far (SetLabel own.0)
@@ -127,18 +127,18 @@ module _ (accounts : Accounts) (f : Flat) (me : ProcName) (caller : IsRunning f 
 
   -- A raw call that the rules refuse, as the flat rules refuse the call, once the thread has taken what it gives up.
   pub given_back_step : (calls : List RawCall) (mid : KernelModel) → Chain old t (all_granted calls) mid
-      → (errno : Errno) → refused accounts f me caller.process call ≡ Some errno
+      → (errno : Errno) → refused accounts f me ready.caller.process call ≡ Some errno
       → (own : Levels × Levels) (next : RawCall) (rest : AnswerOf next → Program) (denied : Denied)
       → check (state mid) t next ≡ Some denied → errno_for next denied ≡ Some errno → errno_by_rule denied ≡ Some errno
       → check (state mid) t (SetLabel own.0) ≡ None
       → check (with_changed (state mid) t (with_label own.0)) t (SetClearance own.1) ≡ None
       → RepresentsStill ready.represents (own_set t (state mid) own.0 own.1) f
-      → ReadsAmong accounts f me caller call old new t ready
+      → ReadsAmong accounts f me call old new t ready
       (all_granted calls ++ (next, Some denied) ∷ all_granted (SetLabel own.0 ∷ SetClearance own.1 ∷ []))
       (Refused errno)
       → Runs (ask_or_give_back own next rest) mid new t result → Refined
   given_back_step calls mid so_far errno is own next rest denied fails revealed by_rule label_passes clearance_passes represents reads runs =
-      denied_step accounts f me caller call old new t ready result calls mid so_far next (or_given_back own (errno_for next) rest) denied fails runs
+      denied_step accounts f me call old new t ready result calls mid so_far next (or_given_back own (errno_for next) rest) denied fails runs
       (λ later called chain on.
       let same = called.state in
       give_back_step calls next denied errno by_rule is own later chain

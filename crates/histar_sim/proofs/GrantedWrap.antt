@@ -93,7 +93,7 @@ module _ (accounts : Accounts) (ok : AreAccounts accounts) (me : ProcName) (call
   p = ready.caller.process
 
   abbrev Refined : Type 0
-  Refined = Goal accounts f me ready.caller (Wrap (m ∷ d)) old new t ready result
+  Refined = Goal accounts f me (Wrap (m ∷ d)) old new t ready result
 
   abbrev own : Levels
   own = own_of accounts me caller old new f result ready found
@@ -394,7 +394,7 @@ module _ (accounts : Accounts) (ok : AreAccounts accounts) (me : ProcName) (call
           later_clearance → before.next_object + 3 < greatest → Runs (Answers (Child child)) end new t result
           → Refined
       answered calls end kept chain is few_born runs =
-          answered_step accounts f me ready.caller call old new t ready result calls end chain (Child child) refl
+          answered_step accounts f me call old new t ready result calls end chain (Child child) refl
           refused_nowhere tt
           (has_walk accounts ok (state old) f me t ready m d (entries_of old.line t (all_granted calls)) kept)
           (subst (λ (s : State). RepresentsStill ready.represents s (changed accounts f me p call)) (sym is) (matched_then few_born)) runs
@@ -404,7 +404,7 @@ module _ (accounts : Accounts) (ok : AreAccounts accounts) (me : ProcName) (call
           → Chain old t (all_granted calls) mid → state mid ≡ before
           → Runs (birth_then status (with_level own job Star) (with_level own_clearance job L3)) mid new t result → Refined
       born calls mid kept chain at runs =
-          birth_made accounts f me ready.caller call old new t ready result before caller.home
+          birth_made accounts f me call old new t ready result before caller.home
           (status_by f.processes later.naming.number me p) kin own_then later_clearance fits
           (Child child) reads answered calls mid kept chain at
           (subst (λ (x : ProcessStatus × Levels × Levels). Runs (birth_then x.0 x.1 x.2) mid new t result)
@@ -433,7 +433,7 @@ module _ (accounts : Accounts) (ok : AreAccounts accounts) (me : ProcName) (call
           let apart =
           wrapping.not_named accounts (state old) f ready.represents me p wrapper d
           (record { class = above; content = Dir }) guard.0 at_parent guard.1 in
-          granted_step accounts f me ready.caller call old new t ready result calls mid chain write
+          granted_step accounts f me call old new t ready result calls mid chain write
           (λ _. birth_then status (with_level own job Star) (with_level own_clearance job L3))
           (ap (λ (s : State). check s t write) at
           ∙ write_said accounts ok (state old) f me t ready d open_so_far unused i declared may stranger apart.0
@@ -447,7 +447,7 @@ module _ (accounts : Accounts) (ok : AreAccounts accounts) (me : ProcName) (call
   unfolding hold_job
   job_begun long room open_so_far absent room_above may i declared has calls kept linked at chain runs =
       let next : RawCall = MakeSegment number due [] in
-      numbered_step accounts f me ready.caller call old new t ready result calls linked chain next after_segment refl
+      numbered_step accounts f me call old new t ready result calls linked chain next after_segment refl
       (subst (λ (s : State). check s t next ≡ unless (has_number s) TooBig) (sym at)
       (make_said accounts ok (state old) f me t ready d open_so_far unused i declared)) runs
       (λ more mid listing called right longer goes.

@@ -149,7 +149,7 @@ module _ (accounts : Accounts) (ok : AreAccounts accounts) (old new : KernelMode
   calls_to name = search_reads accounts (state old) f me t ready name
 
   abbrev Refined : ProcName → Type 0
-  Refined name = Goal accounts f me ready.caller (calls.Kill name) old new t ready result
+  Refined name = Goal accounts f me (calls.Kill name) old new t ready result
 
   -- what refuses the search refuses the kill
   kill_refuses : (name : ProcName) → Refuses accounts ok old new f me t ready (calls.Kill name) result name
@@ -169,7 +169,7 @@ module _ (accounts : Accounts) (ok : AreAccounts accounts) (old new : KernelMode
       (λ home status. ask (raw.Unlink root_number (home_number (length accounts.users))) (λ _. Answers Done)) run
       (kill_refuses [])
       (λ found first here seen mid stays chain on.
-      refused_step accounts f me ready.caller (calls.Kill []) old new t ready result (calls_to []) mid chain
+      refused_step accounts f me (calls.Kill []) old new t ready result (calls_to []) mid chain
       stays EACCES refl unlinks (λ _. Answers Done) Modify
       (ap (λ (s : State). check s t unlinks) stays ∙ first_kept accounts (state old) f l me p t (runs_as accounts (state old) f me t ready)) refl refl
       (has_search accounts (state old) f me t ready [] _ (among_also old.line t (calls_to []) (calls_to []) ((unlinks, Some Modify) ∷ [])
@@ -265,11 +265,11 @@ module _ (accounts : Accounts) (ok : AreAccounts accounts) (old new : KernelMode
         -- the parent's segment is written, and the call is answered
         written : Runs call_error cut new t result → Refined name
         written on =
-            granted_step accounts f me ready.caller call old new t ready result (calls_to name ++ unlinking ∷ [])
+            granted_step accounts f me call old new t ready result (calls_to name ++ unlinking ∷ [])
             cut so_far writing_call (λ _. Answers Done) write_said on
             (λ end done wrote right whole last.
             let all = (calls_to name ++ unlinking ∷ []) ++ writing_call ∷ [] in
-            answered_step accounts f me ready.caller call old new t ready result all end whole Done refl (refused_by true mine) tt
+            answered_step accounts f me call old new t ready result all end whole Done refl (refused_by true mine) tt
             (has_search accounts (state old) f me t ready name _
             (among_then old.line t (calls_to name) (calls_to name ++ unlinking ∷ []) (writing_call ∷ [])
             (among_then old.line t (calls_to name) (calls_to name) (unlinking ∷ [])
@@ -278,12 +278,12 @@ module _ (accounts : Accounts) (ok : AreAccounts accounts) (old new : KernelMode
 
       by_kin : (b : Bool) → same above me ≡ b → Runs (ask unlinking (λ _. call_error)) mid new t result → Refined name
       by_kin false is on =
-          refused_step accounts f me ready.caller call old new t ready result (calls_to name) mid chain stays
+          refused_step accounts f me call old new t ready result (calls_to name) mid chain stays
           EACCES (refused_by false is) unlinking (λ _. call_error) Modify (said false is) refl refl
           (has_search accounts (state old) f me t ready name _ (among_also old.line t (calls_to name) (calls_to name)
           ((unlinking, Some Modify) ∷ []) (among_granted_all old.line t (calls_to name)))) on
       by_kin true is on =
-          granted_step accounts f me ready.caller call old new t ready result (calls_to name) mid chain unlinking
+          granted_step accounts f me call old new t ready result (calls_to name) mid chain unlinking
           (λ _. call_error) (said true is) on
           (λ cut done called right so_far rest. written is cut (subst (λ (s : State). CutsOff s C o (state cut)) stays called.state) so_far rest)
 

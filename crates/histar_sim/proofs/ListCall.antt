@@ -48,14 +48,14 @@ module _ (accounts : Accounts) (ok : AreAccounts accounts) (old new : KernelMode
       (λ n there at. entry_leads accounts (state old) f ready.represents.matched (n ∷ path) there at)
 
   list_is_refined : Runs (list_program (roots_of (length accounts.users)) path) old new t result
-      → Goal accounts f me ready.caller call old new t ready result
+      → Goal accounts f me call old new t ready result
   unfolding list_program
   list_is_refined run =
       let walk = walk_reads accounts ok (state old) f me t ready path in
       walk_step accounts ok old new f me t ready call result path (λ directory. Answers (Entries (names_in directory.entries))) run
       (λ errno is steps among. (refused_is path ∙ is, has_way accounts ok (state old) f me t ready path _ among))
       (λ open_so_far mid stays chain on.
-      answered_step accounts f me ready.caller call old new t ready result walk mid chain
+      answered_step accounts f me call old new t ready result walk mid chain
       (Entries (names_in (directory_of f.files ready.represents.matched.naming.number path))) (ap Entries names_are)
       (refused_is path ∙ open_so_far) tt
       (has_way accounts ok (state old) f me t ready path _ (among_granted_all old.line t walk))

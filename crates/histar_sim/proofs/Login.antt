@@ -113,7 +113,7 @@ module _ (accounts : Accounts) (name : Name) (password : Password) (me : ProcNam
   -- no user has the name
   unknown : place_of accounts.users name ≡ None → Runs (Answers (Refused ENOENT)) old new t result → Goal
   unknown nowhere runs =
-      refused_at_once accounts f me ready.caller call old new t ready result [] old (same_kernel old) refl ENOENT
+      refused_at_once accounts f me call old new t ready result [] old (same_kernel old) refl ENOENT
       (refused_is None (is_free p) (unnumbered_user accounts name
       (number_by_place accounts name ∙ ap (option_map (λ place. place + 1)) nowhere)) refl) refl refl
       (subst (λ (o : Option ℕ). AreAmong (reads_of_login accounts o false) []) (sym nowhere) tt) runs
@@ -238,7 +238,7 @@ module _ (accounts : Accounts) (name : Name) (password : Password) (me : ProcNam
           → state labelled ≡ after_label
           → Runs (ask (takes_clearance right) (λ _. Answers (reply_if right))) labelled new t result → GoesOn → Goal
       cleared labelled chain is runs go_on =
-          granted_step accounts f me ready.caller call old new t ready result
+          granted_step accounts f me call old new t ready result
           (OwnLabel ∷ enters ∷ reads ∷ takes_label right ∷ []) labelled chain (takes_clearance right)
           (λ _. Answers (reply_if right))
           ((λ k. check (is k) t (SetClearance (clearance_is k)))
@@ -253,7 +253,7 @@ module _ (accounts : Accounts) (name : Name) (password : Password) (me : ProcNam
 
       taken : Runs (taking right) mid new t result → GoesOn → Goal
       taken runs go_on =
-          granted_step accounts f me ready.caller call old new t ready result (OwnLabel ∷ enters ∷ reads ∷ [])
+          granted_step accounts f me call old new t ready result (OwnLabel ∷ enters ∷ reads ∷ [])
           mid so_far (takes_label right) (λ _. ask (takes_clearance right) (λ _. Answers (reply_if right)))
           ((λ k. check (at k) t (SetLabel (label_is k)))
           ∙ set_label_said accounts (state old) f l me p t runs_as name (place + 1) numbered r owned fewer
@@ -293,7 +293,7 @@ module _ (accounts : Accounts) (name : Name) (password : Password) (me : ProcNam
           (user_owns_less accounts (state old) f l me p t runs_as name (place + 1) numbered) (λ c e. e) (λ c e. e)
           user_takes user_clears mid so_far at runs
           (λ later chain later_is answers.
-          answered_step accounts f me ready.caller call old new t ready result (all_calls true) later chain Done
+          answered_step accounts f me call old new t ready result (all_calls true) later chain Done
           refl (refused_by true is) tt (among_calls true)
           (subst (λ (s : State). RepresentsStill ready.represents s (with_process f me process_then)) (sym later_is)
           (still_login accounts (state old) f ready.represents me p runs_as.0 runs_as.1 name
@@ -303,7 +303,7 @@ module _ (accounts : Accounts) (name : Name) (password : Password) (me : ProcNam
           (own_owns_less accounts (state old) f l me p t runs_as name (place + 1) numbered) (λ c e. e) (λ c e. e)
           refl refl mid so_far at runs
           (λ later chain later_is answers.
-          refused_at_once accounts f me ready.caller call old new t ready result (all_calls false) later chain
+          refused_at_once accounts f me call old new t ready result (all_calls false) later chain
           (later_is ∙ labels_back (state old) t own clearance thread) EAUTH (refused_by false is)
           refl refl (among_calls false) answers)
 
@@ -311,7 +311,7 @@ module _ (accounts : Accounts) (name : Name) (password : Password) (me : ProcNam
       from_gate : (inside : KernelModel) → Chain old t (all_granted (OwnLabel ∷ enters ∷ [])) inside
           → state inside ≡ behind → Runs reading inside new t result → Goal
       from_gate inside chain is runs =
-          granted_step accounts f me ready.caller call old new t ready result (OwnLabel ∷ enters ∷ []) inside
+          granted_step accounts f me call old new t ready result (OwnLabel ∷ enters ∷ []) inside
           chain reads (λ kept. taking (bytes_eq kept password))
           (ap (λ (s : State). check s t reads) is ∙ read_password_said accounts (state old) f l me p t runs_as name (place + 1) numbered) runs
           (λ read kept called kept_is longer goes.
@@ -324,7 +324,7 @@ module _ (accounts : Accounts) (name : Name) (password : Password) (me : ProcNam
       let_in : (asked : KernelModel) → Chain old t (all_granted (OwnLabel ∷ [])) asked → state asked ≡ state old
           → Runs (ask enters (λ _. reading)) asked new t result → Goal
       let_in asked chain stays runs =
-          granted_step accounts f me ready.caller call old new t ready result (OwnLabel ∷ []) asked chain enters
+          granted_step accounts f me call old new t ready result (OwnLabel ∷ []) asked chain enters
           (λ _. reading)
           (ap (λ (s : State). check s t enters) stays ∙ enters_said ∙ ap (λ (b : Bool). unless b Gate) alone) runs
           (λ inside entry called entry_is longer goes.
@@ -334,7 +334,7 @@ module _ (accounts : Accounts) (name : Name) (password : Password) (me : ProcNam
     kept_out : is_free p ≡ false → (asked : KernelModel) → Chain old t (all_granted (OwnLabel ∷ [])) asked
         → state asked ≡ state old → Runs (ask enters (λ _. reading)) asked new t result → Goal
     kept_out jobbed asked chain stays runs =
-        refused_step accounts f me ready.caller call old new t ready result (OwnLabel ∷ []) asked chain stays
+        refused_step accounts f me call old new t ready result (OwnLabel ∷ []) asked chain stays
         EACCES (refused_is (Some user.0) false user.1 jobbed) enters (λ _. reading) Gate
         (ap (λ (s : State). check s t enters) stays ∙ enters_said ∙ ap (λ (b : Bool). unless b Gate) jobbed) refl refl
         (subst (λ (o : Option ℕ). AreAmong (reads_of_login accounts o false)
@@ -361,7 +361,7 @@ module _ (accounts : Accounts) (name : Name) (password : Password) (me : ProcNam
     someone : Runs (login_as_program caller (place + 1) owners password) old new t result → Goal
     unfolding login_as_program
     someone runs =
-        granted_step accounts f me ready.caller call old new t ready result [] old (same_kernel old) OwnLabel with_labels asks_said runs
+        granted_step accounts f me call old new t ready result [] old (same_kernel old) OwnLabel with_labels asks_said runs
         (λ asked revealed called reveals chain goes.
         let revealed_is : revealed ≡ (own, clearance) =
         λ k. (

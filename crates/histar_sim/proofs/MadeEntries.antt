@@ -87,7 +87,7 @@ module _ (accounts : Accounts) (ok : AreAccounts accounts) (old new : KernelMode
     (call : UnixCall) (result : Result Reply Stopped)
     (entry : MakesEntry accounts f me ready.caller.process (m ∷ d) mode content call) where
   abbrev Refined : Type 0
-  Refined = Goal accounts f me ready.caller call old new t ready result
+  Refined = Goal accounts f me call old new t ready result
 
   abbrev p : Process
   p = ready.caller.process
@@ -113,7 +113,7 @@ module _ (accounts : Accounts) (ok : AreAccounts accounts) (old new : KernelMode
 
   -- the reads of the walk are reads that the call cannot do without
   has_reads_made : (steps : List Step) (reply : Reply) → AreAmong reads (entries_of old.line t steps)
-      → ReadsAmong accounts f me ready.caller call old new t ready steps reply
+      → ReadsAmong accounts f me call old new t ready steps reply
   has_reads_made steps reply among = has_reads accounts ok old new f me t ready m d call result no_class entry.needs steps reply among
 
   -- the directory has room
@@ -176,7 +176,7 @@ module _ (accounts : Accounts) (ok : AreAccounts accounts) (old new : KernelMode
           → errno_of why ≡ Some errno → errno_by_rule why ≡ Some errno → refused accounts f me p call ≡ Some errno
           → Runs (making x) mid new t result → Refined
       denied x why errno fails revealed by_rule is on =
-          refused_step accounts f me ready.caller call old new t ready result calls mid chain stays
+          refused_step accounts f me call old new t ready result calls mid chain stays
           errno is (make place.container x) (within room_here x) why fails
           (object.reveals x why ∙ revealed) by_rule
           (has_reads_made _ _ (among_also old.line t reads calls ((make place.container x, Some why) ∷ [])
@@ -193,11 +193,11 @@ module _ (accounts : Accounts) (ok : AreAccounts accounts) (old new : KernelMode
       by_right x true false has is_may is_makes is_has said go_on on =
           denied x Range EPERM said refl refl (refused_then open_so_far absent room true false is_may is_makes) on
       by_right x true true false is_may is_makes is_has said go_on on =
-          exhausted_step accounts f me ready.caller call old new t ready result calls mid chain
+          exhausted_step accounts f me call old new t ready result calls mid chain
           (make place.container x) (within room_here x) said (object.reveals x TooBig)
           (ap has_number stays ∙ is_has) on
       by_right x true true true is_may is_makes is_has said go_on on =
-          granted_step accounts f me ready.caller call old new t ready result calls mid chain
+          granted_step accounts f me call old new t ready result calls mid chain
           (make place.container x) (within room_here x) said on (go_on is_may refl is_has)
 
       -- the thread makes the object with this label
@@ -232,7 +232,7 @@ module _ (accounts : Accounts) (ok : AreAccounts accounts) (old new : KernelMode
         (λ room. ask raw.OwnLabel (λ labels. ask (make room.place.container (label_made accounts labels.0 mode))
         (within room (label_made accounts labels.0 mode)))) run
         (λ open_so_far absent room mid stays chain on.
-        granted_step accounts f me ready.caller call old new t ready result reads mid chain raw.OwnLabel
+        granted_step accounts f me call old new t ready result reads mid chain raw.OwnLabel
         (λ labels. making (label_made accounts labels.0 mode))
         (ap (λ (s : State). check s t raw.OwnLabel) stays
         ∙ caller_passes (state old) t (label accounts ok (state old) f me t ready)
@@ -290,11 +290,11 @@ module _ (accounts : Accounts) (ok : AreAccounts accounts) (old new : KernelMode
         ready.represents.jobs_given in
         let still : RepresentsStill ready.represents after (with_node f (m ∷ d) made.class content) =
         record { represents = record { matched = matched; jobs_given = jobs }; names = names } in
-        granted_step accounts f me ready.caller call old new t ready result before linked chain write
+        granted_step accounts f me call old new t ready result before linked chain write
         (λ _. Answers Done) (ap (λ (s : State). check s t write) is_later ∙ write_said) on
         (λ end done wrote right whole last.
         let end_state : state end ≡ after = wrote.state ∙ ap (λ (s : State). with_segment_bytes s place.listing bytes) is_later in
-        answered_step accounts f me ready.caller call old new t ready result (before ++ write ∷ []) end whole
+        answered_step accounts f me call old new t ready result (before ++ write ∷ []) end whole
         Done (sym entry.answers) (refused_then open_so_far absent room true true is_may (ap is_some made.class_is))
         (subst (λ (r : Reply). IsBacked (state old) (entries_of old.line t (all_granted (before ++ write ∷ []))) r)
         (sym entry.answers) tt) (has_reads_made _ _ (among_then old.line t reads before (write ∷ []) among))

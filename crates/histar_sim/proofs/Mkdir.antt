@@ -78,7 +78,7 @@ module _ (accounts : Accounts) (ok : AreAccounts accounts) (old new : KernelMode
   call = calls.Mkdir (m ∷ d) mode
 
   abbrev Refined : Type 0
-  Refined = Goal accounts f me ready.caller call old new t ready result
+  Refined = Goal accounts f me call old new t ready result
 
   abbrev l : ObjectsMatch accounts (state old) f
   l = ready.represents.matched
@@ -173,12 +173,12 @@ module _ (accounts : Accounts) (ok : AreAccounts accounts) (old new : KernelMode
 
       by_more : (more : Bool) → has_number with_container ≡ more → Runs (ask next (call_error room_here new_container)) linked new t result → Refined
       by_more false is on =
-          exhausted_step accounts f me ready.caller call old new t ready result before linked so_far next
+          exhausted_step accounts f me call old new t ready result before linked so_far next
           (call_error room_here new_container)
           (ap (λ (s : State). check s t next) linked_state ∙ next_said false is) refl
           (ap has_number linked_state ∙ is) on
       by_more true is on =
-          granted_step accounts f me ready.caller call old new t ready result before linked so_far next
+          granted_step accounts f me call old new t ready result before linked so_far next
           (call_error room_here new_container) (ap (λ (s : State). check s t next) linked_state ∙ next_said true is)
           on
           (λ inside number called number_is chain rest. written is inside number called number_is chain rest)

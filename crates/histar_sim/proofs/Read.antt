@@ -55,7 +55,7 @@ module _ (accounts : Accounts) (ok : AreAccounts accounts) (old new : KernelMode
   p = ready.caller.process
 
   abbrev Refined : Type 0
-  Refined = Goal accounts f me ready.caller call old new t ready result
+  Refined = Goal accounts f me call old new t ready result
 
   -- the segment of the file, and the read of it
   abbrev file : ℕ
@@ -84,11 +84,11 @@ module _ (accounts : Accounts) (ok : AreAccounts accounts) (old new : KernelMode
 
     by_right : (may : Bool) → reads accounts f p (m ∷ d) ≡ may → Runs (ask next (λ (b : List ℕ). Answers (Data b))) mid new t result → Refined
     by_right false is on =
-        refused_step accounts f me ready.caller call old new t ready result walk mid chain stays
+        refused_step accounts f me call old new t ready result walk mid chain stays
         EACCES (refused_by false is) next (λ (b : List ℕ). Answers (Data b)) Observe
         (said_by false is) refl refl (walked_also accounts ok (state old) f me t ready m d old.line ((next, Some Observe) ∷ [])) on
     by_right true is on =
-        granted_step accounts f me ready.caller call old new t ready result walk mid chain next
+        granted_step accounts f me call old new t ready result walk mid chain next
         (λ (b : List ℕ). Answers (Data b)) (said_by true is) on
         (λ later answer called right longer end.
         let answer_is : answer ≡ bytes_at f (m ∷ d) = right ∙ held in
@@ -99,7 +99,7 @@ module _ (accounts : Accounts) (ok : AreAccounts accounts) (old new : KernelMode
         (subst (EndsWithRead (state old) (entries_of old.line t (all_granted walk ++ (next, None) ∷ []))) held
         (read_last old mid t walk chain (container accounts ok (state old) f me t ready d) file)) in
         let same : state later ≡ state old = called.state ∙ stays in
-        answered_step accounts f me ready.caller call old new t ready result (walk ++ next ∷ []) later longer
+        answered_step accounts f me call old new t ready result (walk ++ next ∷ []) later longer
         (Data answer) (ap Data answer_is) (refused_by true is) backed
         (walked_then accounts ok (state old) f me t ready m d old.line (next ∷ []))
         (still_represents ready.represents _ same) end)

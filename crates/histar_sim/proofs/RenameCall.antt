@@ -60,7 +60,7 @@ module _ (accounts : Accounts) (ok : AreAccounts accounts) (old new : KernelMode
   walk = walk_reads accounts ok (state old) f me t ready d
 
   abbrev Refined : Type 0
-  Refined = Goal accounts f me ready.caller call old new t ready result
+  Refined = Goal accounts f me call old new t ready result
 
   abbrev p : Process
   p = ready.caller.process
@@ -147,16 +147,16 @@ module _ (accounts : Accounts) (ok : AreAccounts accounts) (old new : KernelMode
 
       by_right : (may : Bool) → may_write accounts p root ≡ may → Runs (ask next (λ _. Answers Done)) mid new t result → Refined
       by_right false is_may on =
-          refused_step accounts f me ready.caller call old new t ready result walk mid chain stays
+          refused_step accounts f me call old new t ready result walk mid chain stays
           EACCES (refused_by None false absent is_may) next (λ _. Answers Done) Modify
           (said false is_may) refl refl
           (walked_also accounts ok (state old) f me t ready m d old.line ((next, Some Modify) ∷ [])) on
       by_right true is_may on =
-          granted_step accounts f me ready.caller call old new t ready result walk mid chain next (λ _. Answers Done) (said true is_may) on
+          granted_step accounts f me call old new t ready result walk mid chain next (λ _. Answers Done) (said true is_may) on
           (λ later answer called right longer end.
           let new_state : state later ≡ with_segment_bytes (state old) listing (spelling renamed) =
           called.state ∙ ap (λ (s : State). with_segment_bytes s listing (spelling renamed)) stays in
-          answered_step accounts f me ready.caller call old new t ready result (walk ++ next ∷ []) later longer
+          answered_step accounts f me call old new t ready result (walk ++ next ∷ []) later longer
           Done refl (refused_by None true absent is_may) tt
           (walked_then accounts ok (state old) f me t ready m d old.line (next ∷ []))
           (subst (λ (s : State). RepresentsStill ready.represents s (with_renamed f (m ∷ d) (name ∷ d))) (sym new_state) matched_after) end)
@@ -170,7 +170,7 @@ module _ (accounts : Accounts) (ok : AreAccounts accounts) (old new : KernelMode
         by_right absent (may_write accounts p root) refl (subst (λ (o : Option Target). Runs (at_name o) mid new t result)
         (nothing_there accounts ok (state old) f me t ready name d absent) on)
     by_name (Some node) is on =
-        refused_at_once accounts f me ready.caller call old new t ready result walk mid chain stays
+        refused_at_once accounts f me call old new t ready result walk mid chain stays
         EEXIST (refused_by (Some node) (may_write accounts p root) is refl) refl refl
         (has_walk accounts ok (state old) f me t ready m d _ (among_granted_all old.line t walk))
         (subst (λ (o : Option Target). Runs (at_name o) mid new t result)
@@ -188,10 +188,10 @@ module _ (accounts : Accounts) (ok : AreAccounts accounts) (old new : KernelMode
 rename_of_slash : (accounts : Accounts) (old new : KernelModel) (f : Flat) (me : ProcName) (t : ℕ) (name : Name)
     (result : Result Reply Stopped) (ready : IsReady accounts (state old) f me t)
     → Runs (rename_program (roots_of (length accounts.users)) [] name) old new t result
-    → Goal accounts f me ready.caller (calls.Rename [] name) old new t ready result
+    → Goal accounts f me (calls.Rename [] name) old new t ready result
 unfolding rename_program find_entry
 rename_of_slash accounts old new f me t name result ready run =
-    refused_at_once accounts f me ready.caller (calls.Rename [] name) old new t ready result [] old
+    refused_at_once accounts f me (calls.Rename [] name) old new t ready result [] old
     (same_kernel old) refl EBUSY refl refl refl tt run
 
 -- the program of `rename` refines its rule

@@ -62,7 +62,7 @@ module _ (accounts : Accounts) (ok : AreAccounts accounts) (old new : KernelMode
   read = read_of accounts ok (state old) f me t ready (m ∷ d)
 
   abbrev Refined : Type 0
-  Refined = Goal accounts f me ready.caller call old new t ready result
+  Refined = Goal accounts f me call old new t ready result
 
   -- the reads that the call cannot do without are those of the walk, and that of the directory itself where the way leads into it
   reads_are : (b : Bool) → (not (is_some (into accounts f p d)) && is_dir_at f (m ∷ d)) ≡ b
@@ -81,13 +81,13 @@ module _ (accounts : Accounts) (ok : AreAccounts accounts) (old new : KernelMode
   module _ (steps : List Step) (r : Reply) where
     walk_suffices : (not (is_some (into accounts f p d)) && is_dir_at f (m ∷ d)) ≡ false
         → AreAmong walk (entries_of old.line t steps)
-        → ReadsAmong accounts f me ready.caller call old new t ready steps r
+        → ReadsAmong accounts f me call old new t ready steps r
     walk_suffices none among = has_way accounts ok (state old) f me t ready (m ∷ d) _
         (subst (λ (calls : List RawCall). AreAmong calls (entries_of old.line t steps)) (sym (reads_are false none ∙ append-nil walk)) among)
 
     both_suffice : into accounts f p d ≡ None → is_dir_at f (m ∷ d) ≡ true
         → AreAmong (walk ++ read ∷ []) (entries_of old.line t steps)
-        → ReadsAmong accounts f me ready.caller call old new t ready steps r
+        → ReadsAmong accounts f me call old new t ready steps r
     both_suffice open_so_far dir among = has_way accounts ok (state old) f me t ready (m ∷ d) _
         (subst (λ (calls : List RawCall). AreAmong calls (entries_of old.line t steps))
         (sym (reads_are true (λ i. not (is_some (open_so_far i)) && dir i))) among)
@@ -128,7 +128,7 @@ module _ (accounts : Accounts) (ok : AreAccounts accounts) (old new : KernelMode
             (λ _. take_away (entry_of accounts ok (state old) f me t ready m d Dir) (λ _. Answers Done))) mid
             new t result → Refined
         by_entries false is on =
-            refused_at_once accounts f me ready.caller call old new t ready result (walk ++ read ∷ []) mid chain
+            refused_at_once accounts f me call old new t ready result (walk ++ read ∷ []) mid chain
             stays ENOTEMPTY (refused_by Dir class true false at sees is) refl refl
             (both_suffice (all_granted (walk ++ read ∷ [])) (Refused ENOTEMPTY) open_so_far is_dir_here
             (among_granted_all old.line t (walk ++ read ∷ []))) on
@@ -161,7 +161,7 @@ module _ (accounts : Accounts) (ok : AreAccounts accounts) (old new : KernelMode
           ))
           (λ sees later same longer rest. emptied class at sees later same longer rest)
       by_content class (File bytes) at on =
-          refused_at_once accounts f me ready.caller call old new t ready result walk mid chain stays
+          refused_at_once accounts f me call old new t ready result walk mid chain stays
           ENOTDIR
           (refused_by (File bytes) class (reads accounts f p (m ∷ d)) is_empty at refl refl) refl refl
           (walk_suffices (all_granted walk) (Refused ENOTDIR)
@@ -180,10 +180,10 @@ module _ (accounts : Accounts) (ok : AreAccounts accounts) (old new : KernelMode
 rmdir_of_slash : (accounts : Accounts) (old new : KernelModel) (f : Flat) (me : ProcName) (t : ℕ)
     (result : Result Reply Stopped) (ready : IsReady accounts (state old) f me t)
     → Runs (rmdir_program (roots_of (length accounts.users)) []) old new t result
-    → Goal accounts f me ready.caller (calls.Rmdir []) old new t ready result
+    → Goal accounts f me (calls.Rmdir []) old new t ready result
 unfolding rmdir_program find_entry
 rmdir_of_slash accounts old new f me t result ready run =
-    refused_at_once accounts f me ready.caller (calls.Rmdir []) old new t ready result [] old (same_kernel old)
+    refused_at_once accounts f me (calls.Rmdir []) old new t ready result [] old (same_kernel old)
     refl EBUSY refl refl refl tt run
 
 -- the program of `rmdir` refines its rule

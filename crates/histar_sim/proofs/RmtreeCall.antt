@@ -37,7 +37,7 @@ module _ (accounts : Accounts) (ok : AreAccounts accounts) (old new : KernelMode
   refusal = unless (writes accounts f ready.caller.process d) EACCES
 
   rmtree_is_refined : Runs (rmtree_program (roots_of (length accounts.users)) (m ∷ d)) old new t result
-      → Goal accounts f me ready.caller call old new t ready result
+      → Goal accounts f me call old new t ready result
   unfolding rmtree_program
   rmtree_is_refined run =
       entry_step accounts ok old new f me t ready m d call result refusal refl
@@ -57,10 +57,10 @@ module _ (accounts : Accounts) (ok : AreAccounts accounts) (old new : KernelMode
 rmtree_of_slash : (accounts : Accounts) (old new : KernelModel) (f : Flat) (me : ProcName) (t : ℕ)
     (result : Result Reply Stopped) (ready : IsReady accounts (state old) f me t)
     → Runs (rmtree_program (roots_of (length accounts.users)) []) old new t result
-    → Goal accounts f me ready.caller (calls.Rmtree []) old new t ready result
+    → Goal accounts f me (calls.Rmtree []) old new t ready result
 unfolding rmtree_program find_entry
 rmtree_of_slash accounts old new f me t result ready run =
-    refused_at_once accounts f me ready.caller (calls.Rmtree []) old new t ready result [] old (same_kernel old)
+    refused_at_once accounts f me (calls.Rmtree []) old new t ready result [] old (same_kernel old)
     refl EBUSY refl refl refl tt run
 
 -- the program of `rmtree` refines its rule

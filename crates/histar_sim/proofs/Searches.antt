@@ -153,7 +153,7 @@ module _ (accounts : Accounts) (s : State) (f : Flat) (me : ProcName) (t : ℕ) 
 module _ (accounts : Accounts) (ok : AreAccounts accounts) (old new : KernelModel) (f : Flat) (me : ProcName) (t : ℕ)
     (ready : IsReady accounts (state old) f me t) (call : UnixCall) (result : Result Reply Stopped) where
   abbrev Refined : Type 0
-  Refined = Goal accounts f me ready.caller call old new t ready result
+  Refined = Goal accounts f me call old new t ready result
 
   abbrev process : Process
   process = ready.caller.process
@@ -174,7 +174,7 @@ module _ (accounts : Accounts) (ok : AreAccounts accounts) (old new : KernelMode
   abbrev pub IsRefusedBy : Errno → List Step → Type 0
   IsRefusedBy errno steps =
       (refused accounts f me process call ≡ Some errno)
-      × ReadsAmong accounts f me ready.caller call old new t ready steps (Refused errno)
+      × ReadsAmong accounts f me call old new t ready steps (Refused errno)
 
   -- where the search for the process is refused, so is the call, once the reads of the way are made
   abbrev pub Refuses : ProcName → Type 0
@@ -209,10 +209,10 @@ module _ (accounts : Accounts) (ok : AreAccounts accounts) (old new : KernelMode
       by : (b : Bool) → sees process other ≡ b → Refined
       by false is =
           let end = refuses is in
-          refused_step accounts f me ready.caller call old new t ready result before mid chain stays
+          refused_step accounts f me call old new t ready result before mid chain stays
           EACCES end.0 (read name) _ Observe (said false is) refl refl end.1 run
       by true is =
-          granted_step accounts f me ready.caller call old new t ready result before mid chain (read name) _ (said true is) run
+          granted_step accounts f me call old new t ready result before mid chain (read name) _ (said true is) run
           (λ later bytes called right longer on.
           let reveals : status_in bytes ≡ Some (status name other) =
           ap status_in (right ∙ ap (λ (s : State). bytes_in (s.objects (place name).segment)) stays)
@@ -260,7 +260,7 @@ module _ (accounts : Accounts) (ok : AreAccounts accounts) (old new : KernelMode
         let end = refuses ESRCH (tests_are None is) (all_granted (calls_to above))
         (subst (λ (calls : List RawCall). AreAmong calls (entries_of old.line t (all_granted (calls_to above))))
         (sym same) (among_granted_all old.line t (calls_to above))) in
-        refused_at_once accounts f me ready.caller call old new t ready result (calls_to above) mid chain stays
+        refused_at_once accounts f me call old new t ready result (calls_to above) mid chain stays
         ESRCH end.0 refl refl end.1 on
     by_child (Some child) is on = enters child is on
 

@@ -61,7 +61,7 @@ module _ (accounts : Accounts) (ok : AreAccounts accounts) (me : ProcName) (call
   p = ready.caller.process
 
   abbrev Refined : Type 0
-  Refined = Goal accounts f me ready.caller Spawn old new t ready result
+  Refined = Goal accounts f me Spawn old new t ready result
 
   abbrev status : ProcessStatus
   status = status_of accounts me caller old new f result ready found
@@ -108,7 +108,7 @@ module _ (accounts : Accounts) (ok : AreAccounts accounts) (me : ProcName) (call
         → (state old).next_object + 3 < greatest
         → Runs (Answers reply) later new t result → Refined
     answered calls later kept chain is few runs =
-        answered_step accounts f me ready.caller Spawn old new t ready result calls later chain reply refl refused_nowhere tt tt
+        answered_step accounts f me Spawn old new t ready result calls later chain reply refl refused_nowhere tt tt
         (subst (λ (s : State). RepresentsStill ready.represents s (flat.with_child f me p p.chain)) (sym is)
         (spawned_matched accounts ok (state old) f ready.represents me p ready.caller.agrees ready.caller.runs few_born
         caller.home.container caller.home.segment
@@ -119,7 +119,7 @@ module _ (accounts : Accounts) (ok : AreAccounts accounts) (me : ProcName) (call
     born : (mid : KernelModel) → Chain old t (all_granted (before ++ OwnLabel ∷ [])) mid → state mid ≡ state old
         → Runs (with_labels status (own, clearance)) mid new t result → Refined
     born mid chain stays runs =
-        birth_made accounts f me ready.caller Spawn old new t ready result (state old) caller.home status (kin_of accounts own) own clearance
+        birth_made accounts f me Spawn old new t ready result (state old) caller.home status (kin_of accounts own) own clearance
         (fit accounts ok (state old) f ready.represents me p ready.caller.agrees ready.caller.runs few_born caller.home.container caller.home.segment
         (at_home accounts me caller old new f result ready found) (at_status accounts me caller old new f result ready found) t
         (at_thread accounts me caller old new f result ready found)) reply []

@@ -69,7 +69,7 @@ label_less accounts s f m d errno entries p way =
 module _ (accounts : Accounts) (ok : AreAccounts accounts) (old new : KernelModel) (f : Flat) (me : ProcName) (t : ℕ)
     (ready : IsReady accounts (state old) f me t) (result : Result Reply Stopped) where
   abbrev Refined : Path → Type 0
-  Refined q = Goal accounts f me ready.caller (calls.Stat q) old new t ready result
+  Refined q = Goal accounts f me (calls.Stat q) old new t ready result
 
   -- the label of the object at a path is asked for, once these raw calls were made
   module _ (q : Path) (there : Node) (at : get f.files q ≡ Some there) (D O : ℕ)
@@ -105,20 +105,20 @@ module _ (accounts : Accounts) (ok : AreAccounts accounts) (old new : KernelMode
           ∙ label_at accounts (state old) f ready.represents.matched q there at O numbered guard.0 guard.1) in
           ap (λ (l : Levels). class_reply (is_dir there) (class_shown accounts l)) same ∙ ap (class_reply (is_dir there)) reveals.is
 
-      all_reads : ReadsAmong accounts f me ready.caller call old new t ready (all_granted (reads ++ next ∷ [])) due
+      all_reads : ReadsAmong accounts f me call old new t ready (all_granted (reads ++ next ∷ [])) due
       all_reads = (reads, next ∷ [], are_reads, (D, O, object_at, refl), among_granted_all old.line t (reads ++ next ∷ []))
 
       label_step : Runs (ask next (λ label. class_reply (is_dir there) (class_shown accounts label))) mid new t result → Refined q
       label_step on =
-          granted_step accounts f me ready.caller call old new t ready result reads mid chain next
+          granted_step accounts f me call old new t ready result reads mid chain next
           (λ label. class_reply (is_dir there) (class_shown accounts label))
           (ap (λ (s : State). check s t next) stays ∙ passes) on
           (λ later label called right longer end.
           let same : state later ≡ state old = called.state ∙ stays in
           let entries = entries_of old.line t (all_granted (reads ++ next ∷ [])) in
-          answered_step accounts f me ready.caller call old new t ready result (reads ++ next ∷ []) later longer due due_is allowed
+          answered_step accounts f me call old new t ready result (reads ++ next ∷ []) later longer due due_is allowed
           (subst (IsBacked (state old) entries) due_is tt) (subst
-          (ReadsAmong accounts f me ready.caller call old new t ready (all_granted (reads ++ next ∷ [])))
+          (ReadsAmong accounts f me call old new t ready (all_granted (reads ++ next ∷ [])))
           due_is all_reads)
           (still_represents ready.represents _ same)
           (subst (λ (program : Program). Runs program later new t result) (revealed_is label right) end))
@@ -197,7 +197,7 @@ module _ (accounts : Accounts) (ok : AreAccounts accounts) (old new : KernelMode
 
       by_agrees : (o : Option Node) → get f.files (m ∷ d) ≡ o → Refined (m ∷ d)
       by_agrees None at =
-          refused_at_once accounts f me ready.caller stat old new t ready result walk mid chain stays
+          refused_at_once accounts f me stat old new t ready result walk mid chain stays
           ENOENT (refused_is None None open_so_far at) refl refl
           (label_less accounts (state old) f m d ENOENT _ ready.caller.process
           (has_way accounts ok (state old) f me t ready d _ (among_granted_all old.line t walk)))

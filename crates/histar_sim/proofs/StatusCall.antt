@@ -45,14 +45,14 @@ module _ (accounts : Accounts) (ok : AreAccounts accounts) (old new : KernelMode
   said other here = life_is other.exited ∙ ap life_reply (sym here)
 
   status_is_refined : Runs (status_program (roots_of (length accounts.users)) name) old new t result
-      → Goal accounts f me ready.caller call old new t ready result
+      → Goal accounts f me call old new t ready result
   unfolding status_program
   status_is_refined run =
       let reads = search_reads accounts (state old) f me t ready name in
       search_step accounts ok old new f me t ready call result name (λ home status. Answers (status_reply status.exited)) run
       (λ errno is steps among. (is, has_search accounts (state old) f me t ready name _ among))
       (λ found other here seen mid stays chain on.
-      answered_step accounts f me ready.caller call old new t ready result reads mid chain (status_reply other.exited) (said other here) found
+      answered_step accounts f me call old new t ready result reads mid chain (status_reply other.exited) (said other here) found
       (subst (IsBacked (state old) _) (said other here) (life_backed (state old) _ other.exited))
       (has_search accounts (state old) f me t ready name _ (among_granted_all old.line t reads))
       (still_represents ready.represents _ stays) on)

@@ -28,7 +28,7 @@ use Rattle.histar_programs.specs.Programs.{AnswerOf, IsAnswer, Outcome, Program,
 use Rattle.histar_programs.specs.Programs.Program.{Answers, Asks, Stops}
 use Rattle.histar_programs.specs.Parts.{refused_with, or_refused, ask, if_there, list}
 use Rattle.histar_refinement.specs.KeptNames.{RepresentsStill}
-use Rattle.histar_sim.specs.Simulation.{errno_by_rule, IsRunning, IsReady, has_category}
+use Rattle.histar_sim.specs.Simulation.{errno_by_rule, IsReady, has_category}
 use Rattle.histar_sim.proofs.Chains.{Step, all_granted, entries_of, Chain, chain_after, granted_broken_off, exhausted_broken_off}
 use Rattle.histar_sim.proofs.CallErrors.{FollowsFrom, IsBacked, ReadsAmong, chain_unanswered, granted_refined, unchanged_refined, refused_refined}
 
@@ -129,7 +129,7 @@ module _ (t : ℕ) (old new : KernelModel) where
               runs = subst (λ (d : Denied). Runs (rest (Err d)) mid new t result) same runs;
             })
 
-module _ (accounts : Accounts) (f : Flat) (me : ProcName) (caller : IsRunning f me) (call : UnixCall)
+module _ (accounts : Accounts) (f : Flat) (me : ProcName) (call : UnixCall)
     (old new : KernelModel) (t : ℕ) (ready : IsReady accounts (state old) f me t) (result : Result Reply Stopped) where
   -- what is to be shown: the call follows its rule
   abbrev pub Goal : Type 0
@@ -160,7 +160,7 @@ module _ (accounts : Accounts) (f : Flat) (me : ProcName) (caller : IsRunning f 
         by : (r : Result Reply Stopped) → IsErr r → FollowsFrom accounts f me call old new t ready.represents r
         by (Ok reply) err = absurd cc
         by (Err stopped) err =
-            chain_unanswered accounts f me caller call old new t ready (all_granted calls) chain
+            chain_unanswered accounts f me call old new t ready (all_granted calls) chain
             (granted_broken_off t (reply_to accounts f me call) old new old.line calls chain)
 
     -- a raw call that the rules grant, whatever would follow a denial
@@ -208,7 +208,7 @@ module _ (accounts : Accounts) (f : Flat) (me : ProcName) (caller : IsRunning f 
           let here = stopped_here t end.mid new result (subst (λ (program : Program). Runs program end.mid new t result) stops end.runs) in
           let last : Chain mid t ((next, Some TooBig) ∷ []) new = (end.mid, end.called, here.unchanged) in
           let chain = chain_after t old mid new (all_granted calls) ((next, Some TooBig) ∷ []) so_far last in
-          by result here.unanswered (chain_unanswered accounts f me caller call old new t ready
+          by result here.unanswered (chain_unanswered accounts f me call old new t ready
           (all_granted calls ++ (next, Some TooBig) ∷ []) chain (exhausted_broken_off t
           (reply_to accounts f me call) old mid new old.line calls next so_far last greatest))
     ]
@@ -236,11 +236,11 @@ module _ (accounts : Accounts) (f : Flat) (me : ProcName) (caller : IsRunning f 
     exhausted_category_step next rest fails unrevealed greatest runs = counted_out next rest fails unrevealed (inr greatest) runs
 
     module _ (stays : state mid ≡ state old) (errno : Errno)
-        (is : refused accounts f me caller.process call ≡ Some errno) where
+        (is : refused accounts f me ready.caller.process call ≡ Some errno) where
       -- a raw call that the rules refuse, as the flat rules refuse the call
       pub refused_step : (next : RawCall) (rest : AnswerOf next → Program) (denied : Denied)
           → check (state mid) t next ≡ Some denied → errno_for next denied ≡ Some errno → errno_by_rule denied ≡ Some errno
-          → ReadsAmong accounts f me caller call old new t ready (all_granted calls ++ (next, Some denied) ∷ [])
+          → ReadsAmong accounts f me call old new t ready (all_granted calls ++ (next, Some denied) ∷ [])
           (Refused errno) → Runs (ask next rest) mid new t result → Goal
       refused_step next rest denied fails revealed by_rule reads runs =
           elim (refused_so t mid new next (or_refused (errno_for next) rest) denied fails result runs) [
@@ -251,30 +251,30 @@ module _ (accounts : Accounts) (f : Flat) (me : ProcName) (caller : IsRunning f 
                 (subst (λ (o : Option Errno). Runs (refused_with o) end.mid new t result) revealed end.runs) in
                 let chain = chain_after t old mid new (all_granted calls) ((next, Some denied) ∷ []) so_far (end.mid, end.called, said.0) in
                 subst (FollowsFrom accounts f me call old new t ready.represents) (sym said.1)
-                (refused_refined accounts f me caller call old new t ready (said.0.state ∙ end.called.state ∙ stays)
+                (refused_refined accounts f me call old new t ready (said.0.state ∙ end.called.state ∙ stays)
                 calls next denied chain errno by_rule is reads)
           ]
 
       -- a call that is refused with no further raw call
       pub refused_at_once : is_access errno ≡ false → is_permission errno ≡ false
-          → ReadsAmong accounts f me caller call old new t ready (all_granted calls) (Refused errno)
+          → ReadsAmong accounts f me call old new t ready (all_granted calls) (Refused errno)
           → Runs (Answers (Refused errno)) mid new t result → Goal
       refused_at_once no_access no_permission reads runs =
           let end = replied t mid new (Refused errno) result runs in
           subst (FollowsFrom accounts f me call old new t ready.represents) (sym end.1)
-          (unchanged_refined accounts f me caller call old new t ready (end.0.state ∙ stays) calls
+          (unchanged_refined accounts f me call old new t ready (end.0.state ∙ stays) calls
           (kept end.0) errno no_access no_permission is reads)
 
     -- a call that replies what the flat rules answer
-    pub answered_step : (reply : Reply) → reply ≡ flat.answer f me caller.process call
-        → refused accounts f me caller.process call ≡ None
-        → IsBacked (state old) (entries_of old.line t (all_granted calls)) (flat.answer f me caller.process call)
-        → ReadsAmong accounts f me caller call old new t ready (all_granted calls)
-        (flat.answer f me caller.process call)
-        → RepresentsStill ready.represents (state mid) (changed accounts f me caller.process call)
+    pub answered_step : (reply : Reply) → reply ≡ flat.answer f me ready.caller.process call
+        → refused accounts f me ready.caller.process call ≡ None
+        → IsBacked (state old) (entries_of old.line t (all_granted calls)) (flat.answer f me ready.caller.process call)
+        → ReadsAmong accounts f me call old new t ready (all_granted calls)
+        (flat.answer f me ready.caller.process call)
+        → RepresentsStill ready.represents (state mid) (changed accounts f me ready.caller.process call)
         → Runs (Answers reply) mid new t result → Goal
     answered_step reply said is backed reads still runs =
         let end = replied t mid new reply result runs in
         subst (FollowsFrom accounts f me call old new t ready.represents) (sym (end.1 ∙ ap Ok said))
-        (granted_refined accounts f me caller call old new t ready calls (kept end.0) is backed reads
-        (subst (λ (s : State). RepresentsStill ready.represents s (changed accounts f me caller.process call)) (sym end.0.state) still))
+        (granted_refined accounts f me call old new t ready calls (kept end.0) is backed reads
+        (subst (λ (s : State). RepresentsStill ready.represents s (changed accounts f me ready.caller.process call)) (sym end.0.state) still))

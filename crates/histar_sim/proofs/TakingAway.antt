@@ -183,10 +183,10 @@ module _ (accounts : Accounts) (ok : AreAccounts accounts) (old new : KernelMode
   module _ (rule : TakesAway) (open_so_far : into accounts f p d ≡ None) (class : Class) (content : Content)
       (at : get f.files (m ∷ d) ≡ Some (record { class = class; content = content }))
       (calls : List RawCall) (has_reads : (steps : List Made) (r : Reply) → AreAmong calls (entries_of old.line t steps)
-      → ReadsAmong accounts f me ready.caller call old new t ready steps r)
+      → ReadsAmong accounts f me call old new t ready steps r)
       (mid : KernelModel) (same : state mid ≡ state old) (chain : Chain old t (all_granted calls) mid) where
     abbrev Refined : Type 0
-    Refined = Goal accounts f me ready.caller call old new t ready result
+    Refined = Goal accounts f me call old new t ready result
 
     is_dir_here : is_dir_at f d ≡ true
     is_dir_here = dir accounts ok (state old) f me t ready d open_so_far
@@ -254,12 +254,12 @@ module _ (accounts : Accounts) (ok : AreAccounts accounts) (old new : KernelMode
       -- the directory is written, and the call is answered
       written : Runs call_error cut new t result → Refined
       written on =
-          granted_step accounts f me ready.caller call old new t ready result (calls ++ unlinks ∷ []) cut so_far
+          granted_step accounts f me call old new t ready result (calls ++ unlinks ∷ []) cut so_far
           writing (λ _. Answers Done) write_said on
           (λ end done wrote right whole last.
           let all = (calls ++ unlinks ∷ []) ++ writing ∷ [] in
           let among_all = among_then old.line t calls (calls ++ unlinks ∷ []) (writing ∷ []) (among (unlinks ∷ [])) in
-          answered_step accounts f me ready.caller call old new t ready result all end whole Done (sym rule.answers) (refused_so true may)
+          answered_step accounts f me call old new t ready result all end whole Done (sym rule.answers) (refused_so true may)
           (subst (IsBacked (state old) (entries_of old.line t (all_granted all))) (sym rule.answers) tt)
           (has_reads (all_granted all) (flat.answer f me p call) among_all)
           (subst (RepresentsStill ready.represents (state end)) (sym rule.removes)
@@ -268,11 +268,11 @@ module _ (accounts : Accounts) (ok : AreAccounts accounts) (old new : KernelMode
 
     by_right : (may : Bool) → may_write accounts p root ≡ may → Runs (ask unlinks (λ _. call_error)) mid new t result → Refined
     by_right false is on =
-        refused_step accounts f me ready.caller call old new t ready result calls mid chain same
+        refused_step accounts f me call old new t ready result calls mid chain same
         EACCES (refused_so false is) unlinks (λ _. call_error) Modify (said false is) refl refl
         (has_reads _ _ (among_also old.line t calls calls ((unlinks, Some Modify) ∷ []) (among_granted_all old.line t calls))) on
     by_right true is on =
-        granted_step accounts f me ready.caller call old new t ready result calls mid chain unlinks (λ _. call_error) (said true is) on
+        granted_step accounts f me call old new t ready result calls mid chain unlinks (λ _. call_error) (said true is) on
         (λ cut done called right longer rest. written is cut (subst (λ (s : State). CutsOff s container o (state cut)) same called.state) longer rest)
 
     -- the entry is removed, or the call is refused

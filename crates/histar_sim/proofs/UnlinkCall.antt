@@ -45,7 +45,7 @@ module _ (accounts : Accounts) (ok : AreAccounts accounts) (old new : KernelMode
   walk = walk_reads accounts ok (state old) f me t ready d
 
   abbrev Refined : Type 0
-  Refined = Goal accounts f me ready.caller call old new t ready result
+  Refined = Goal accounts f me call old new t ready result
 
   -- what the flat rules refuse of the entry
   abbrev refusal : Option Errno
@@ -71,7 +71,7 @@ module _ (accounts : Accounts) (ok : AreAccounts accounts) (old new : KernelMode
         → get f.files (m ∷ d) ≡ Some (record { class = class; content = content })
         → Runs (at_entry (entry_of accounts ok (state old) f me t ready m d content)) mid new t result → Refined
     by_content class Dir at on =
-        refused_at_once accounts f me ready.caller call old new t ready result walk mid chain stays
+        refused_at_once accounts f me call old new t ready result walk mid chain stays
         EISDIR (refused_by class Dir at) refl refl
         (has_walk accounts ok (state old) f me t ready m d _ (among_granted_all old.line t walk)) on
     by_content class (File bytes) at on =
@@ -91,10 +91,10 @@ module _ (accounts : Accounts) (ok : AreAccounts accounts) (old new : KernelMode
 unlink_of_slash : (accounts : Accounts) (old new : KernelModel) (f : Flat) (me : ProcName) (t : ℕ)
     (result : Result Reply Stopped) (ready : IsReady accounts (state old) f me t)
     → Runs (unlink_program (roots_of (length accounts.users)) []) old new t result
-    → Goal accounts f me ready.caller (calls.Unlink []) old new t ready result
+    → Goal accounts f me (calls.Unlink []) old new t ready result
 unfolding unlink_program find_entry
 unlink_of_slash accounts old new f me t result ready run =
-    refused_at_once accounts f me ready.caller (calls.Unlink []) old new t ready result [] old (same_kernel old)
+    refused_at_once accounts f me (calls.Unlink []) old new t ready result [] old (same_kernel old)
     refl EBUSY refl refl refl tt run
 
 -- the program of `unlink` refines its rule

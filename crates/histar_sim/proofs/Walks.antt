@@ -297,7 +297,7 @@ module _ (accounts : Accounts) (ok : AreAccounts accounts) (s : State) (f : Flat
 module _ (accounts : Accounts) (ok : AreAccounts accounts) (old new : KernelModel) (f : Flat) (me : ProcName) (t : ℕ)
     (ready : IsReady accounts (state old) f me t) (call : UnixCall) (result : Result Reply Stopped) where
   abbrev Refined : Type 0
-  Refined = Goal accounts f me ready.caller call old new t ready result
+  Refined = Goal accounts f me call old new t ready result
 
   abbrev process : Process
   process = ready.caller.process
@@ -315,7 +315,7 @@ module _ (accounts : Accounts) (ok : AreAccounts accounts) (old new : KernelMode
   abbrev pub IsRefusedBy : Errno → List Step → Type 0
   IsRefusedBy errno steps =
       (refused accounts f me process call ≡ Some errno)
-      × ReadsAmong accounts f me ready.caller call old new t ready steps (Refused errno)
+      × ReadsAmong accounts f me call old new t ready steps (Refused errno)
 
   -- where the way into the directory is refused, so is the call, once the reads of the walk are made
   abbrev pub Refuses : Path → Type 0
@@ -344,10 +344,10 @@ module _ (accounts : Accounts) (ok : AreAccounts accounts) (old new : KernelMode
       by : (b : Bool) → reads accounts f process d ≡ b → Refined
       by false is =
           let end = refuses is in
-          refused_step accounts f me ready.caller call old new t ready result before mid chain stays
+          refused_step accounts f me call old new t ready result before mid chain stays
           EACCES end.0 (read d) rest Observe (said false is) refl refl end.1 run
       by true is =
-          granted_step accounts f me ready.caller call old new t ready result before mid chain (read d) rest (said true is) run
+          granted_step accounts f me call old new t ready result before mid chain (read d) rest (said true is) run
           (λ later bytes called right longer on.
           let bytes_are : bytes
           ≡ bytes_in ((state old).objects (place_at accounts ok (state old) f me t ready d).listing) =
@@ -371,7 +371,7 @@ module _ (accounts : Accounts) (ok : AreAccounts accounts) (old new : KernelMode
       rest (record { place = place_at accounts ok (state old) f me t ready d; entries = entries }))) run
       refuses
       (λ seen later same longer bytes is on.
-      listed_step accounts f me ready.caller call old new t ready result (before ++ read d ∷ []) later
+      listed_step accounts f me call old new t ready result (before ++ read d ∷ []) later
       longer bytes (entries_at d) is _ on (go_on seen later same longer))
 
   -- the walk is made after raw calls that were granted and have changed nothing
@@ -467,7 +467,7 @@ module _ (accounts : Accounts) (ok : AreAccounts accounts) (old new : KernelMode
           (directory_there accounts ok (state old) f me t ready n d class is) on)
       by_content class (File bytes) is on =
           let end = breaks_off ENOTDIR (into_is _ is) (ap (λ (o : Option Node). is_some_and o is_dir) is) in
-          refused_at_once accounts f me ready.caller call old new t ready result (reached d) mid chain stays
+          refused_at_once accounts f me call old new t ready result (reached d) mid chain stays
           ENOTDIR end.0 refl refl end.1
           (subst (λ (target : Option Target). Runs (at_name target) mid new t result)
           (file_there accounts ok (state old) f me t ready n d class bytes is) on)
@@ -475,7 +475,7 @@ module _ (accounts : Accounts) (ok : AreAccounts accounts) (old new : KernelMode
       next_step : (o : Option Node) → get f.files (n ∷ d) ≡ o → Runs (at_name (finite.get (entries_at d) n)) mid new t result → Refined
       next_step None is on =
           let end = breaks_off ENOENT (into_is _ is) (ap (λ (o : Option Node). is_some_and o is_dir) is) in
-          refused_at_once accounts f me ready.caller call old new t ready result (reached d) mid chain stays
+          refused_at_once accounts f me call old new t ready result (reached d) mid chain stays
           ENOENT end.0 refl refl end.1
           (subst (λ (target : Option Target). Runs (at_name target) mid new t result) (nothing_there accounts ok (state old) f me t ready n d is) on)
       next_step (Some node) is on = by_content node.class node.content is on
@@ -519,7 +519,7 @@ module _ (accounts : Accounts) (ok : AreAccounts accounts) (old new : KernelMode
     walk_step_behind d rest run refuses go_on =
         reading_step d (λ place bytes. list bytes (λ entries. rest (record { place = place; entries = entries }))) run refuses
         (λ open_so_far mid stays chain bytes is on.
-        listed_step accounts f me ready.caller call old new t ready result (reached d) mid chain bytes
+        listed_step accounts f me call old new t ready result (reached d) mid chain bytes
         (entries_at d) is _ on (go_on open_so_far mid stays chain))
 
     -- The walk to a directory, and a look-up in it: it is refused as the flat rules refuse the call, or the call goes on with where the name leads.

@@ -67,14 +67,14 @@ module _ (accounts : Accounts) (ok : AreAccounts accounts) (old new : KernelMode
       let is : label ≡ own = same_Some label own (right ∙ ap label_there thread) in
       ap reply_by is ∙ (λ i. replies.User (name_is i) (not (none_if_free l.category accounts me p i)))
 
-  whoami_is_refined : Runs (whoami_program accounts) old new t result → Goal accounts f me ready.caller calls.Whoami old new t ready result
+  whoami_is_refined : Runs (whoami_program accounts) old new t result → Goal accounts f me calls.Whoami old new t ready result
   unfolding whoami_program
   whoami_is_refined run =
-      granted_step accounts f me ready.caller calls.Whoami old new t ready result [] old (same_kernel old)
+      granted_step accounts f me calls.Whoami old new t ready result [] old (same_kernel old)
       OwnLabel (λ label. Answers (reply_by label.0))
       (caller_passes (state old) t own (rights_clearance l.category (thread_rights accounts me p)) thread) run
       (λ later label called right longer on.
-      answered_step accounts f me ready.caller calls.Whoami old new t ready result (OwnLabel ∷ []) later longer
+      answered_step accounts f me calls.Whoami old new t ready result (OwnLabel ∷ []) later longer
       (reply_by label.0) (revealed label.0 right.0) refl tt (inl (refl, tt))
       (still_represents ready.represents _ called.state) on)
 

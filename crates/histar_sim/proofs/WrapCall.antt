@@ -128,7 +128,7 @@ module _ (accounts : Accounts) (ok : AreAccounts accounts) (me : ProcName) (call
 
     module _ (m : Name) (named : IsTrue (is_name m)) (d : Path) where
       abbrev Refined : Type 0
-      Refined = Goal accounts f me ready.caller (Wrap (m ∷ d)) old new t ready result
+      Refined = Goal accounts f me (Wrap (m ∷ d)) old new t ready result
 
       abbrev walk : List RawCall
       walk = walk_reads accounts ok (state old) f me t ready d
@@ -174,7 +174,7 @@ module _ (accounts : Accounts) (ok : AreAccounts accounts) (me : ProcName) (call
             → errno_for next denied ≡ Some errno → errno_by_rule denied ≡ Some errno
             → refused accounts f me p (Wrap (m ∷ d)) ≡ Some errno → Runs (ask_or_give_back (own, clearance) next within) mid new t result → Refined
         given_back denied errno fails revealed by_rule is on =
-            given_back_step accounts f me ready.caller (Wrap (m ∷ d)) old new t ready result before mid chain
+            given_back_step accounts f me (Wrap (m ∷ d)) old new t ready result before mid chain
             errno is (own, clearance) next within denied fails revealed by_rule
             (ap (λ (s : State). check s t (SetLabel own)) counted ∙ set_label_said accounts ok (state old) f me t ready)
             (ap (λ (s : State). check (with_changed s t (with_label own)) t (SetClearance clearance)) counted
@@ -197,11 +197,11 @@ module _ (accounts : Accounts) (ok : AreAccounts accounts) (me : ProcName) (call
             ∙ ap (λ (b : Bool). unless (not b) EPERM)
             (is_nobody accounts ok (state old) f me t ready is_declared)) on
         by_right true true false is_may is_declared is_has said on =
-            spent_step accounts f me ready.caller (Wrap (m ∷ d)) old new t ready result before mid chain next
+            spent_step accounts f me (Wrap (m ∷ d)) old new t ready result before mid chain next
             (or_given_back (own, clearance) (errno_for next) within) said refl
             (inl (ap has_number counted ∙ is_has)) on
         by_right true true true is_may is_declared is_has said on =
-            allowed_step accounts f me ready.caller (Wrap (m ∷ d)) old new t ready result before mid chain next
+            allowed_step accounts f me (Wrap (m ∷ d)) old new t ready result before mid chain next
             (or_given_back (own, clearance) (errno_for next) within) said on
             (λ linked number called number_is longer rest.
             let user = some_of (user_number accounts p.user) is_declared in
@@ -229,7 +229,7 @@ module _ (accounts : Accounts) (ok : AreAccounts accounts) (me : ProcName) (call
       roomed open_so_far absent roomy mid stays chain on =
           own_label_step accounts me caller old new f result ready found (Wrap (m ∷ d)) (first ++ walk) mid chain stays (with_labels status room) on
           (λ labelled longer still rest.
-          category_step accounts f me ready.caller (Wrap (m ∷ d)) old new t ready result
+          category_step accounts f me (Wrap (m ∷ d)) old new t ready result
           ((first ++ walk) ++ OwnLabel ∷ []) labelled longer MakeCategory (in_job status (own, clearance) room) refl
           (ap (λ (s : State). check s t MakeCategory) still
           ∙ category_said (state old) t own clearance (thread accounts ok (state old) f me t ready)
@@ -249,7 +249,7 @@ module _ (accounts : Accounts) (ok : AreAccounts accounts) (me : ProcName) (call
   wrapped : (q : Path) → IsTrue (is_path q) → nat_lt (length me) most_numbers ≡ true
       → nat_lt p.born most_children ≡ true → (mid : KernelModel) → Chain old t (all_granted first) mid
       → state mid ≡ state old → Runs (with_child q status) mid new t result
-      → Goal accounts f me ready.caller (Wrap q) old new t ready result
+      → Goal accounts f me (Wrap q) old new t ready result
   wrapped [] right long few mid chain stays on =
       slash_agrees accounts old new f me t ready (Wrap []) result not_nobody (needs_room long few []) first mid stays
       chain (with_room status) on

@@ -20,7 +20,7 @@ Throughout accounts Holds f [] = Holds f
 Throughout accounts Holds f (asked ∷ calls) =
     Holds f × Throughout accounts Holds (flat_after accounts f asked.process asked.call) calls
 
--- Under the naming after these calls, the names of an older one have the numbers that they had, and no others have them.
+-- Under the naming after these calls, the names of an older one have the numbers that they had, and no other names do.
 pub record KeepsNumbers {accounts : Accounts} {s t : State} {f g : Flat} (calls : List CallLine)
     (old : ObjectsMatch accounts s f) (new : ObjectsMatch accounts t g) : Type 0 where
   -- a category that is used throughout has the number that it had
@@ -30,13 +30,14 @@ pub record KeepsNumbers {accounts : Accounts} {s t : State} {f g : Flat} (calls 
   pub purposes : (c d : CategoryName) → IsUsed accounts f c → IsUsed accounts g d → new.category d ≡ old.category c
       → d ≡ c
   pub fresh : (c : CategoryName) → (IsUsed accounts f c → ⊥) → IsUsed accounts g c → s.next_category ≤ new.category c
-  -- a file or directory that is at its path throughout has the number that it had, and so has the container of a process
+  -- what is at its path throughout has the number that it had, and so has the container of a process
   pub files : (q : Path) → Throughout accounts (λ x. is_some (get x.files q) ≡ true) f calls
       → new.naming.number (address_of q) ≡ old.naming.number (address_of q)
   pub processes : (p : ProcName) → Throughout accounts (λ x. is_some (x.processes p) ≡ true) f calls
       → new.naming.number (home_address p) ≡ old.naming.number (home_address p)
 
--- Whatever names the state before the lines of a script is represented under, the one after them is under names that keep their numbers.
+-- Whatever names the state before the lines of a script is represented under, the one after them is represented under names
+-- that keep their numbers.
 abbrev pub NamesStay : Type 0
 NamesStay =
     (accounts : Accounts) (s end : State) (f : Flat) (calls : List CallLine) (entries : List TraceEntry)

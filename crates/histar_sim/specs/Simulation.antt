@@ -80,8 +80,8 @@ pub record IsLine (accounts : Accounts) (before : State) (line : ℕ) (process :
   pub gone : reply ≡ Gone → entries ≡ []
 
 -- The line refines its rule: its reply is what the flat state says, it has the reads that the call cannot do without, and the
--- state after it represents the flat state after the call. Whatever names the state before is represented under, the one after is
--- under names that keep their numbers.
+-- state after it represents the flat state after the call. It does so under names that keep their numbers, whatever names the
+-- state before is represented under.
 pub record SimulatesLine (accounts : Accounts) (before : State) (f : Flat) (asked : CallLine) (entries : List TraceEntry) (after : State) : Type 0 where
   pub line : IsLine accounts before asked.line asked.process (reply_to accounts f asked.process asked.call) entries after
   pub reads : HasReads accounts before f (running f asked.process) asked.call (reply_to accounts f asked.process asked.call) entries
