@@ -142,6 +142,22 @@ sealed_search s v first me home at sealed below caller found o is thread =
     by None i k = cc
     by (Some last) i k = found_reached s home.container last caller (home_reached s first me home at below last i) k
 
+-- where a process is not found, none below it is
+none_below : (s : State) (first : Home) (me : ProcName) → home_at s first me ≡ None → (below : ProcName) → home_at s first (below ++ me) ≡ None
+none_below s first me none [] = none
+none_below s first me none (n ∷ below) = ap (option_and_then (λ (up : Home). child_home s up n)) (none_below s first me none below)
+
+-- so each process below one whose container is sealed, if it is found, is inside
+pub below_sealed : (s : State) (v : ℕ) (first : Home) (job : ProcName)
+    → ((now : Home) → home_at s first job ≡ Some now → IsSealed s v now.container) → (below : ProcName) → IsInsideCaller s v first (below ++ job)
+below_sealed s v first job sealed below = by (home_at s first job) refl
+  where
+    by : (o : Option Home) → home_at s first job ≡ o → IsInsideCaller s v first (below ++ job)
+    by None lost caller found =
+        let none = ap (option_and_then (caller_in s)) (none_below s first job lost below) in
+        let no : None ≡ Some caller = sym none ∙ found in cc
+    by (Some now) is caller found = sealed_search s v first job now is (sealed now is) below caller found
+
 -- ---- what hangs below the container of a process
 
 -- the category of one of these jobs is v
@@ -163,7 +179,7 @@ the_job category v (j ∷ jobs) e = elim (eqb_tells v (category (OfJob j))) [
 ]
 
 -- a guarded label has level 3 where the category is secret
-secret_three : (a b : Bool) → guarded_level a b ≡ L3 → a ≡ true
+pub secret_three : (a b : Bool) → guarded_level a b ≡ L3 → a ≡ true
 secret_three true b e = refl
 secret_three false true e = cc
 secret_three false false e = cc
@@ -287,6 +303,9 @@ module _ (accounts : Accounts) (v : ℕ) (s : State) (f : Flat) (l : ObjectsMatc
           asked_three at.0 (record { label = o.label; kind = kind_bare o.kind })
           ((l.agrees.objects at.0 (record { label = o.label; kind = kind_bare o.kind })).0 (ap bare there_is)) at.2
 
+      pub home_sealed : IsSealed s v d
+      home_sealed = record { given = given_number; tainted = below_three }
+
 pub jobs_sealed : JobsAreSealed
 jobs_sealed accounts v s f me home rep family at tainted =
     let l = rep.matched in
@@ -300,19 +319,11 @@ jobs_sealed accounts v s f me home rep family at tainted =
     sym (at_guarded (map l.category (map OfJob p.chain)) (l.category (WritesProcess me) ∷ []) v) ∙ ap (λ (L : Levels). level_of L v) label
     ∙ tainted.2 in
     let of_one = secret_three (is_in (map l.category (map OfJob p.chain)) v) (is_in (l.category (WritesProcess me) ∷ []) v) level in
-    record {
-      given = given_number accounts v s f l family me p there_is.1 of_one home.container number;
-      tainted = below_three accounts v s f l family me p there_is.1 of_one home.container number;
-    }
-
--- where a process is not found, none below it is
-none_below : (s : State) (first : Home) (me : ProcName) → home_at s first me ≡ None → (below : ProcName) → home_at s first (below ++ me) ≡ None
-none_below s first me none [] = none
-none_below s first me none (n ∷ below) = ap (option_and_then (λ (up : Home). child_home s up n)) (none_below s first me none below)
+    home_sealed accounts v s f l family me p there_is.1 of_one home.container number
 
 pub lines_stay_inside : JobLinesStayInside
-lines_stay_inside accounts v m end f lines job home later alike family made at tainted same below =
-    by (home_at (state end.kernel) end.roots.home job) refl
+lines_stay_inside accounts v m end f lines job home later alike family made at tainted same =
+    below_sealed (state end.kernel) v end.roots.home job (λ now is. subst (IsSealed (state end.kernel) v) (sym (same now is)) still)
   where
     roots : m.roots.home ≡ (roots_of (length accounts.users)).home
     roots = ap (λ r. r.home) alike.shows.roots
@@ -324,12 +335,3 @@ lines_stay_inside accounts v m end f lines job home later alike family made at t
 
     still : IsSealed (state end.kernel) v home.container
     still = attacks_keep_seals accounts v home.container m m end f lines later alike made sealed
-
-    by : (o : Option Home) → home_at (state end.kernel) end.roots.home job ≡ o
-        → IsInsideCaller (state end.kernel) v end.roots.home (below ++ job)
-    by None lost caller found =
-        let none = ap (option_and_then (caller_in (state end.kernel))) (none_below (state end.kernel) end.roots.home job lost below) in
-        let no : None ≡ Some caller = sym none ∙ found in cc
-    by (Some now) is caller found =
-        sealed_search (state end.kernel) v end.roots.home job now is
-        (subst (IsSealed (state end.kernel) v) (sym (same now is)) still) below caller found

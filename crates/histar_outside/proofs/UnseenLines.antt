@@ -32,7 +32,8 @@ use Rattle.histar_unwinding.proofs.Respect.{unseen, later_object, tainted_after}
 use Rattle.histar_unwinding.proofs.Seals.{seals_stay}
 use Rattle.histar_outside.specs.Search.{IsInsideCaller}
 use Rattle.histar_outside.specs.Attacks.{IsRawStep, AreAlikeMachines}
-use Rattle.histar_outside.proofs.Counters.{counters_rise}
+use Rattle.histar_refinement.specs.Represents.{Represents}
+use Rattle.histar_outside.proofs.Counters.{HasNames, counters_rise, names_rise}
 use Rattle.std.proofs.Common.{inl}
 
 -- a counter below the greatest number fits 64 bits once it has risen
@@ -88,18 +89,31 @@ counts s t call None new le e is =
 counts s t call (Some denied) new le e is =
     subst (λ (x : State). Counts s x) (sym is) (record { more = omega arith; later = omega arith; fits_too = le })
 
+module _ {accounts : Accounts} {s : State} {f : Flat} where
+  -- a state has its names, and what has the names of what has them has them
+  same_names : (old : Represents accounts s f) → HasNames old s
+  same_names old = record { represents = old; naming = refl; category = refl }
+
+  then_names : {t u : State} {old : Represents accounts s f} (first : HasNames old t) → HasNames first.represents u → HasNames old u
+  then_names first later = record {
+    represents = later.represents;
+    naming = later.naming ∙ first.naming;
+    category = later.category ∙ first.category;
+  }
+
 module _ (accounts : Accounts) (v : ℕ) where
-  -- What a line leaves that is not seen outside v: a machine that represents the same flat state is alike; what was sealed is sealed; and the
-  -- threads that were tainted are tainted.
-  pub record Unseen (m mid : MachineModel) (f : Flat) : Type 0 where
+  -- What a line leaves that is not seen outside v: a machine that represents the same flat state, under the same names, is alike; what was
+  -- sealed is sealed; and the threads that were tainted are tainted.
+  pub record Unseen (m mid clean : MachineModel) (f : Flat) : Type 0 where
     pub after : MachineModel
     pub alike : AreAlikeMachines accounts v mid after f
+    pub names : (old : Represents accounts (state clean.kernel) f) → HasNames old (state after.kernel)
     pub seals : (d : ℕ) → IsSealed (state m.kernel) v d → IsSealed (state mid.kernel) v d
     pub threads : (t : ℕ) → IsTaintedCaller (state m.kernel) v t → IsTaintedCaller (state mid.kernel) v t
 
   module _ (m mid clean : MachineModel) (f : Flat) (alike : AreAlikeMachines accounts v m clean f) where
     -- after a raw call of a tainted thread the clean machine has the new counters, and nothing else has changed
-    pub raw_step : (t : ℕ) (call : RawCall) → IsTaintedCaller (state m.kernel) v t → IsRawStep m mid t call → Unseen m mid f
+    pub raw_step : (t : ℕ) (call : RawCall) → IsTaintedCaller (state m.kernel) v t → IsRawStep m mid t call → Unseen m mid clean f
     raw_step t call caller step =
         let called = step.made.1 in
         let now = unseen v (state m.kernel) (state clean.kernel) (state mid.kernel) t call
@@ -141,6 +155,8 @@ module _ (accounts : Accounts) (v : ℕ) where
             users = step.users ∙ alike.users;
             runs = alike.runs;
           };
+          names = λ old. names_rise accounts (state clean.kernel) f (state mid.kernel).next_object (state mid.kernel).next_category old
+              (omega (arith, grown.more, same)) grown.fits_too (omega (arith, grown.later, categories));
           seals = λ d sealed. seals_stay v d (state m.kernel) (state mid.kernel) t call step.made.0 alike.alike.sound alike.closed (inl caller) sealed
               called.outcome called.state;
           threads = tainted_after v (state m.kernel) (state mid.kernel) t alike.alike.sound alike.closed caller call step.made.0 called.outcome
@@ -160,7 +176,7 @@ module _ (accounts : Accounts) (v : ℕ) where
 
     -- a state that stays is alike to what it was alike to
     stays : (old new : KernelModel) (clean : MachineModel) → AreAlikeMachines accounts v (with_kernel old) clean f → state new ≡ state old
-        → Unseen (with_kernel old) (with_kernel new) f
+        → Unseen (with_kernel old) (with_kernel new) clean f
     stays old new clean alike same = record {
       after = clean;
       alike = record {
@@ -171,13 +187,14 @@ module _ (accounts : Accounts) (v : ℕ) where
         users = alike.users;
         runs = alike.runs;
       };
+      names = same_names;
       seals = λ d. subst (λ (x : State). IsSealed (state old) v d → IsSealed x v d) (sym same) (λ h. h);
       threads = λ u. subst (λ (x : State). IsTaintedCaller (state old) v u → IsTaintedCaller x v u) (sym same) (λ h. h);
     }
 
     -- a tainted thread runs a program
     inside_run : (program : Program) (old new : KernelModel) (clean : MachineModel) → AreAlikeMachines accounts v (with_kernel old) clean f
-        → IsTaintedCaller (state old) v t → Completes program old new t reply → Unseen (with_kernel old) (with_kernel new) f
+        → IsTaintedCaller (state old) v t → Completes program old new t reply → Unseen (with_kernel old) (with_kernel new) clean f
     inside_run (Answers said) old new clean alike caller made = stays old new clean alike made.0.state
     inside_run (Asks call next) old new clean alike caller made =
         let step = raw_step (with_kernel old) (with_kernel made.0) clean f alike t call caller (asked_step call made.1 old made.0 made.2) in
@@ -185,6 +202,7 @@ module _ (accounts : Accounts) (v : ℕ) where
         record {
           after = more.after;
           alike = more.alike;
+          names = λ from. then_names (step.names from) (more.names (step.names from).represents);
           seals = λ d sealed. more.seals d (step.seals d sealed);
           threads = λ u tainted. more.threads u (step.threads u tainted);
         }
@@ -194,11 +212,11 @@ module _ (accounts : Accounts) (v : ℕ) where
   module _ (m mid clean : MachineModel) (f : Flat) (a : RepliedCall) (alike : AreAlikeMachines accounts v m clean f)
       (inside : IsInsideCaller (state m.kernel) v m.roots.home a.call.process) where
     by_caller : (o : Option Caller) → caller_at (state m.kernel) m.roots.home a.call.process ≡ o
-        → AnswersFound o m mid a.call.line a.call.process a.call.call (Ok a.reply) → Unseen m mid f
+        → AnswersFound o m mid a.call.line a.call.process a.call.call (Ok a.reply) → Unseen m mid clean f
     unfolding Runs
     by_caller None at answered =
-        subst (λ (x : MachineModel). Unseen m x f) (sym answered.1)
-        (record { after = clean; alike = alike; seals = λ d sealed. sealed; threads = λ t tainted. tainted })
+        subst (λ (x : MachineModel). Unseen m x clean f) (sym answered.1)
+        (record { after = clean; alike = alike; names = same_names; seals = λ d sealed. sealed; threads = λ t tainted. tainted })
     by_caller (Some caller) at answered =
         let made =
         inside_run m.roots m.users caller.thread a.reply f (program_of m.users m.roots a.call.process caller a.call.call)
@@ -215,14 +233,15 @@ module _ (accounts : Accounts) (v : ℕ) where
             users = answered.users ∙ made.alike.users;
             runs = made.alike.runs;
           };
+          names = made.names;
           seals = made.seals;
           threads = made.threads;
         }
 
     -- a line of a process inside is not seen
-    pub inside_step : AnswersLine m mid a.call.line a.call.process a.call.call (Ok a.reply) → Unseen m mid f
+    pub inside_step : AnswersLine m mid a.call.line a.call.process a.call.call (Ok a.reply) → Unseen m mid clean f
     inside_step answered = by m.is_stopped answered
       where
-        by : (b : Bool) → AnswersIf b m mid a.call.line a.call.process a.call.call (Ok a.reply) → Unseen m mid f
+        by : (b : Bool) → AnswersIf b m mid a.call.line a.call.process a.call.call (Ok a.reply) → Unseen m mid clean f
         by true h = absurd (false≢true h.0)
         by false h = by_caller (caller_at (state m.kernel) m.roots.home a.call.process) refl h
