@@ -32,7 +32,7 @@ denial_has_reply Modify = (refl, refl)
 denial_has_reply Range = (refl, refl)
 denial_has_reply Gate = (refl, refl)
 denial_has_reply NoEntry = (refl, refl)
-denial_has_reply NoThread = tt
+denial_has_reply NoThread = (refl, refl)
 denial_has_reply BadKind = (refl, refl)
 denial_has_reply TooBig = tt
 
@@ -42,7 +42,7 @@ denial_of_write_has_reply Modify = (refl, refl)
 denial_of_write_has_reply Range = (refl, refl)
 denial_of_write_has_reply Gate = (refl, refl)
 denial_of_write_has_reply NoEntry = (refl, refl)
-denial_of_write_has_reply NoThread = tt
+denial_of_write_has_reply NoThread = (refl, refl)
 denial_of_write_has_reply BadKind = (refl, refl)
 denial_of_write_has_reply TooBig = (refl, refl)
 

@@ -1,7 +1,7 @@
 -- What a refusal of the kernel means for a call: an errno, or the end of the call without a reply.
 use Rattle.std.specs.Prelude.{Option, None, Some, Result, Ok, Err}
 use Rattle.histar_flat.specs.declared.replies.Errno.{Errno}
-use Rattle.histar_flat.specs.declared.replies.Errno.TheVariants.{EACCES, EPERM, ENOENT, EFBIG}
+use Rattle.histar_flat.specs.declared.replies.Errno.TheVariants.{EACCES, EPERM, ENOENT, EFBIG, ESRCH}
 use Rattle.histar_flat.specs.declared.replies.Reply.{Reply}
 use Rattle.histar_flat.specs.declared.replies.Reply.TheVariants as replies
 use Rattle.histar_rules.specs.declared.raw.Denied.{Denied}
@@ -16,14 +16,15 @@ use Rattle.histar_programs.specs.declared.call_error.CallError.TheVariants.{Refu
 use Rattle.histar_programs.specs.declared.call_error.Stopped.{Stopped}
 
 -- The errno of a denial: EACCES where labels forbid it, EPERM where a label is outside its range, ENOENT where an entry leads to what isn't
--- there. No state that represents a flat state has such an entry, but a job may write one into a directory of its own.
+-- there, ESRCH where the thread of the call is no more. In a state that represents a flat state neither of the last two comes, but a job may
+-- write such entries into its own segments.
 abbrev pub errno_of : Denied → Option Errno
 errno_of Observe = Some EACCES
 errno_of Modify = Some EACCES
 errno_of Range = Some EPERM
 errno_of Gate = Some EACCES
 errno_of NoEntry = Some ENOENT
-errno_of NoThread = None
+errno_of NoThread = Some ESRCH
 errno_of BadKind = Some ENOENT
 errno_of TooBig = None
 
@@ -36,7 +37,7 @@ write_errno_of Gate = Some EACCES
 write_errno_of NoEntry = Some ENOENT
 write_errno_of BadKind = Some ENOENT
 write_errno_of TooBig = Some EFBIG
-write_errno_of NoThread = None
+write_errno_of NoThread = Some ESRCH
 
 -- the errno of a denial of this raw call
 abbrev pub errno_for : RawCall → Denied → Option Errno

@@ -9,7 +9,7 @@ use std::alloc::{AllocError, AllocFailed};
 
 /// A call ends without a reply: memory ran out, or the kernel denied what has no errno. The machine makes
 /// no more calls then. On a machine that represents a flat state, only lack of memory and a counter at its
-/// greatest value do this. No bytes that a job writes into its own segments do it on any machine.
+/// greatest value do this. Bytes that a job forges in its own segments end its calls by an errno instead.
 #[derive(Clone, Copy, Debug, PartialEq, Eq)]
 pub struct Stopped;
 
@@ -47,7 +47,8 @@ impl From<Errno> for CallError {
 
 /// A denial that has no errno stops the call. On a machine that represents a flat state the objects that
 /// the library's calls name are there, but an entry that a job has forged may lead to what isn't there: that
-/// is ENOENT, as if there were no such entry. A write has `written` for its own errno.
+/// is ENOENT, as if there were no such entry. A process may so remove its own thread in the midst of a call:
+/// that is ESRCH. A write has `written` for its own errno.
 impl From<Refusal> for CallError {
     ghost use Rattle.std.specs.Prelude.{◌≡◌};
     ghost use Rattle.histar_programs.specs.Refusals.{errno_of, call_error_of};
@@ -139,6 +140,7 @@ fn errno_of(denied: Denied) -> Option<Errno>
         Denied::Observe | Denied::Modify | Denied::Gate => Some(Errno::EACCES),
         Denied::Range => Some(Errno::EPERM),
         Denied::NoEntry | Denied::BadKind => Some(Errno::ENOENT),
-        Denied::NoThread | Denied::TooBig => None,
+        Denied::NoThread => Some(Errno::ESRCH),
+        Denied::TooBig => None,
     }
 }

@@ -35,7 +35,7 @@ denial_has_reply own Modify = (refl, (λ _. (refl, (λ _. (refl, refl)), (λ _. 
 denial_has_reply own Range = (refl, (λ _. (refl, (λ _. (refl, refl)), (λ _. refl))), (λ _. refl))
 denial_has_reply own Gate = (refl, (λ _. (refl, (λ _. (refl, refl)), (λ _. refl))), (λ _. refl))
 denial_has_reply own NoEntry = (refl, (λ _. (refl, (λ _. (refl, refl)), (λ _. refl))), (λ _. refl))
-denial_has_reply own NoThread = tt
+denial_has_reply own NoThread = (refl, (λ _. (refl, (λ _. (refl, refl)), (λ _. refl))), (λ _. refl))
 denial_has_reply own BadKind = (refl, (λ _. (refl, (λ _. (refl, refl)), (λ _. refl))), (λ _. refl))
 denial_has_reply own TooBig = tt
 
