@@ -12,4 +12,4 @@ mod session;
 mod shapes;
 mod texts;
 
-pub use session::lint;
+pub use session::{lint, sentence_on};

@@ -90,7 +90,7 @@ fn write_finding<W: Sink>(
         (is_write_failed result) }
     ensures runs { Lints file.now text.now (W.written writer.old) (W.written writer.new) result }
 {
-    let said = said_at(alloc, text, line)?;
+    let said = sentence_on(alloc, text, line)?;
     let found = finding(alloc, file, line, said.as_slice())?;
     write_bytes(writer, found.as_slice())?;
     Ok(false)
@@ -137,8 +137,8 @@ fn said_of(alloc: Global, text: &[u8], script: Script, rest: &[u8]) -> Result<Ve
     }
 }
 
-/// Returns the sentence for the bad line of this number. The lines before it are read once more.
-fn said_at(alloc: Global, text: &[u8], bad: u32) -> Result<Vec<u8>, Fault>
+/// Returns the sentence for the bad line of this number of a text. The lines before it are read once more.
+pub fn sentence_on(alloc: Global, text: &[u8], bad: u32) -> Result<Vec<u8>, Fault>
     requires short { length text.now ≤ most_script_bytes }
     requires bad { reading text.now ≡ Err (Fault.BadScript bad) }
     ensures ok { IfOk result (λ said. IsFinding text.now bad said.items) }

@@ -1,3 +1,5 @@
 -- The lemmas of this crate.
 pub mod Replies
 pub mod Outputs
+pub mod Trying
+pub mod BadCalls

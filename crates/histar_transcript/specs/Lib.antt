@@ -1,3 +1,7 @@
 -- The definitions of this crate that contracts cite.
 pub mod Transcript
 pub mod Session
+pub mod Extended
+pub mod Tried
+pub mod TrySession
+pub mod TryLaws

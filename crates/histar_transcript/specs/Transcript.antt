@@ -8,12 +8,16 @@ use Rattle.histar_script.specs.Lines.{lines_of, most_script_lines, split_word}
 abbrev pub reply_number : List ℕ → Option ℕ
 reply_number line = number_of (λ n. nat_le n most_script_lines) (split_word line).0
 
+-- the number of a line of the script, two spaces, the call on that line, two spaces, and a reply
+abbrev pub call_and_reply : List (List ℕ) → ℕ → List ℕ → List ℕ
+call_and_reply script n reply = decimal n ++ codes "  " ++ slice_index_or script (n - 1) [] ++ codes "  " ++ reply
+
 -- A line of a run's output, with the call that it answers: a reply begins with the number of its call's line, and the text of that line is
 -- put between the number and the reply, with two spaces on each side. Other lines stay as they are.
 abbrev pub with_call : List (List ℕ) → List ℕ → List ℕ
 with_call script line = elim (reply_number line) [
   | None ↦ line
-  | Some n ↦ decimal n ++ codes "  " ++ slice_index_or script (n - 1) [] ++ codes "  " ++ unwrap_or (split_word line).1 []
+  | Some n ↦ call_and_reply script n (unwrap_or (split_word line).1 [])
 ]
 
 -- the output of a run of the script in a text, with each reply after its call

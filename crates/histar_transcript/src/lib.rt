@@ -1,7 +1,12 @@
-//! The output of a run with each reply after its call.
+//! The output of a run with each reply after its call, and the replies to calls that are tried behind a script.
 #![tactic(auto)]
 
+mod extended;
 mod session;
 mod transcript;
+mod tried;
+pub mod try_laws;
+mod try_session;
 
 pub use session::transcribe;
+pub use try_session::{Tried, try_calls};

@@ -33,7 +33,7 @@ pub(crate) fn transcript_of(
 }
 
 /// Returns the lines of a text.
-fn lines_in<'a>(alloc: Global, text: &'a [u8]) -> Result<Vec<&'a [u8]>, AllocError>
+pub(crate) fn lines_in<'a>(alloc: Global, text: &'a [u8]) -> Result<Vec<&'a [u8]>, AllocError>
     ensures { IfOk result (λ lines. map (λ line. line.now) lines.items ≡ lines_of text.entry.now) }
 {
     let mut lines = Vec::new(alloc);
@@ -59,7 +59,12 @@ fn push_with_call(text: &mut Vec<u8>, lines: &[&[u8]], line: &[u8]) -> Result<()
 }
 
 /// Adds the number of a line, its call and the reply.
-fn push_reply(text: &mut Vec<u8>, number: u64, call: &[u8], reply: &[u8]) -> Result<(), AllocError>
+pub(crate) fn push_reply(
+    text: &mut Vec<u8>,
+    number: u64,
+    call: &[u8],
+    reply: &[u8],
+) -> Result<(), AllocError>
     ensures { OnOk result (text.new.items ≡ text.old.items
         ++ (decimal number ++ codes "  " ++ call.now ++ codes "  " ++ reply.now)) }
 {
@@ -81,7 +86,7 @@ fn or_nothing(rest: Option<&[u8]>) -> &[u8]
 }
 
 /// Returns the line of this number, or an empty one if there is none.
-fn call_on<'a>(lines: &[&'a [u8]], number: u64) -> &'a [u8]
+pub(crate) fn call_on<'a>(lines: &[&'a [u8]], number: u64) -> &'a [u8]
     ensures { result.now ≡ slice_index_or (map (λ line. line.now) lines.now) (number - 1) [] }
 {
     match lines.get((number as usize).saturating_sub(1)) {

@@ -1,7 +1,7 @@
--- The invariants and measures of `said_at` of src/session.rt.
+-- The invariants and measures of `sentence_on` of src/session.rt.
 use Rattle.std.proofs.Common.{◌-◌}
 use Rattle.histar_lint.proofs.LinesBefore.{IsAt}
-use Rattle.histar_lint.proofs.session.said_at.Given as goal
+use Rattle.histar_lint.proofs.session.sentence_on.Given as goal
 
 abbrev pub decreases-right : goal.decreases-right
 decreases-right l = l.bad - l.count

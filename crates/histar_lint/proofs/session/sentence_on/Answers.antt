@@ -1,11 +1,11 @@
--- Proves the goals of `said_at` of src/session.rt that the search leaves open.
+-- Proves the goals of `sentence_on` of src/session.rt that the search leaves open.
 use Rattle.std.proofs.Common.{◌≡◌, length, sym, subst, arith}
 use Rattle.std.proofs.lemmas.Bool.{cases_lt}
 use Rattle.std.proofs.Common.{inl, inr}
 use Rattle.histar_script.specs.Script.{ScriptModel}
 use Rattle.histar_script.proofs.LineLemmas.{no_lines}
 use Rattle.histar_lint.proofs.LinesBefore.{IsAt, at_start, has_line, is_ahead, is_finding, is_right, is_said_of, went_on}
-use Rattle.histar_lint.proofs.session.said_at.Goals as goal
+use Rattle.histar_lint.proofs.session.sentence_on.Goals as goal
 
 pub right-init : goal.right-init
 right-init c =
