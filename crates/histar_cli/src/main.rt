@@ -4,17 +4,18 @@
 mod tasks;
 
 use crate::tasks::{
-    access_file, check_each_job, check_file, diff_files, lint_file, report_file, run_file,
-    run_raw_file, test_files, trust_file,
+    access_file, check_each_job, check_file, diff_files, flows_file, leak_file, lint_file,
+    report_file, run_file, run_raw_file, test_files, trust_file, try_file,
 };
 use histar_command_line::{CheckFlags, Task, read_words};
 use histar_console::{Outcome, REFUSED, command_line, outcome_status, refuse, report};
 use histar_flat::{ProcName, read_path, read_process};
 use histar_script::Fault;
+use histar_transcript::Tried;
 use std::alloc::Global;
-use std::io;
 use std::process::ExitCode;
 use std::rt::{Env, Files};
+use std::{io, str};
 
 /// A word of the command line that can't be read.
 #[derive(Drop)]
@@ -25,6 +26,8 @@ enum BadWord {
     Line,
     /// The path is not a path.
     Path,
+    /// The call of this number, which counts from 1, is bad. The sentence says what is wrong.
+    Call(usize, Vec<u8>),
 }
 
 /// Reads the number of a line.
@@ -94,16 +97,60 @@ fn trust_at<R: Files + Input + Print>(
     Ok(trust_file(rt, alloc, &path, file, line))
 }
 
-/// Does a task. It does nothing, and opens no file, if a word of the task can't be read.
+/// Prints the calls by which processes leak or change what is at this path after the script in a file, or before
+/// this line.
+fn leak_at<R: Files + Input + Print>(
+    rt: &R,
+    alloc: Global,
+    path: &str,
+    file: &str,
+    line: Option<&str>,
+) -> Performed {
+    let path = read_path(path.as_bytes()).ok_or(BadWord::Path)?;
+    let line = read_line(line)?;
+    Ok(leak_file(rt, alloc, &path, file, line))
+}
+
+/// Prints which process can pass on what it knows to which after the script in a file, or before this line.
+fn flows_at<R: Files + Input + Print>(
+    rt: &R,
+    alloc: Global,
+    path: &str,
+    line: Option<&str>,
+) -> Performed {
+    let line = read_line(line)?;
+    Ok(flows_file(rt, alloc, path, line))
+}
+
+/// Makes calls behind the script in a file, or before this line of it, and prints their replies.
+fn try_at<R: Files + Input + Print>(
+    rt: &R,
+    alloc: Global,
+    path: &str,
+    calls: &[&str],
+    line: Option<&str>,
+) -> Performed {
+    let line = read_line(line)?;
+    match try_file(rt, alloc, path, calls, line) {
+        Ok(Tried::Made) => Ok(Ok(Outcome::Done)),
+        Ok(Tried::BadCall(number, sentence)) => Err(BadWord::Call(number, sentence)),
+        Err(fault) => Ok(Err(fault)),
+    }
+}
+
+/// Does a task. It prints nothing if a word of the task can't be read.
 fn perform<R: Files + Input + Print>(rt: &R, alloc: Global, task: &Task<'_>) -> Performed {
     match task {
         Task::Run(path, flags) => Ok(run_file(rt, alloc, path, *flags)),
+        Task::Try(path, calls, line) => try_at(rt, alloc, path, calls.as_slice(), *line),
         Task::Raw(path, explain) => Ok(run_raw_file(rt, alloc, path, *explain)),
         Task::Check(job, path, flags) => check_job(rt, alloc, job, path, *flags),
         Task::CheckAll(path, flags) => Ok(check_each_job(rt, alloc, path, *flags)),
         Task::Access(path, line) => access_at(rt, alloc, path, *line),
         Task::Diff(old, new, line) => diff_at(rt, alloc, old, new, *line),
         Task::Trust(path, file, line) => trust_at(rt, alloc, path, file, *line),
+        Task::Leak(path, file, line) => leak_at(rt, alloc, path, file, *line),
+        Task::Flows(path, line) => flows_at(rt, alloc, path, *line),
         Task::Lint(path, is_raw) => Ok(lint_file(rt, alloc, path, *is_raw)),
         Task::Report(path) => Ok(report_file(rt, alloc, path)),
         Task::Test(files) => Ok(test_files(rt, alloc, files.as_slice())),
@@ -112,13 +159,21 @@ fn perform<R: Files + Input + Print>(rt: &R, alloc: Global, task: &Task<'_>) -> 
 
 /// Reports a word that can't be read, and returns the status.
 fn refuse_word<R: Eprint>(rt: &R, word: &BadWord) -> u8 {
-    let which = match word {
-        BadWord::Job => "job",
-        BadWord::Line => "line",
-        BadWord::Path => "path",
+    let _ = match word {
+        BadWord::Job => eprintln!(rt; "histar: bad job"),
+        BadWord::Line => eprintln!(rt; "histar: bad line"),
+        BadWord::Path => eprintln!(rt; "histar: bad path"),
+        BadWord::Call(number, sentence) => refuse_call(rt, *number, sentence.as_slice()),
     };
-    let _ = eprintln!(rt; "histar: bad {which}");
     REFUSED
+}
+
+/// Reports a bad call and what is wrong with it.
+fn refuse_call<R: Eprint>(rt: &R, number: usize, sentence: &[u8]) -> io::Result<()> {
+    match str::from_utf8(sentence) {
+        Ok(sentence) => eprintln!(rt; "histar: bad call {number}: {sentence}"),
+        Err(_) => eprintln!(rt; "histar: bad call {number}"),
+    }
 }
 
 /// Writes `clap`'s answer in place of a task, and returns the status.

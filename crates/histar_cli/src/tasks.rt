@@ -10,6 +10,7 @@ use histar_comparison::{JobVerdict, Verdict, compare, compare_all, explain_compa
 use histar_console::{Outcome, finish, open, output, run_plain};
 use histar_flat::{Path, ProcName};
 use histar_io::read_input;
+use histar_leak::leak;
 use histar_lint::lint;
 use histar_raw_explain::explain_raw_script;
 use histar_raw_lint::lint_raw;
@@ -19,8 +20,8 @@ use histar_run_explain::explain_script;
 use histar_script::Fault;
 use histar_shell::Options;
 use histar_test::{TestFile, test};
-use histar_transcript::transcribe;
-use histar_trust::trust;
+use histar_transcript::{Tried, transcribe, try_calls};
+use histar_trust::{flows, trust};
 use std::alloc::{AllocError, Global};
 use std::io::{self, Write};
 use std::rt::Files;
@@ -192,6 +193,53 @@ pub fn trust_file<R: Files + Input + Print>(
     let mut writer = output(rt, alloc)?;
     let done = trust(alloc, path, &mut reader, &mut writer, at);
     finish(done.map(|_| Outcome::Done), writer)
+}
+
+/// Prints the calls by which processes leak or change what is at a path after the calls of the script in a file,
+/// or before a line.
+pub fn leak_file<R: Files + Input + Print>(
+    rt: &R,
+    alloc: Global,
+    path: &Path,
+    file: &str,
+    at: Option<u32>,
+) -> Result<Outcome, Fault> {
+    let mut reader = open(rt, file)?;
+    let mut writer = output(rt, alloc)?;
+    let done = leak(alloc, path, &mut reader, &mut writer, at);
+    finish(done.map(|_| Outcome::Done), writer)
+}
+
+/// Prints which process can pass on what it knows to which after the calls of the script in a file, or before a
+/// line.
+pub fn flows_file<R: Files + Input + Print>(
+    rt: &R,
+    alloc: Global,
+    path: &str,
+    at: Option<u32>,
+) -> Result<Outcome, Fault> {
+    let mut reader = open(rt, path)?;
+    let mut writer = output(rt, alloc)?;
+    let done = flows(alloc, &mut reader, &mut writer, at);
+    finish(done.map(|_| Outcome::Done), writer)
+}
+
+/// Makes calls behind the script in a file, or before a line of it, and prints their replies.
+pub fn try_file<R: Files + Input + Print>(
+    rt: &R,
+    alloc: Global,
+    path: &str,
+    calls: &[&str],
+    at: Option<u32>,
+) -> Result<Tried, Fault> {
+    let mut reader = open(rt, path)?;
+    let mut writer = output(rt, alloc)?;
+    let mut texts = Vec::with_capacity(alloc, calls.len())?;
+    for call in calls {
+        texts.push(call.as_bytes())?;
+    }
+    let done = try_calls(alloc, texts.as_slice(), &mut reader, &mut writer, at);
+    finish(done, writer)
 }
 
 /// Prints why the script in a file is bad, if it is, or the same of the raw session in it.

@@ -56,6 +56,10 @@ abbrev pub run_app : App
 run_app = subcommand_app (codes "run")
     (flag_rule (codes "tree") ∷ flag_rule (codes "trace") ∷ flag_rule (codes "explain") ∷ flag_rule (codes "calls") ∷ word_rule (codes "FILE") ∷ [])
 
+-- `try [--at LINE] FILE CALL..`
+abbrev pub try_app : App
+try_app = subcommand_app (codes "try") (option_rule (codes "LINE") (codes "at") ∷ word_rule (codes "FILE") ∷ words_rule (codes "CALL") ∷ [])
+
 -- `raw [--explain] FILE`
 abbrev pub raw_app : App
 raw_app = subcommand_app (codes "raw") (flag_rule (codes "explain") ∷ word_rule (codes "FILE") ∷ [])
@@ -77,6 +81,14 @@ diff_app = subcommand_app (codes "diff") (option_rule (codes "LINE") (codes "at"
 abbrev pub trust_app : App
 trust_app = subcommand_app (codes "trust") (option_rule (codes "LINE") (codes "at") ∷ word_rule (codes "PATH") ∷ word_rule (codes "FILE") ∷ [])
 
+-- `leak [--at LINE] PATH FILE`
+abbrev pub leak_app : App
+leak_app = subcommand_app (codes "leak") (option_rule (codes "LINE") (codes "at") ∷ word_rule (codes "PATH") ∷ word_rule (codes "FILE") ∷ [])
+
+-- `flows [--at LINE] FILE`
+abbrev pub flows_app : App
+flows_app = subcommand_app (codes "flows") (option_rule (codes "LINE") (codes "at") ∷ word_rule (codes "FILE") ∷ [])
+
 -- `lint [--raw] FILE`
 abbrev pub lint_app : App
 lint_app = subcommand_app (codes "lint") (flag_rule (codes "raw") ∷ word_rule (codes "FILE") ∷ [])
@@ -92,4 +104,5 @@ report_app = subcommand_app (codes "report") (word_rule (codes "FILE") ∷ [])
 -- the program with its subcommands
 abbrev pub histar_app : App
 histar_app = fold with_subcommand named_app
-    (run_app.top ∷ raw_app.top ∷ check_app.top ∷ access_app.top ∷ diff_app.top ∷ trust_app.top ∷ lint_app.top ∷ report_app.top ∷ test_app.top ∷ [])
+    (run_app.top ∷ try_app.top ∷ raw_app.top ∷ check_app.top ∷ access_app.top ∷ diff_app.top ∷ trust_app.top ∷ leak_app.top ∷ flows_app.top
+    ∷ lint_app.top ∷ report_app.top ∷ test_app.top ∷ [])

@@ -4,7 +4,7 @@ use Rattle.std.specs.Str.{bytes_eq}
 use Rattle.clap.specs.Words.{Row, Text, all_of, first_of}
 use Rattle.histar_command_line.specs.declared.task.CheckFlags.{CheckFlags}
 use Rattle.histar_command_line.specs.declared.task.Task.{Task}
-use Rattle.histar_command_line.specs.declared.task.Task.TheVariants.{Run, Raw, Check, CheckAll, Access, Diff, Trust, Lint, Report, Test}
+use Rattle.histar_command_line.specs.declared.task.Task.TheVariants.{Run, Try, Raw, Check, CheckAll, Access, Diff, Trust, Leak, Flows, Lint, Report, Test}
 
 -- the value of a flag that was given
 abbrev pub is_given : Option Text → Bool
@@ -18,12 +18,15 @@ is_set name rows = is_given (first_of name rows)
 -- the name of the subcommand of a task
 abbrev pub subcommand : Task → Text
 subcommand (Run file flags) = codes "run"
+subcommand (Try file calls at) = codes "try"
 subcommand (Raw file explain) = codes "raw"
 subcommand (Check job file flags) = codes "check"
 subcommand (CheckAll file flags) = codes "check"
 subcommand (Access file at) = codes "access"
 subcommand (Diff old new at) = codes "diff"
 subcommand (Trust path file at) = codes "trust"
+subcommand (Leak path file at) = codes "leak"
+subcommand (Flows file at) = codes "flows"
 subcommand (Lint file is_raw) = codes "lint"
 subcommand (Report file) = codes "report"
 subcommand (Test files) = codes "test"
@@ -40,6 +43,10 @@ HasArguments (Run file flags) rows =
     × (flags.trace ≡ is_set (codes "trace") rows)
     × (flags.explain ≡ is_set (codes "explain") rows)
     × (flags.calls ≡ is_set (codes "calls") rows)
+HasArguments (Try file calls at) rows =
+    (first_of (codes "FILE") rows ≡ Some file.now)
+    × (all_of (codes "CALL") rows ≡ Some (map (λ call. call.now) calls.items))
+    × (option_map (λ line. line.now) at ≡ first_of (codes "LINE") rows)
 HasArguments (Raw file explain) rows =
     (first_of (codes "FILE") rows ≡ Some file.now)
     × (explain ≡ is_set (codes "explain") rows)
@@ -63,6 +70,13 @@ HasArguments (Diff old new at) rows =
 HasArguments (Trust path file at) rows =
     (first_of (codes "PATH") rows ≡ Some path.now)
     × (first_of (codes "FILE") rows ≡ Some file.now)
+    × (option_map (λ line. line.now) at ≡ first_of (codes "LINE") rows)
+HasArguments (Leak path file at) rows =
+    (first_of (codes "PATH") rows ≡ Some path.now)
+    × (first_of (codes "FILE") rows ≡ Some file.now)
+    × (option_map (λ line. line.now) at ≡ first_of (codes "LINE") rows)
+HasArguments (Flows file at) rows =
+    (first_of (codes "FILE") rows ≡ Some file.now)
     × (option_map (λ line. line.now) at ≡ first_of (codes "LINE") rows)
 HasArguments (Lint file is_raw) rows =
     (first_of (codes "FILE") rows ≡ Some file.now)

@@ -22,7 +22,7 @@ const AFTER_HELP: &str = "Example:
 Exit status:
   0  it was done, or help was asked for
   1  the script or the session is bad or too long
-  2  the command line is refused, JOB is no process, PATH is no path, or LINE is no number
+  2  the command line is refused, JOB is no process, PATH is no path, LINE is no number, or CALL is no call
   3  out of memory
   4  FILE can't be read, or the output can't be written
   5  what was asked is not so
@@ -117,11 +117,14 @@ pub(crate) fn command<'a>(alloc: Global) -> Result<Command<'a>, AllocError>
     let histar = named(alloc)?;
     let forms = [
         forms::run(),
+        forms::try_calls(),
         forms::raw(),
         forms::check(),
         forms::access(),
         forms::diff(),
         forms::trust(),
+        forms::leak(),
+        forms::flows(),
         forms::lint(),
         forms::report(),
         forms::test(),

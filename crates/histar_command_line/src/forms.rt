@@ -1,7 +1,7 @@
 //! The forms of the subcommands: their names, their arguments and their help.
 ghost use Rattle.std.specs.Prelude.{◌≡◌};
 ghost use Rattle.histar_command_line.specs.Forms.{form_app, run_app, raw_app, check_app, access_app, diff_app, lint_app};
-ghost use Rattle.histar_command_line.specs.Forms.{report_app, test_app, trust_app};
+ghost use Rattle.histar_command_line.specs.Forms.{flows_app, leak_app, report_app, test_app, trust_app, try_app};
 
 /// An argument of a subcommand.
 #[derive(Clone, Copy)]
@@ -53,6 +53,35 @@ pub(crate) fn run<'a>() -> Form<'a>
             Argument::Flag("explain", "Print why each denied raw call was denied"),
             Argument::Flag("calls", "Print each reply behind its call"),
             Argument::Word("FILE", SCRIPT),
+        ],
+    }
+}
+
+/// Returns `try [--at LINE] FILE CALL..`.
+pub(crate) fn try_calls<'a>() -> Form<'a>
+    ensures { form_app result ≡ try_app }
+{
+    Form {
+        name: "try",
+        about: "Run a script, make more calls behind it, and print the replies to these alone",
+        after_help: "Each CALL is a line of a script. It is printed with its number and its reply, as `run --calls` prints it.
+
+Example:
+  histar try --at 21 examples/scan.histar '0.2 read /tmp/letters' '0.2 stat /tmp/letters'
+prints
+  21  0.2 read /tmp/letters  EACCES
+  22  0.2 stat /tmp/letters  ok file alice private",
+        arguments: &[
+            Argument::Valued(
+                "LINE",
+                "at",
+                "Make the calls before this line in place of the end",
+            ),
+            Argument::Word("FILE", SCRIPT),
+            Argument::Words(
+                "CALL",
+                "The calls, each `PROC CALL` as on a line of a script",
+            ),
         ],
     }
 }
@@ -187,6 +216,53 @@ prints, among others, the line
         arguments: &[
             Argument::Valued("LINE", "at", AT),
             Argument::Word("PATH", "The path of a file or a directory"),
+            Argument::Word("FILE", SCRIPT),
+        ],
+    }
+}
+
+/// Returns `leak [--at LINE] PATH FILE`.
+pub(crate) fn leak<'a>() -> Form<'a>
+    ensures { form_app result ≡ leak_app }
+{
+    Form {
+        name: "leak",
+        about: "Run a script and print the calls by which processes leak or change what is at a path",
+        after_help: "For each line `trusted`, `login`, `changer` and `changer-login` of `trust` there is a paragraph: who does it, and
+to whom, then the calls with their replies. Each paragraph can be put behind the script, and `histar test` passes it.
+
+Example:
+  histar leak --at 21 /tmp/letters examples/scan.histar
+prints, among others, the lines
+  # trusted 0.1 alice tells 0 root, 0.2 bob
+  0.1 read /tmp/letters
+  #= = the code is 1234",
+        arguments: &[
+            Argument::Valued("LINE", "at", AT),
+            Argument::Word("PATH", "The path of a file or a directory"),
+            Argument::Word("FILE", SCRIPT),
+        ],
+    }
+}
+
+/// Returns `flows [--at LINE] FILE`.
+pub(crate) fn flows<'a>() -> Form<'a>
+    ensures { form_app result ≡ flows_app }
+{
+    Form {
+        name: "flows",
+        about: "Run a script and print which process can pass on what it knows to which others",
+        after_help: "The processes that are in no job can tell everyone: they are on the first line. Each other line is a running
+process in a job, its user, and the running processes that know every job that it is in. An exclamation mark
+is behind those that hold one of these jobs: they may pass on what the job made.
+
+Example:
+  histar flows --at 21 examples/scan.histar
+prints
+  free 0 0.1 0.2 tell everyone
+  0.1.1 alice tells 0.1!",
+        arguments: &[
+            Argument::Valued("LINE", "at", AT),
             Argument::Word("FILE", SCRIPT),
         ],
     }

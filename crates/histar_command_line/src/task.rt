@@ -34,6 +34,9 @@ pub struct CheckFlags {
 pub enum Task<'a> {
     /// Run the script in this file, and print what is asked for beside the replies.
     Run(&'a str, RunFlags),
+    /// Run the script in this file, make these calls behind it, or before the line of this number, and print
+    /// their replies.
+    Try(&'a str, Vec<&'a str>, Option<&'a str>),
     /// Run the raw session in this file, and explain why calls were denied, if that is asked for.
     Raw(&'a str, bool),
     /// Compare the script in a file with the one without a job: first the job, then the file.
@@ -48,6 +51,12 @@ pub enum Task<'a> {
     /// Print which processes have to be trusted with a path after a script, or before the line of this
     /// number: first the path, then the file.
     Trust(&'a str, &'a str, Option<&'a str>),
+    /// Print the calls by which processes leak or change what is at a path after a script, or before the line
+    /// of this number: first the path, then the file.
+    Leak(&'a str, &'a str, Option<&'a str>),
+    /// Print which process can pass on what it knows to which others after the script in this file, or before
+    /// the line of this number.
+    Flows(&'a str, Option<&'a str>),
     /// Print why the script in this file is bad, if it is; or the same of the raw session in it.
     Lint(&'a str, bool),
     /// Print the session of the script in this file as a page.
@@ -125,11 +134,29 @@ fn state_task_of<'a>(matches: &ArgMatches<'a>) -> Option<Task<'a>>
         let at = diff.get_str("LINE");
         return Some(Task::Diff(old, new, at));
     }
+    secret_task_of(matches)
+}
+
+/// Returns the task of a matched subcommand on secrets and on who can pass them on.
+fn secret_task_of<'a>(matches: &ArgMatches<'a>) -> Option<Task<'a>>
+    ensures { IfSome result (λ task. IsTaskOf task (subcommand_rows_of matches.now)) }
+{
     if let Some(trust) = matches.subcommand_matches("trust") {
         let path = trust.get_str("PATH")?;
         let file = trust.get_str("FILE")?;
         let at = trust.get_str("LINE");
         return Some(Task::Trust(path, file, at));
+    }
+    if let Some(leak) = matches.subcommand_matches("leak") {
+        let path = leak.get_str("PATH")?;
+        let file = leak.get_str("FILE")?;
+        let at = leak.get_str("LINE");
+        return Some(Task::Leak(path, file, at));
+    }
+    if let Some(flows) = matches.subcommand_matches("flows") {
+        let file = flows.get_str("FILE")?;
+        let at = flows.get_str("LINE");
+        return Some(Task::Flows(file, at));
     }
     text_task_of(matches)
 }
@@ -162,11 +189,29 @@ fn test_task_of<'a>(alloc: Global, matches: &ArgMatches<'a>) -> Result<Option<Ta
     Ok(Some(Task::Test(files)))
 }
 
+/// Returns the task of `try`, if it was matched.
+fn try_task_of<'a>(alloc: Global, matches: &ArgMatches<'a>) -> Result<Option<Task<'a>>, AllocError>
+    ensures { IfOk result (λ found. IfSome found (λ task. IsTaskOf task (subcommand_rows_of matches.now))) }
+{
+    let Some(tried) = matches.subcommand_matches("try") else {
+        return Ok(None);
+    };
+    let (Some(file), Some(calls)) = (tried.get_str("FILE"), tried.get_strs("CALL")) else {
+        return Ok(None);
+    };
+    let at = tried.get_str("LINE");
+    let calls = Vec::from_slice(alloc, calls)?;
+    Ok(Some(Task::Try(file, calls, at)))
+}
+
 /// Returns the task that was matched, or `None` if the words don't fit together.
 fn matched_task<'a>(alloc: Global, matches: &ArgMatches<'a>) -> Result<Option<Task<'a>>, AllocError>
     ensures { IfOk result (λ found. IfSome found (λ task. IsTaskOf task (subcommand_rows_of matches.now))) }
 {
     if let Some(task) = test_task_of(alloc, matches)? {
+        return Ok(Some(task));
+    }
+    if let Some(task) = try_task_of(alloc, matches)? {
         return Ok(Some(task));
     }
     Ok(task_of(matches))

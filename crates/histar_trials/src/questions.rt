@@ -4,6 +4,7 @@ use crate::trial::FileKind;
 use histar_access::{access, diff};
 use histar_comparison::{compare_all, explain_comparison};
 use histar_flat::{Path, ProcName, split_at_first};
+use histar_leak::leak;
 use histar_lint::lint;
 use histar_raw_lint::lint_raw;
 use histar_report::report;
@@ -11,8 +12,8 @@ use histar_run_explain::explain_script;
 use histar_script::Fault;
 use histar_shell::{Counted, Options};
 use histar_test::{TestFile, test};
-use histar_transcript::transcribe;
-use histar_trust::trust;
+use histar_transcript::{Tried, transcribe, try_calls};
+use histar_trust::{flows, trust};
 use memchr::memmem;
 use std::alloc::Global;
 
@@ -87,6 +88,44 @@ pub fn trusted(
     let mut writer = Counted::new(Vec::new(alloc));
     let done = trust(alloc, path, &mut reader, &mut writer, at);
     with_fault(alloc, done, writer.into_inner())
+}
+
+/// Returns the calls by which what is at a path is leaked and changed, before a line of a script or at its end.
+pub fn leaks(alloc: Global, script: &[u8], path: &Path, at: Option<u32>) -> Result<Vec<u8>, Fault> {
+    let mut reader = Counted::new(script);
+    let mut writer = Counted::new(Vec::new(alloc));
+    let done = leak(alloc, path, &mut reader, &mut writer, at);
+    with_fault(alloc, done, writer.into_inner())
+}
+
+/// Returns which process can pass on what it knows to which, before a line of a script or at its end.
+pub fn flowing(alloc: Global, script: &[u8], at: Option<u32>) -> Result<Vec<u8>, Fault> {
+    let mut reader = Counted::new(script);
+    let mut writer = Counted::new(Vec::new(alloc));
+    let done = flows(alloc, &mut reader, &mut writer, at);
+    with_fault(alloc, done, writer.into_inner())
+}
+
+/// Returns the replies to calls that are made behind a script, or before a line of it, or what is wrong with
+/// one. The calls are before the script.
+pub fn tried(alloc: Global, text: &[u8], at: Option<u32>) -> Result<Vec<u8>, Fault> {
+    let (calls, script) = split_scripts(text).ok_or(Fault::BadScript(0))?;
+    let calls = calls.strip_suffix(b"\n").ok_or(Fault::BadScript(0))?;
+    let mut reader = Counted::new(script);
+    let mut writer = Counted::new(Vec::new(alloc));
+    match try_calls(alloc, &[calls], &mut reader, &mut writer, at) {
+        Ok(Tried::BadCall(number, sentence)) => refused(alloc, number, sentence.as_slice()),
+        done => with_fault(alloc, done.map(|_| ()), writer.into_inner()),
+    }
+}
+
+/// Returns the line that says what is wrong with a call.
+fn refused(alloc: Global, number: usize, sentence: &[u8]) -> Result<Vec<u8>, Fault> {
+    let line = format!(in alloc; "histar: bad call {number}: ")?;
+    let mut text = line.into_bytes();
+    text.extend_from_slice(sentence)?;
+    text.push(b'\n')?;
+    Ok(text)
 }
 
 /// Returns what is made of a script or a raw session, whose name is behind the first word of a title.

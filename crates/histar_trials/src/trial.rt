@@ -24,6 +24,12 @@ pub enum Kind {
     Diff(Option<u32>),
     /// On whom it depends what is at a path.
     Trust(Path, Option<u32>),
+    /// By which calls what is at a path is leaked and changed.
+    Leak(Path, Option<u32>),
+    /// Which process can pass on what it knows to which.
+    Flows(Option<u32>),
+    /// Calls behind a script, or before a line of it.
+    Try(Option<u32>),
     /// A script or a raw session whose name is in the title.
     File(FileKind),
     /// A session of raw calls.
@@ -87,9 +93,19 @@ fn read_line(word: Option<&[u8]>) -> Option<Option<u32>> {
 }
 
 /// Reads a path, and behind it the number of a line, if there is one.
-fn read_place(words: &[u8]) -> Option<Kind> {
+fn read_place(words: &[u8]) -> Option<(Path, Option<u32>)> {
     let (path, line) = split_at_first(words, b' ');
-    Some(Kind::Trust(read_path(path)?, read_line(line)?))
+    Some((read_path(path)?, read_line(line)?))
+}
+
+/// Reads what a title asks of a path in a script, by its first word.
+fn read_secret(word: &[u8], rest: Option<&[u8]>) -> Option<Kind> {
+    let (path, line) = read_place(rest?)?;
+    match word {
+        b"trust" => Some(Kind::Trust(path, line)),
+        b"leak" => Some(Kind::Leak(path, line)),
+        _ => None,
+    }
 }
 
 /// Reads which run a title asks for, by its first word and the flags behind it.
@@ -117,8 +133,9 @@ fn read_question(word: &[u8], rest: Option<&[u8]>) -> Option<Kind> {
     match word {
         b"access" => Some(Kind::Access(read_line(rest)?)),
         b"diff" => Some(Kind::Diff(read_line(rest)?)),
-        b"trust" => read_place(rest?),
-        _ => None,
+        b"flows" => Some(Kind::Flows(read_line(rest)?)),
+        b"try" => Some(Kind::Try(read_line(rest)?)),
+        _ => read_secret(word, rest),
     }
 }
 

@@ -29,16 +29,3 @@ returns-in-Some-subcommand_matches c =
         c.get_str-at-in-Some-subcommand_matches.ensures ∙ first_value-rows found (codes "LINE"),
       ),
     )
-
-pub returns-in-Some-subcommand_matches-2 : goal.returns-in-Some-subcommand_matches-2
-returns-in-Some-subcommand_matches-2 c =
-    let m = c.in-Some-subcommand_matches-2 in
-    let found = found_of m.trust.now in (
-      rows_of found,
-      matched c.args.matches.now (codes "trust") (rows_of found) (m.ensures.found.0 refl) m.ensures.rows,
-      (
-        sym (c.in_ok-path.ensures ∙ first_value-rows found (codes "PATH")),
-        sym (c.in_ok-file-2.ensures ∙ first_value-rows found (codes "FILE")),
-        c.get_str-at-in-Some-subcommand_matches-2.ensures ∙ first_value-rows found (codes "LINE"),
-      ),
-    )
