@@ -12,7 +12,8 @@ use Rattle.histar_noninterference.specs.Comparison.{is_wrap_reply}
 use Rattle.histar_noninterference.specs.Following.{is_done, left_without, after_reply}
 use Rattle.histar_shell.specs.Machine.{MachineModel}
 use Rattle.histar_shell.proofs.AnswerLemmas.{calls_more, in_turn_more}
-use Rattle.histar_comparison.specs.Replies.{RepliesModel, with_reply, with_replies, shown_by, wrap_path, once_done, is_start, directory_after}
+use Rattle.histar_comparison.specs.Replies.{RepliesModel, with_reply, with_replies, with_shown, shown_by, wrap_path, once_done, is_start, reveals}
+use Rattle.histar_comparison.specs.Replies.{directory_after}
 use Rattle.histar_comparison.specs.Observation.{KeepsReply, KeepsReplies}
 
 module _ (job : ProcName) where
@@ -80,22 +81,38 @@ module _ (job : ProcName) where
   directory_is directory _ reply = stays directory reply
 
   -- a reply is kept once the job's directory was followed and the reply was added
-  pub reply_kept : (old mid new : RepliesModel) (a : RepliedCall) (wraps granted : Option Path)
+  pub reply_kept : (old mid new : RepliesModel) (a : RepliedCall) (wraps granted : Option Path) (revealed : Bool)
       → wraps ≡ wrap_path a.call.call → granted ≡ once_done old.directory a.call.call
+      → revealed ≡ reveals job old.is_started a.call.process a.call.call
       → mid
       ≡ record {
         is_started = old.is_started || is_start job wraps a.reply;
         shown = old.shown;
+        revealing = old.revealing;
         directory = directory_after job old.directory wraps granted a.reply;
       }
-      → new ≡ record mid { shown = shown_by job mid.shown a.call.line a.call.process a.reply } → new ≡ with_reply job old a
-  reply_kept old mid new a wraps granted wrapped moved followed shown =
+      → new
+      ≡ record mid {
+        shown = shown_by job mid.shown a.call.line a.call.process a.reply;
+        revealing = with_shown revealed mid.revealing a.call.line a.reply;
+      }
+      → new ≡ with_reply job old a
+  reply_kept old mid new a wraps granted revealed wrapped moved reveal followed shown =
       let line = a.call.line in
       let process = a.call.process in
       let started = ap (λ (w : Option Path). is_start job w a.reply) wrapped ∙ start_is a.call.call a.reply in
       let directory = (λ i. directory_after job old.directory (wrapped i) (moved i) a.reply) ∙ directory_is old.directory a.call.call a.reply in
-      shown ∙ ap (λ (m : RepliesModel). record m { shown = shown_by job m.shown line process a.reply }) followed
-      ∙ (λ i. record { is_started = old.is_started || started i; shown = shown_by job old.shown line process a.reply; directory = directory i })
+      shown
+      ∙ ap (λ (m : RepliesModel). record m {
+        shown = shown_by job m.shown line process a.reply;
+        revealing = with_shown revealed m.revealing line a.reply;
+      }) followed
+      ∙ (λ i. record {
+        is_started = old.is_started || started i;
+        shown = shown_by job old.shown line process a.reply;
+        revealing = with_shown (reveal i) old.revealing line a.reply;
+        directory = directory i;
+      })
 
   -- one reply more
   replies_more : (old : RepliesModel) (answers : List RepliedCall) (a : RepliedCall)

@@ -1,30 +1,32 @@
 -- The verdict on two observed runs is that of their script.
 use Rattle.std.proofs.Common.{◌≡◌, ℕ, Bool, true, false, List, [], ◌∷◌, ◌++◌, map, cond, Result, Ok, Err, refl, sym, ap, ◌∙◌, append-nil}
 use Rattle.std.proofs.Common.{append_assoc}
-use Rattle.std.specs.Prelude.{◌||◌, not, filter}
+use Rattle.std.specs.Prelude.{◌&&◌, ◌||◌, is_some, not, filter, None, Option, Some}
 use Rattle.std.specs.List.{AllByRecursion}
 use Rattle.std.proofs.Math.Bool.{or-false, or_assoc}
+use Rattle.std.proofs.lemmas.Bool.{true≢false}
 use Rattle.histar_flat.specs.declared.calls.CallLine.{CallLine}
 use Rattle.histar_flat.specs.Words.{ProcName}
 use Rattle.histar_flat.specs.PathOrder.{under_process}
 use Rattle.histar_flat.specs.Calls.{IsCall}
 use Rattle.histar_shell.specs.Meaning.{last_state}
 use Rattle.histar_shell.proofs.Users.{script_says}
-use Rattle.histar_flat.specs.Meaning.{RepliedCall, meaning}
+use Rattle.histar_flat.specs.Meaning.{RepliedCall, meaning, without}
 use Rattle.histar_script.specs.declared.fault.Fault.{Fault}
 use Rattle.histar_script.specs.Script.{ScriptModel, without_job}
 use Rattle.histar_script.specs.Reading.{script_of}
 use Rattle.histar_noninterference.specs.declared.verdict.Verdict.{Verdict}
 use Rattle.histar_noninterference.specs.declared.verdict.Verdict.TheVariants.{NoJob, Same}
-use Rattle.histar_noninterference.specs.Comparison.{is_outsider, is_wrap_reply, line_verdict, outsiders, starts, tree_verdict, verdict}
+use Rattle.histar_noninterference.specs.Comparison.{first_line, is_outsider, is_wrap_reply, line_verdict, outsiders, starts, tree_verdict, verdict}
 use Rattle.histar_noninterference.specs.Following.{directory_of}
-use Rattle.histar_noninterference.specs.Isolation.{OnlyReleasesDiffer}
+use Rattle.histar_noninterference.specs.Isolation.{OnlyReleasesDiffer, after_start, first_release, may_reveal, revealing}
 use Rattle.histar_noninterference.specs.Trees.{FindsFirstPath, first_difference, is_below_either, tree_lines}
 use Rattle.histar_noninterference.specs.Replies.{first_shown, shown}
 use Rattle.histar_noninterference.proofs.ShownReplies.{finds_first_line}
-use Rattle.histar_comparison.specs.Replies.{RepliesModel, no_replies, with_reply, with_replies}
+use Rattle.histar_comparison.specs.Replies.{RepliesModel, no_replies, with_reply, with_replies, with_shown}
 use Rattle.histar_comparison.specs.Observation.{CanRun, ObservationModel, observation}
 use Rattle.histar_comparison.specs.Compared.{difference, verdict_of, comparison, IsQuietScript}
+use Rattle.histar_comparison.specs.Explained.{has_difference}
 
 -- of calls of which each passes, those that are left pass
 left_pass : {A : Type 0} (P : A → Type 0) (test : A → Bool) (xs : List A) → AllByRecursion P xs → AllByRecursion P (filter test xs)
@@ -73,6 +75,46 @@ module _ (job : ProcName) where
       by true = append_assoc r.shown (shown a ∷ []) (map shown (outsiders job answers))
       by false = refl
 
+  -- the replies by which the process that started the job can reveal it were kept
+  revealed : (r : RepliesModel) (answers : List RepliedCall) → (with_replies job r answers).revealing
+      ≡ r.revealing ++ map shown (cond r.is_started (filter (may_reveal job) answers) (revealing job answers))
+  revealed r [] = sym (append-nil r.revealing) ∙ ap (λ (l : List RepliedCall). r.revealing ++ map shown l) (sym (either r.is_started))
+    where
+      either : (b : Bool) → (let l : List RepliedCall = cond b [] [] in l) ≡ []
+      either true = refl
+      either false = refl
+  revealed r (a ∷ answers) =
+      revealed (with_reply job r a) answers ∙ by r.is_started (is_wrap_reply job a.call.call a.reply) (may_reveal job a)
+    where
+      later : List RepliedCall
+      later = filter (may_reveal job) answers
+
+      by : (b w may : Bool) → with_shown (b && may) r.revealing a.call.line a.reply ++ map shown (cond (b || w) later (revealing job answers))
+          ≡ r.revealing ++ map shown (cond b (cond may (a ∷ later) later) (filter (may_reveal job) (cond w answers (after_start job answers))))
+      by true w true = append_assoc r.revealing (shown a ∷ []) (map shown later)
+      by true w false = refl
+      by false true may = refl
+      by false false may = refl
+
+  -- the first line that released what the job made was found
+  pub released_is : (script : ScriptModel)
+      → first_shown (observation job script).replies.revealing (observation job (without_job job script)).replies.revealing
+      ≡ first_release script.accounts script.calls job
+  released_is script =
+      let as' = meaning script.accounts script.calls in
+      let bs = meaning script.accounts (without_job job script).calls in
+      (λ i. first_shown (revealed no_replies as' i) (revealed no_replies bs i)) ∙ sym (finds_first_line (revealing job as') (revealing job bs))
+
+  -- where no `wrap` started the job, nothing comes after its start
+  none_after : (answers : List RepliedCall) → starts job answers ≡ false → after_start job answers ≡ []
+  none_after [] h = refl
+  none_after (a ∷ answers) h = by (is_wrap_reply job a.call.call a.reply) h (none_after answers)
+    where
+      by : (b : Bool) → (b || starts job answers) ≡ false → (starts job answers ≡ false → after_start job answers ≡ [])
+          → cond b answers (after_start job answers) ≡ []
+      by true h rest = absurd (true≢false h)
+      by false h rest = rest h
+
   -- what is left of a script can be run
   pub rest_runs : (script : ScriptModel) → CanRun script → CanRun (without_job job script)
   rest_runs script can =
@@ -90,6 +132,23 @@ module _ (job : ProcName) where
   -- where no `wrap` started the job, that is the verdict
   no_job : (script : ScriptModel) → (observation job script).replies.is_started ≡ false → verdict script.accounts script.calls job ≡ NoJob
   no_job script none = other (starts job (meaning script.accounts script.calls)) _ NoJob (starts_as script false none)
+
+  -- and no line releases what it made
+  pub none_released : (script : ScriptModel) → (observation job script).replies.is_started ≡ false
+      → None ≡ first_release script.accounts script.calls job
+  none_released script none =
+      ap (λ (as' : List RepliedCall). first_line (filter (may_reveal job) as') (revealing job (meaning script.accounts (without job script.calls))))
+      (sym (none_after (meaning script.accounts script.calls) (starts_as script false none)))
+
+  -- where outsiders see a difference, a line released what the job made
+  pub difference_released : OnlyReleasesDiffer → (script : ScriptModel) → (observation job script).replies.is_started ≡ true
+      → has_difference (verdict script.accounts script.calls job) ≡ true → is_some (first_release script.accounts script.calls job) ≡ true
+  difference_released isolates script some differs = by (first_release script.accounts script.calls job) refl
+    where
+      by : (o : Option ℕ) → first_release script.accounts script.calls job ≡ o → is_some o ≡ true
+      by None e =
+          absurd (true≢false (sym differs ∙ ap has_difference (isolates script.accounts script.calls job (starts_as script true some) e)))
+      by (Some n) e = refl
 
   -- if the replies don't differ, the verdict is that of the trees
   found : FindsFirstPath → (script : ScriptModel) → (observation job script).replies.is_started ≡ true

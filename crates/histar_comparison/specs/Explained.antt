@@ -1,5 +1,6 @@
 -- A verdict, and what each of the two runs prints where they differ.
-use Rattle.std.specs.Prelude.{ℕ, Bool, true, false, List, [], ◌∷◌, ◌++◌, codes, Result, Ok, Err, ◌==◌, if◌then◌else◌}
+use Rattle.std.specs.Prelude.{◌≡◌, ℕ, Bool, true, false, List, [], ◌∷◌, ◌++◌, codes, decimal, is_some, Option, None, Some, Result, Ok, Err, ◌==◌, ◌&&◌}
+use Rattle.std.specs.Prelude.{if◌then◌else◌}
 use Rattle.histar_flat.specs.declared.calls.CallLine.{CallLine}
 use Rattle.histar_flat.specs.Words.{Path, ProcName}
 use Rattle.histar_base.specs.Paths.{same_path}
@@ -10,6 +11,8 @@ use Rattle.histar_noninterference.specs.declared.replies.ShownReply.{ShownReply}
 use Rattle.histar_noninterference.specs.declared.verdict.Verdict.{Verdict}
 use Rattle.histar_noninterference.specs.declared.verdict.Verdict.TheVariants.{Same, NoJob, Line, Tree}
 use Rattle.histar_noninterference.specs.Comparison.{outsiders, verdict}
+use Rattle.histar_noninterference.specs.Isolation.{first_release}
+use Rattle.histar_noninterference.specs.Replies.{first_shown}
 use Rattle.histar_noninterference.specs.Trees.{PathText, tree_lines}
 use Rattle.histar_noninterference.specs.VerdictText.{verdict_text}
 use Rattle.histar_script.specs.declared.fault.Fault.{Fault}
@@ -36,12 +39,13 @@ printed_of job accounts calls NoJob = []
 printed_of job accounts calls (Line n) = reply_on n (outsiders job (meaning accounts calls))
 printed_of job accounts calls (Tree q) = line_at_path q (tree_lines (flat_end accounts (boot accounts) calls))
 
--- the verdict of a script, with what each run prints for it
+-- the verdict of a script, with what each run prints for it, and the line that released what the job made
 abbrev pub explained : ProcName → ScriptModel → Explained
 explained job script = let found = verdict script.accounts script.calls job in record {
   verdict = found;
   with_job = printed_of job script.accounts script.calls found;
   without_job = printed_of job script.accounts (without job script.calls) found;
+  released = first_release script.accounts script.calls job;
 }
 
 -- the same for the script of a text, or the fault in it
@@ -65,10 +69,24 @@ seen_of seen NoJob = []
 seen_of seen (Line n) = kept_on n seen.replies.shown
 seen_of seen (Tree q) = line_at_path q seen.tree
 
--- the verdict on two observed runs, with what each printed where they differ
+-- the verdict on two observed runs, with what each printed where they differ, and the line that released it
 abbrev pub explained_difference : ObservationModel → ObservationModel → Explained
-explained_difference first second =
-    let found = difference first second in record { verdict = found; with_job = seen_of first found; without_job = seen_of second found }
+explained_difference first second = let found = difference first second in record {
+  verdict = found;
+  with_job = seen_of first found;
+  without_job = seen_of second found;
+  released = first_shown first.replies.revealing second.replies.revealing;
+}
+
+-- the runs differ for outsiders
+abbrev pub has_difference : Verdict → Bool
+has_difference (Line n) = true
+has_difference (Tree q) = true
+has_difference verdict = false
+
+-- if the runs differ for outsiders, a line released what the job made
+abbrev pub IsReleased : Explained → Type 0
+IsReleased e = has_difference e.verdict ≡ true → is_some e.released ≡ true
 
 -- what one run prints, or the word `nothing`
 abbrev pub side_text : List ℕ → List ℕ
@@ -87,6 +105,23 @@ abbrev pub asked_sides : Bool → Explained → List ℕ
 asked_sides true e = sides_text e.verdict e.with_job e.without_job
 asked_sides false e = []
 
--- the line of a verdict
+-- the line of a verdict, behind these words
+abbrev pub verdict_line : List ℕ → Bool → Explained → List ℕ
+verdict_line front why e = front ++ verdict_text e.verdict ++ asked_sides why e ++ codes "\n"
+
+-- the line that names the line which released what the job made, behind these words; nothing if none did
+abbrev pub release_line : List ℕ → Option ℕ → List ℕ
+release_line front None = []
+release_line front (Some n) = front ++ codes "released by line " ++ decimal n ++ codes "\n"
+
+-- this line of a difference, if that is asked for
+abbrev pub asked_release : List ℕ → Bool → Explained → List ℕ
+asked_release front why e = if why && has_difference e.verdict then release_line front e.released else []
+
+-- the lines of a verdict, each behind these words
+abbrev pub found_behind : List ℕ → Bool → Explained → List ℕ
+found_behind front why e = asked_release front why e ++ verdict_line front why e
+
+-- the lines of a verdict
 abbrev pub found_text : Bool → Explained → List ℕ
-found_text why e = verdict_text e.verdict ++ asked_sides why e ++ codes "\n"
+found_text = found_behind []

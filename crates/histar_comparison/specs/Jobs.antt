@@ -17,7 +17,7 @@ use Rattle.histar_shell.specs.Machine.{MachineModel, AnswersLine}
 use Rattle.histar_shell.specs.AnsweredCalls.{AnswersInTurn}
 use Rattle.histar_shell.specs.Answers.{calls_of}
 use Rattle.histar_comparison.specs.declared.jobs.JobVerdict.{JobVerdict}
-use Rattle.histar_comparison.specs.Explained.{explained, found_text}
+use Rattle.histar_comparison.specs.Explained.{explained, found_behind}
 
 -- the call wraps a job
 abbrev pub is_wrap : UnixCall → Bool
@@ -64,6 +64,6 @@ pub record KeepsJobs (before after : MachineModel) (old new : List ProcName) (ca
   pub in_turn : AnswersInTurn before answers after
   pub kept : new ≡ old ++ jobs_started answers
 
--- the line of a job: its first process, and what is printed of its verdict
+-- the lines of a job: what is printed of its verdict, each behind its first process
 abbrev pub job_text : Bool → JobVerdict → List ℕ
-job_text why j = process_text j.job ++ codes " " ++ found_text why j.found
+job_text why j = found_behind (process_text j.job ++ codes " ") why j.found

@@ -1,5 +1,5 @@
 -- What is kept of the replies to a script while it runs.
-use Rattle.std.specs.Prelude.{ℕ, Bool, false, ◌||◌, List, [], ◌∷◌, ◌++◌, Option, None, Some, option_map, if◌then◌else◌}
+use Rattle.std.specs.Prelude.{ℕ, Bool, false, ◌&&◌, ◌||◌, List, [], ◌∷◌, ◌++◌, Option, None, Some, option_map, if◌then◌else◌}
 use Rattle.histar_flat.specs.declared.calls.UnixCall.{UnixCall}
 use Rattle.histar_flat.specs.declared.calls.UnixCall.TheVariants.{Unlink, Rmdir, Rmtree, Rename, Wrap}
 use Rattle.histar_flat.specs.declared.replies.Reply.{Reply}
@@ -12,27 +12,40 @@ use Rattle.histar_flat.specs.Texts.{reply_text}
 use Rattle.histar_flat.specs.Meaning.{RepliedCall}
 use Rattle.histar_noninterference.specs.Comparison.{is_outsider, is_wrap_reply}
 use Rattle.histar_noninterference.specs.Following.{followed, left_without}
+use Rattle.histar_noninterference.specs.Isolation.{is_rmdir_or_wrap, may_reveal}
 use Rattle.histar_noninterference.specs.declared.replies.ShownReply.{ShownReply}
 
--- whether a `wrap` started the job, the replies to outsiders as they are printed, and where the job's directory is
+-- whether a `wrap` started the job, the replies to outsiders as they are printed, those to the `rmdir`s and `wrap`s by which
+-- the process that started it can reveal it, and where the job's directory is
 pub record RepliesModel : Type 0 where
   pub is_started : Bool
   pub shown : List ShownReply
+  pub revealing : List ShownReply
   pub directory : Option Path
 
 -- what is kept before the first line
 abbrev pub no_replies : RepliesModel
-no_replies = record { is_started = false; shown = []; directory = None }
+no_replies = record { is_started = false; shown = []; revealing = []; directory = None }
+
+-- these replies with one more to a line, if the test holds
+abbrev pub with_shown : Bool → List ShownReply → ℕ → Reply → List ShownReply
+with_shown test replies line reply =
+    if test then replies ++ (record { line = line; text = reply_text reply }) ∷ [] else replies
+
+-- the call is a `rmdir` or a `wrap` of the process that started the job, and the job has started
+abbrev pub reveals : ProcName → Bool → ProcName → UnixCall → Bool
+reveals job is_started process call = is_started && (same (parent job) process && is_rmdir_or_wrap call)
 
 -- the replies with one more to a line of a process, if it is an outsider
 abbrev pub shown_by : ProcName → List ShownReply → ℕ → ProcName → Reply → List ShownReply
-shown_by job shown line process reply = if is_outsider job process then shown ++ (record { line = line; text = reply_text reply }) ∷ [] else shown
+shown_by job shown line process reply = with_shown (is_outsider job process) shown line reply
 
 -- what is kept after one more reply
 abbrev pub with_reply : ProcName → RepliesModel → RepliedCall → RepliesModel
 with_reply job replies a = record {
   is_started = replies.is_started || is_wrap_reply job a.call.call a.reply;
   shown = shown_by job replies.shown a.call.line a.call.process a.reply;
+  revealing = with_shown (replies.is_started && may_reveal job a) replies.revealing a.call.line a.reply;
   directory = followed job replies.directory a.call a.reply;
 }
 

@@ -1,7 +1,8 @@
 //! A verdict, with what each of two runs prints where they differ.
 ghost use Rattle.std.specs.Prelude.{◌≡◌, ◌++◌, codes, IfOk, IsErrOf, IsTrue, OnOk};
-ghost use Rattle.histar_comparison.specs.Explained.{asked_sides, explained_difference, explanation, found_text};
-ghost use Rattle.histar_comparison.specs.Explained.{kept_on, line_at_path, seen_of, side_text};
+ghost use Rattle.histar_comparison.specs.Explained.{IsReleased, asked_release, asked_sides, explained_difference, explanation};
+ghost use Rattle.histar_comparison.specs.Explained.{found_behind, found_text, has_difference, kept_on, line_at_path};
+ghost use Rattle.histar_comparison.specs.Explained.{release_line, seen_of, side_text, verdict_line};
 ghost use Rattle.histar_script.specs.Lines.{is_too_long as too_long};
 ghost use Rattle.histar_script.specs.Outcome.{Gives};
 
@@ -9,8 +10,9 @@ use crate::comparison::find_difference;
 use crate::observation::{Observation, observe};
 use histar_base::Bytes;
 use histar_flat::{Path, ProcName};
-use histar_noninterference::{ShownReply, Verdict};
+use histar_noninterference::{ShownReply, Verdict, first_line};
 use histar_script::{Fault, read_script};
+use histar_texts::push_number;
 use std::alloc::{AllocError, Global};
 
 /// The verdict of a comparison of two runs, with what each prints there.
@@ -22,13 +24,18 @@ pub struct Explained {
     pub with_job: Bytes,
     /// What the run without the job prints there.
     pub without_job: Bytes,
+    /// The line that released what the job made: after the job's start, the first `rmdir` or `wrap` of the
+    /// process that started it which is answered otherwise without the job.
+    pub released: Option<u32>,
 }
 
 /// Compares two runs of a script as `compare` does, and returns with the verdict what each run prints where
-/// they differ.
+/// they differ, and the line that released what the job made.
 pub fn explain_comparison(alloc: Global, text: &[u8], job: &ProcName) -> Result<Explained, Fault>
     ensures exact { Gives result (explanation job.now text.now) }
     ensures long { IsTrue (too_long text.now) → IsErrOf result Fault.TooLong }
+    // Where outsiders see a difference, a line released what the job made.
+    ensures released { IfOk result (λ found. IsReleased found) }
 {
     let script = read_script(alloc, text)?;
     let first = observe(alloc, script, job)?;
@@ -37,6 +44,7 @@ pub fn explain_comparison(alloc: Global, text: &[u8], job: &ProcName) -> Result<
             verdict: Verdict::NoJob,
             with_job: Bytes::new(alloc),
             without_job: Bytes::new(alloc),
+            released: None,
         });
     }
     let rest = read_script(alloc, text)?.without(job);
@@ -57,6 +65,7 @@ fn explain_difference(
         verdict,
         with_job: printed(alloc, first, &verdict)?,
         without_job: printed(alloc, second, &verdict)?,
+        released: first_line(first.replies.revealing(), second.replies.revealing()),
     })
 }
 
@@ -96,15 +105,57 @@ fn line_at<'a>(tree: &'a [(Path, Bytes)], path: &Path) -> &'a [u8]
 }
 
 impl Explained {
-    /// Returns the line of the verdict, with what each run prints where they differ if that is asked for; the
-    /// run with the job comes first.
+    /// Returns the line of the verdict. If that is asked for, it has what each run prints where they differ,
+    /// the run with the job first, and a line before it names the line that released what the job made.
     pub fn line(&self, alloc: Global, why: bool) -> Result<Vec<u8>, AllocError>
         ensures { IfOk result (λ line. line.items ≡ found_text why self.now) }
     {
-        let mut line = format!(in alloc; "{}", self.verdict)?.into_bytes();
-        self.push_sides(&mut line, why)?;
-        line.extend_from_slice(b"\n")?;
-        Ok(line)
+        self.lines_behind(alloc, b"", why)
+    }
+
+    /// Returns the same, with each line behind these words.
+    pub(crate) fn lines_behind(
+        &self,
+        alloc: Global,
+        front: &[u8],
+        why: bool,
+    ) -> Result<Vec<u8>, AllocError>
+        ensures { IfOk result (λ text. text.items ≡ found_behind front.now why self.now) }
+    {
+        let mut text = Vec::new(alloc);
+        self.push_release(&mut text, front, why)?;
+        self.push_verdict(alloc, &mut text, front, why)?;
+        Ok(text)
+    }
+
+    /// Adds the line that names the one which released what the job made, if that is asked for and the runs
+    /// differ.
+    fn push_release(&self, text: &mut Vec<u8>, front: &[u8], why: bool) -> Result<(), AllocError>
+        ensures { OnOk result (text.new.items
+            ≡ text.old.items ++ asked_release front.now why self.now) }
+    {
+        if why && has_difference(&self.verdict) {
+            push_release_line(text, front, self.released)?;
+        }
+        Ok(())
+    }
+
+    /// Adds the line of the verdict, behind these words.
+    fn push_verdict(
+        &self,
+        alloc: Global,
+        text: &mut Vec<u8>,
+        front: &[u8],
+        why: bool,
+    ) -> Result<(), AllocError>
+        ensures { OnOk result (text.new.items
+            ≡ text.old.items ++ verdict_line front.now why self.now) }
+    {
+        text.extend_from_slice(front)?;
+        let verdict = format!(in alloc; "{}", self.verdict)?;
+        text.extend_from_slice(verdict.as_bytes())?;
+        self.push_sides(text, why)?;
+        text.extend_from_slice(b"\n")
     }
 
     /// Adds what each run prints where they differ, if that is asked for.
@@ -139,4 +190,31 @@ fn side(text: &[u8]) -> &[u8]
     ensures { result.now ≡ side_text text.now }
 {
     if text.is_empty() { b"nothing" } else { text }
+}
+
+/// Checks whether a verdict says that outsiders see a difference.
+fn has_difference(verdict: &Verdict) -> bool
+    ensures { result ≡ has_difference verdict.now }
+{
+    match verdict {
+        Verdict::Same | Verdict::NoJob => false,
+        Verdict::Line(_) | Verdict::Tree(_) => true,
+    }
+}
+
+/// Adds the line that names the one which released what the job made, if there is one, behind these words.
+fn push_release_line(
+    text: &mut Vec<u8>,
+    front: &[u8],
+    released: Option<u32>,
+) -> Result<(), AllocError>
+    ensures { OnOk result (text.new.items ≡ text.old.items ++ release_line front.now released) }
+{
+    let Some(line) = released else {
+        return Ok(());
+    };
+    text.extend_from_slice(front)?;
+    text.extend_from_slice(b"released by line ")?;
+    push_number(text, line)?;
+    text.extend_from_slice(b"\n")
 }

@@ -24,16 +24,16 @@ pub struct JobVerdict {
 }
 
 impl JobVerdict {
-    /// Returns the line of the job, with what each run prints where they differ if that is asked for.
+    /// Returns the line of the job's verdict, behind the job. If that is asked for, it has what each run prints
+    /// where they differ, and a line before it, behind the job too, names the line that released what the job
+    /// made.
     pub fn line(&self, alloc: Global, why: bool) -> Result<Vec<u8>, AllocError>
         ensures { IfOk result (λ line. line.items ≡ job_text why self.now) }
     {
-        let mut line = Vec::new(alloc);
-        push_process(&mut line, &self.job)?;
-        line.extend_from_slice(b" ")?;
-        let found = self.found.line(alloc, why)?;
-        line.extend_from_slice(found.as_slice())?;
-        Ok(line)
+        let mut front = Vec::new(alloc);
+        push_process(&mut front, &self.job)?;
+        front.extend_from_slice(b" ")?;
+        self.found.lines_behind(alloc, front.as_slice(), why)
     }
 }
 

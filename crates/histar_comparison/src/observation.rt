@@ -92,6 +92,7 @@ fn observe_call<S: LabelStore + Drop>(
     } = call;
     let wraps = wrap_path(&call);
     let done = once_done(replies.directory(), &call);
+    let reveals = replies.reveals(job, &process, &call);
     let Ok(reply) = machine.step(alloc, line, &process, call) else {
         return Err(AllocError);
     };
@@ -100,6 +101,7 @@ fn observe_call<S: LabelStore + Drop>(
         line,
         process: &process,
         reply: &reply,
+        reveals,
     };
     replies.show(alloc, job, &shown)
 }

@@ -1,11 +1,13 @@
 //! What is kept of the replies to a script.
-ghost use Rattle.std.specs.Prelude.{◌≡◌, ◌∷◌, ◌||◌, OnOk, option_map};
+ghost use Rattle.std.specs.Prelude.{◌≡◌, ◌∷◌, ◌&&◌, ◌||◌, OnOk, option_map};
 ghost use Rattle.histar_noninterference.specs.Comparison.{is_outsider};
 ghost use Rattle.histar_noninterference.specs.Following.{left_without};
+ghost use Rattle.histar_noninterference.specs.Isolation.{is_rmdir_or_wrap};
 ghost use Rattle.histar_base.specs.Paths.{same};
 ghost use Rattle.histar_flat.specs.PathOrder.{parent};
 ghost use Rattle.histar_flat.specs.FlatState.{moved};
-ghost use Rattle.histar_comparison.specs.Replies.{directory_after, is_start, no_replies, once_done, shown_by, wrap_path};
+ghost use Rattle.histar_comparison.specs.Replies.{directory_after, is_start, no_replies, once_done, reveals};
+ghost use Rattle.histar_comparison.specs.Replies.{shown_by, with_shown, wrap_path};
 
 use histar_base::Bytes;
 use histar_flat::{Name, Path, ProcName, Reply, UnixCall};
@@ -22,6 +24,8 @@ pub struct LineReply<'a> {
     /// The process that made its call.
     pub process: &'a ProcName,
     pub reply: &'a Reply,
+    /// Whether it is one by which the process that started the job can reveal it.
+    pub reveals: bool,
 }
 
 /// What is kept of the replies to a script while it runs.
@@ -31,6 +35,8 @@ pub struct Replies {
     is_started: bool,
     /// The replies to outsiders, in their order.
     shown: Vec<ShownReply>,
+    /// The replies to the `rmdir`s and `wrap`s by which the process that started the job can reveal it.
+    revealing: Vec<ShownReply>,
     /// Where the job's directory is, from when it was made until it is removed.
     directory: Option<Path>,
 }
@@ -40,7 +46,12 @@ impl Model for Replies {
 
     ghost Value = { RepliesModel };
 
-    ghost view = { λ r. record { is_started = r.is_started; shown = r.shown.items; directory = r.directory } };
+    ghost view = { λ r. record {
+      is_started = r.is_started;
+      shown = r.shown.items;
+      revealing = r.revealing.items;
+      directory = r.directory;
+    } };
 }
 
 impl Replies {
@@ -51,6 +62,7 @@ impl Replies {
         Replies {
             is_started: false,
             shown: Vec::new(alloc),
+            revealing: Vec::new(alloc),
             directory: None,
         }
     }
@@ -69,11 +81,25 @@ impl Replies {
         self.shown.as_slice()
     }
 
+    /// Lends the replies by which the process that started the job can reveal it.
+    pub fn revealing(&self) -> &[ShownReply]
+        ensures { result.now ≡ self.now.revealing }
+    {
+        self.revealing.as_slice()
+    }
+
     /// Returns where the job's directory is.
     pub fn directory(&self) -> Option<Path>
         ensures { result ≡ self.now.directory }
     {
         self.directory
+    }
+
+    /// Checks whether the process that started the job can reveal it by this call.
+    pub fn reveals(&self, job: &ProcName, process: &ProcName, call: &UnixCall) -> bool
+        ensures { result ≡ reveals job.now self.now.is_started process.now call.now }
+    {
+        self.is_started && may_reveal(job, process, call)
     }
 
     /// Follows the job's directory over a reply to a call: `wraps` is the path in which the call wraps a job,
@@ -82,6 +108,7 @@ impl Replies {
         ensures { self.new ≡ record {
           is_started = self.old.is_started || is_start job.now wraps reply.now;
           shown = self.old.shown;
+          revealing = self.old.revealing;
           directory = directory_after job.now self.old.directory wraps done reply.now;
         } }
     {
@@ -95,27 +122,64 @@ impl Replies {
         }
     }
 
-    /// Keeps the reply to a line, unless its process is in the job or started it.
+    /// Keeps the reply to a line, if its process is an outsider, and if it reveals the job.
     pub fn show(
         &mut self,
         alloc: Global,
         job: &ProcName,
         shown: &LineReply,
     ) -> Result<(), AllocError>
-        ensures { let a = shown.now in OnOk result (self.new ≡ record self.old
-            { shown = shown_by job.now self.old.shown a.line a.process.now a.reply.now }) }
+        ensures { let a = shown.now in OnOk result (self.new ≡ record self.old {
+          shown = shown_by job.now self.old.shown a.line a.process.now a.reply.now;
+          revealing = with_shown a.reveals self.old.revealing a.line a.reply.now;
+        }) }
     {
         let LineReply {
             line,
             process,
             reply,
+            reveals,
         } = *shown;
-        if is_outsider(job, process) {
-            let text = Bytes::from_vec(reply_text(alloc, reply)?);
-            self.shown.push(ShownReply { line, text })?;
-        }
-        Ok(())
+        push_if(
+            alloc,
+            &mut self.shown,
+            is_outsider(job, process),
+            line,
+            reply,
+        )?;
+        push_if(alloc, &mut self.revealing, reveals, line, reply)
     }
+}
+
+/// Adds the reply to a line to the replies that are kept, if the test holds.
+fn push_if(
+    alloc: Global,
+    kept: &mut Vec<ShownReply>,
+    test: bool,
+    line: u32,
+    reply: &Reply,
+) -> Result<(), AllocError>
+    ensures { OnOk result (kept.new.items ≡ with_shown test kept.old.items line reply.now) }
+{
+    if test {
+        let text = Bytes::from_vec(reply_text(alloc, reply)?);
+        kept.push(ShownReply { line, text })?;
+    }
+    Ok(())
+}
+
+/// Checks whether a call is a `rmdir` or a `wrap` of the process that started the job.
+fn may_reveal(job: &ProcName, process: &ProcName, call: &UnixCall) -> bool
+    ensures { result ≡ (same (parent job.now) process.now && is_rmdir_or_wrap call.now) }
+{
+    is_parent(process, job) && is_rmdir_or_wrap(call)
+}
+
+/// Checks whether a call is a `rmdir` or a `wrap`.
+fn is_rmdir_or_wrap(call: &UnixCall) -> bool
+    ensures { result ≡ is_rmdir_or_wrap call.now }
+{
+    matches!(call, UnixCall::Rmdir(_) | UnixCall::Wrap(_))
 }
 
 /// Checks that a process is not in the job, and is not the one that started it.

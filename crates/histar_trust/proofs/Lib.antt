@@ -5,5 +5,7 @@ pub mod Places
 pub mod Descent
 pub mod ShownTrust
 pub mod ShownSecrets
+pub mod ShownFlows
+pub mod Observing
 pub mod Runs
 pub mod Printed

@@ -103,7 +103,7 @@ module _ (users : Accounts) (members : List Member) (way other : List Class) (al
       if (not (is_directory node.target) && not (alike is_for_everyone i)) then path_text node.path ++ members_same i ++ codes "\n" else []
 
 -- appending three lists one after another, or at once
-behind_three : (old p m n : List ℕ) → ((old ++ p) ++ m) ++ n ≡ old ++ ((p ++ m) ++ n)
+pub behind_three : (old p m n : List ℕ) → ((old ++ p) ++ m) ++ n ≡ old ++ ((p ++ m) ++ n)
 behind_three old p m n = append_assoc (old ++ p) m n ∙ append_assoc old p (m ++ n) ∙ ap (λ t. old ++ t) (sym (append_assoc p m n))
 
 -- ---- what was added

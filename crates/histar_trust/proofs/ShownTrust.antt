@@ -92,7 +92,7 @@ module _ {accounts : Accounts} {m : MachineModel} {f : Flat} (r : ShowsReached a
   number = number_of l.category
 
   -- no two jobs have the same number
-  one_number : AreNumbered number
+  pub one_number : AreNumbered number
   one_number a b e = ap (λ (c : CategoryName). (split_category c).1) (l.different (OfJob a) (OfJob b) e)
 
   pub is_so : ShowsAState number accounts f

@@ -2,5 +2,8 @@
 pub mod TrustText
 pub mod Secrets
 pub mod Findings
+pub mod FlowsText
+pub mod FlowFindings
+pub mod FlowLaws
 pub mod Session
 pub mod Printed

@@ -9,6 +9,7 @@ use Rattle.histar_script.specs.declared.fault.Fault.{Fault}
 use Rattle.histar_script.specs.declared.fault.Fault.TheVariants.{WriteFailed}
 use Rattle.histar_shell.specs.Outcome.{AgreesWith}
 use Rattle.histar_prefix.specs.Prefix.{state_before}
+use Rattle.histar_trust.specs.FlowsText.{flows_before}
 use Rattle.histar_trust.specs.Secrets.{secrets_after}
 use Rattle.histar_trust.specs.TrustText.{trust_text}
 
@@ -46,3 +47,7 @@ TrustText at path = WritesOf (text_before at path)
 -- The text was read as a script: its fault is returned, or exactly the text on the files after all its calls was written.
 abbrev pub SecretsText : List ℕ → Option (List ℕ) → Option (List ℕ) → Result (Unit {0}) Fault → Type 0
 SecretsText = WritesOf secrets_after
+
+-- The text was read as a script: its fault is returned, or exactly the text on the flows of its state before a line was written.
+abbrev pub FlowsText : Option ℕ → List ℕ → Option (List ℕ) → Option (List ℕ) → Result (Unit {0}) Fault → Type 0
+FlowsText at = WritesOf (flows_before at)

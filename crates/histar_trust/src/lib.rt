@@ -1,12 +1,14 @@
-//! Which processes have to be trusted to keep a file secret and unchanged: for one path, and for each file
-//! that not everyone may read. Both are computed from a machine's own objects.
+//! Which processes have to be trusted to keep a file secret and unchanged, for one path, and for each file
+//! that not everyone may read; and to whom each process can pass on what it learns. All of it is computed
+//! from a machine's own objects.
 #![tactic(auto)]
 
 mod files;
+mod flow_lines;
 mod members;
 mod output;
 mod session;
 pub mod trust_laws;
 mod way;
 
-pub use session::{secrets, trust};
+pub use session::{flows, secrets, trust};

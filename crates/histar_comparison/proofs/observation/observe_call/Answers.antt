@@ -14,7 +14,7 @@ returns g c =
       answered = c.in-Ok.ensures.answers;
       kept =
           reply_kept c.args.job.now c.args.replies.now c.follow.new.self c.show.new.self
-          (record { call = c.args.call; reply = c.in-Ok.reply }) _ _ c.wrap_path-wraps.ensures directory
-          c.follow.ensures shown;
+          (record { call = c.args.call; reply = c.in-Ok.reply }) _ _ _ c.wrap_path-wraps.ensures directory
+          c.reveals-reveals.ensures c.follow.ensures shown;
     })
     c.show.ensures
