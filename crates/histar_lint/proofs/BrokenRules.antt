@@ -20,7 +20,7 @@ use Rattle.histar_script.specs.Reading.{words_item}
 use Rattle.histar_lint.specs.Lines.{Rule, after_word, byte_rules, ends_with, rest_of, space_rules, unprintable_from, word_of}
 use Rattle.histar_lint.specs.declared.shapes.Shape.{Shape}
 use Rattle.histar_lint.specs.Calls.{call_word_rules, has_too_little, has_too_much, shape_named, shape_rules}
-use Rattle.histar_lint.specs.FreeParts.{free_of, word_rules}
+use Rattle.histar_lint.specs.FreeParts.{free_of, second_word_rules, word_rules}
 use Rattle.histar_lint.specs.Rules.{are_two_words, call_place_rules, group_place_rules, group_word_rules, has_stranger, has_twin, is_comment}
 use Rattle.histar_lint.specs.Rules.{is_taken, is_undeclared, kind_rules, rules_for, said_rules, user_place_rules, user_word_rules}
 use Rattle.histar_lint.specs.Laws.{EachBadLineBreaksOne}
@@ -271,7 +271,7 @@ no_words_item lines s line words bad =
   where
     lone_word : (line : List ℕ) → after_word line ≡ None → some_broken (word_rules line) ≡ true
     lone_word line none =
-        behind (space_rules line (free_of line)) ((is_none (after_word line), codes "a line is `user NAME PASSWORD`, `group NAME USER..` or `PROC CALL`") ∷ [])
+        behind (space_rules line (free_of line)) (second_word_rules line)
         (or_first (is_none (after_word line)) false (is_nothing (after_word line) none))
 
 -- a line without an item breaks a rule

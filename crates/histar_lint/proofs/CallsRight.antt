@@ -179,5 +179,5 @@ call_right text c e =
       is_free = ap (λ (o : Option Shape). free_in_call o text) is.named ∙ has.is_free;
       words = has.words;
       kept = subst (λ (o : Option Shape). AreKept (shape_rules text o)) (sym is.named)
-      (keep (has_too_much text shape) _ _ has.no_more (keep (has_too_little text shape) _ _ has.no_less (keep (is_none (call_of text)) _ _ (ap is_none e) refl)));
+          (keep (has_too_much text shape) _ _ has.no_more (keep (has_too_little text shape) _ _ has.no_less (keep (is_none (call_of text)) _ _ (ap is_none e) refl)));
     }

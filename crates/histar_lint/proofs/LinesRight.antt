@@ -26,7 +26,7 @@ use Rattle.histar_lint.specs.declared.shapes.Kind.TheVariants.{Name as AName, Pa
 use Rattle.histar_lint.specs.declared.shapes.Shape.TheVariants.{Two}
 use Rattle.histar_lint.specs.Lines.{after_word, byte_rules, first_sentence, rest_of, space_rules, word_of}
 use Rattle.histar_lint.specs.Calls.{call_word_rules, shape_named}
-use Rattle.histar_lint.specs.FreeParts.{free_in, free_in_call, free_of, word_rules, words_behind}
+use Rattle.histar_lint.specs.FreeParts.{free_in, free_in_call, free_of, second_word_rules, word_rules, words_behind}
 use Rattle.histar_lint.specs.Rules.{are_two_words, call_place_rules, group_place_rules, group_word_rules, has_stranger, has_twin, is_comment, is_taken}
 use Rattle.histar_lint.specs.Rules.{is_undeclared, kind_rules, said_rules, sentence, user_place_rules, user_word_rules}
 use Rattle.histar_lint.specs.Laws.{NoRightLineBreaksOne}
@@ -43,7 +43,7 @@ use Rattle.histar_lint.proofs.BrokenRules.{name_of_group, rules_of_kind}
 words_kept : (line rest : List ℕ) (free : Option (List ℕ)) → HasWords line free → free_of line ≡ free → after_word line ≡ Some rest
     → AreKept (word_rules line)
 words_kept line rest free has same is =
-    keep_both (space_rules line (free_of line)) ((is_none (after_word line), _) ∷ [])
+    keep_both (space_rules line (free_of line)) (second_word_rules line)
     (subst (λ (o : Option (List ℕ)). AreKept (space_rules line o)) (sym same) (spaces_kept line free has))
     (keep (is_none (after_word line)) _ _ (ap is_none is) refl)
 

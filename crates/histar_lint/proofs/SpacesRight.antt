@@ -11,7 +11,7 @@ use Rattle.histar_flat.proofs.SplitLemmas.{lacks}
 use Rattle.histar_script.specs.Lines.{◌space◌}
 use Rattle.histar_script.specs.Grammar.{spaced}
 use Rattle.histar_script.proofs.WordsBack.{bytes_lack}
-use Rattle.histar_lint.specs.Lines.{before_free, begins_with, ends_with, has_comment, has_gap, space_rules}
+use Rattle.histar_lint.specs.Lines.{before_free, begins_with, ends_with, has_after_space, space_rules}
 use Rattle.histar_lint.proofs.Rules.{AreKept, keep}
 
 -- ---- the ends of texts
@@ -81,36 +81,23 @@ ends_spaced word (next ∷ words) w ws =
     ∙ ap (λ (text : List ℕ). ends_with 32 (32 ∷ text)) more ∙ ends_step 32 32 first.first (first.rest ++ spaced words)
     ∙ ap (ends_with 32) (sym more) ∙ ends_spaced next words first ws.1
 
--- a space followed by this byte is in the text
-abbrev has_pair : ℕ → List ℕ → Bool
-has_pair c [] = false
-has_pair c (b ∷ text) = (b == 32 && begins_with c text) || has_pair c text
-
--- in a word there is no such pair
-pair_behind : (c : ℕ) (word rest : List ℕ) → lacks 32 word ≡ true → has_pair c (word ++ rest) ≡ has_pair c rest
+-- in a word no space comes before this byte
+pair_behind : (c : ℕ) (word rest : List ℕ) → lacks 32 word ≡ true → has_after_space c (word ++ rest) ≡ has_after_space c rest
 pair_behind c [] rest all = refl
 pair_behind c (b ∷ word) rest all =
     let parts = and_parts (not (eqb b 32)) (lacks 32 word) all in
-    ap (λ s. (s && begins_with c (word ++ rest)) || has_pair c (word ++ rest)) (not-true (eqb b 32) parts.0) ∙ pair_behind c word rest parts.1
+    ap (λ s. (s && begins_with c (word ++ rest)) || has_after_space c (word ++ rest)) (not-true (eqb b 32) parts.0) ∙ pair_behind c word rest parts.1
 
--- nor in words, where none begins with this byte
+-- nor do words have one before it, where none begins with it
 pair_spaced : (c : ℕ) (words : List (List ℕ)) (rest : List ℕ) → AreWords words → ((word : List ℕ) (w : IsWord word) → eqb w.first c ≡ false)
-    → has_pair c (spaced words ++ rest) ≡ has_pair c rest
+    → has_after_space c (spaced words ++ rest) ≡ has_after_space c rest
 pair_spaced c [] rest ws other = refl
 pair_spaced c (word ∷ words) rest ws other =
     let text : List ℕ = spaced words ++ rest in
     let parts : spaced (word ∷ words) ++ rest ≡ 32 ∷ (word ++ text) = ap (λ (l : List ℕ). 32 ∷ l) (append_assoc word (spaced words) rest) in
-    ap (has_pair c) parts
-    ∙ ap (λ s. s || has_pair c (word ++ text)) (begins_word c word text ws.0 ∙ other word ws.0)
+    ap (has_after_space c) parts
+    ∙ ap (λ s. s || has_after_space c (word ++ text)) (begins_word c word text ws.0 ∙ other word ws.0)
     ∙ pair_behind c word text ws.0.plain ∙ pair_spaced c words rest ws.1 other
-
-comment_is_pair : (text : List ℕ) → has_comment text ≡ has_pair 35 text
-comment_is_pair [] = refl
-comment_is_pair (b ∷ text) = ap (λ s. (b == 32 && begins_with 35 text) || s) (comment_is_pair text)
-
-gap_is_pair : (text : List ℕ) → has_gap text ≡ has_pair 32 text
-gap_is_pair [] = refl
-gap_is_pair (b ∷ text) = ap (λ s. (b == 32 && begins_with 32 text) || s) (gap_is_pair text)
 
 -- ---- words with a free part behind them, or without one
 
@@ -154,9 +141,9 @@ one_more word text free w is = record {
 pub begins_right : (b : ℕ) (text : List ℕ) (free : Option (List ℕ)) (is : HasWords text free) → begins_with b text ≡ eqb is.is_word.first b
 begins_right b text free is = ap (begins_with b) is.parts ∙ begins_word b is.word (spaced is.words ++ tail_of free) is.is_word
 
--- the pairs of words are those of what follows them
+-- words have a space before this byte if what follows them has one
 pair_of : (c : ℕ) (word : List ℕ) (words : List (List ℕ)) (rest : List ℕ) → IsWord word → AreWords words
-    → ((u : List ℕ) (is : IsWord u) → eqb is.first c ≡ false) → has_pair c (word ++ (spaced words ++ rest)) ≡ has_pair c rest
+    → ((u : List ℕ) (is : IsWord u) → eqb is.first c ≡ false) → has_after_space c (word ++ (spaced words ++ rest)) ≡ has_after_space c rest
 pair_of c word words rest w ws other = pair_behind c word (spaced words ++ rest) w.plain ∙ pair_spaced c words rest ws other
 
 -- the part before a free part
@@ -172,9 +159,9 @@ spaces_kept text None is =
     let whole : text ≡ is.word ++ spaced is.words = all ∙ ap (λ (l : List ℕ). is.word ++ l) (append-nil (spaced is.words)) in
     keep (begins_with 32 text) _ _ (begins_right 32 text None is ∙ no_space is.word is.is_word)
     (keep (ends_with 32 text) _ _ (ap (ends_with 32) whole ∙ ends_spaced is.word is.words is.is_word is.are_words)
-    (keep (has_comment text) _ _
-    (comment_is_pair text ∙ ap (has_pair 35) all ∙ pair_of 35 is.word is.words [] is.is_word is.are_words (λ u w. w.no_sign))
-    (keep (has_gap text) _ _ (gap_is_pair text ∙ ap (has_pair 32) all ∙ pair_of 32 is.word is.words [] is.is_word is.are_words no_space) refl)))
+    (keep (has_after_space 35 text) _ _
+    (ap (has_after_space 35) all ∙ pair_of 35 is.word is.words [] is.is_word is.are_words (λ u w. w.no_sign))
+    (keep (has_after_space 32 text) _ _ (ap (has_after_space 32) all ∙ pair_of 32 is.word is.words [] is.is_word is.are_words no_space) refl)))
 spaces_kept text (Some free) is =
     let front : List ℕ = is.word ++ (spaced is.words ++ 32 ∷ []) in
     let parts : text ≡ front ++ free =
@@ -182,7 +169,7 @@ spaces_kept text (Some free) is =
     ∙ sym (append_assoc is.word (spaced is.words ++ 32 ∷ []) free) in
     let before : before_free text (Some free) ≡ front = ap (λ (l : List ℕ). before_free l (Some free)) parts ∙ front_of front free in
     keep (begins_with 32 text) _ _ (begins_right 32 text (Some free) is ∙ no_space is.word is.is_word)
-    (keep (has_comment (before_free text (Some free))) _ _
-    (ap has_comment before ∙ comment_is_pair front ∙ pair_of 35 is.word is.words (32 ∷ []) is.is_word is.are_words (λ u w. w.no_sign))
-    (keep (has_gap (before_free text (Some free))) _ _
-    (ap has_gap before ∙ gap_is_pair front ∙ pair_of 32 is.word is.words (32 ∷ []) is.is_word is.are_words no_space) refl))
+    (keep (has_after_space 35 (before_free text (Some free))) _ _
+    (ap (has_after_space 35) before ∙ pair_of 35 is.word is.words (32 ∷ []) is.is_word is.are_words (λ u w. w.no_sign))
+    (keep (has_after_space 32 (before_free text (Some free))) _ _
+    (ap (has_after_space 32) before ∙ pair_of 32 is.word is.words (32 ∷ []) is.is_word is.are_words no_space) refl))

@@ -42,8 +42,10 @@ free_of line =
     else (if bytes_eq (word_of line) (codes "group") then None
     else free_in_call (shape_named (word_of (words_behind line))) (words_behind line))
 
+-- The rule that a line has a second word.
+abbrev pub second_word_rules : List ℕ → List Rule
+second_word_rules line = (is_none (after_word line), codes "a line is `user NAME PASSWORD`, `group NAME USER..` or `PROC CALL`") ∷ []
+
 -- The rules for the words of any line.
 abbrev pub word_rules : List ℕ → List Rule
-word_rules line =
-    space_rules line (free_of line)
-    ++ (is_none (after_word line), codes "a line is `user NAME PASSWORD`, `group NAME USER..` or `PROC CALL`") ∷ []
+word_rules line = space_rules line (free_of line) ++ second_word_rules line

@@ -35,15 +35,10 @@ begins_with b (c ∷ text) = c == b
 abbrev pub ends_with : ℕ → List ℕ → Bool
 ends_with b text = option_map_or (λ c. c == b) (slice_get text (length text - 1)) false
 
--- the text has a space directly followed by a number sign
-abbrev pub has_comment : List ℕ → Bool
-has_comment [] = false
-has_comment (b ∷ text) = (b == 32 && begins_with 35 text) || has_comment text
-
--- the text has two spaces, one behind the other
-abbrev pub has_gap : List ℕ → Bool
-has_gap [] = false
-has_gap (b ∷ text) = (b == 32 && begins_with 32 text) || has_gap text
+-- the text has a space directly followed by this byte
+abbrev pub has_after_space : ℕ → List ℕ → Bool
+has_after_space b [] = false
+has_after_space b (c ∷ text) = (c == 32 && begins_with b text) || has_after_space b text
 
 -- a line up to its free part, if it ends in one
 abbrev pub before_free : List ℕ → Option (List ℕ) → List ℕ
@@ -82,5 +77,5 @@ abbrev pub space_rules : List ℕ → Option (List ℕ) → List Rule
 space_rules line free =
     (begins_with 32 line, codes "a space stands at the beginning of the line")
     ∷ (is_none free && ends_with 32 line, codes "a space stands at the end of the line")
-    ∷ (has_comment (before_free line free), codes "a comment has a line of its own")
-    ∷ (has_gap (before_free line free), codes "two spaces stand one behind the other") ∷ []
+    ∷ (has_after_space 35 (before_free line free), codes "a comment has a line of its own")
+    ∷ (has_after_space 32 (before_free line free), codes "two spaces stand one behind the other") ∷ []

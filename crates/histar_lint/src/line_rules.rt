@@ -1,7 +1,7 @@
 //! The rules for the bytes of a line and for its spaces.
 ghost use Rattle.std.specs.Prelude.{◌≡◌, ◌==◌, ◌&&◌, IfOk, is_none, option_map};
 ghost use Rattle.std.specs.Option.{option_copied};
-ghost use Rattle.histar_lint.specs.Lines.{before_free, begins_with, byte_rules, ends_with, first_sentence, has_comment, has_gap};
+ghost use Rattle.histar_lint.specs.Lines.{before_free, begins_with, byte_rules, ends_with, first_sentence, has_after_space};
 ghost use Rattle.histar_lint.specs.Lines.{long_text, space_rules, unprintable_from, unprintable_text};
 
 use crate::texts::{push_hex, push_number};
@@ -30,41 +30,20 @@ pub fn ends_with(text: &[u8], byte: u8) -> bool
     }
 }
 
-/// Checks whether a byte is a space and the text behind it begins with a number sign.
-fn begins_comment(byte: u8, behind: &[u8]) -> bool
-    ensures { result ≡ (byte == 32 && begins_with 35 behind.now) }
+/// Checks whether a byte is a space and the text behind it begins with another byte.
+fn is_space_before(first: u8, behind: &[u8], byte: u8) -> bool
+    ensures { result ≡ (first == 32 && begins_with byte behind.now) }
 {
-    byte == b' ' && begins_with(behind, b'#')
+    first == b' ' && begins_with(behind, byte)
 }
 
-/// Checks whether a byte is a space and the text behind it begins with another one.
-fn begins_gap(byte: u8, behind: &[u8]) -> bool
-    ensures { result ≡ (byte == 32 && begins_with 32 behind.now) }
-{
-    byte == b' ' && begins_with(behind, b' ')
-}
-
-/// Checks whether a text has a space directly followed by a number sign.
-fn has_comment(text: &[u8]) -> bool
-    ensures { result ≡ has_comment text.now }
+/// Checks whether a text has a space directly followed by a byte.
+fn has_after_space(text: &[u8], byte: u8) -> bool
+    ensures { result ≡ has_after_space byte text.now }
 {
     let mut rest = text;
     while let [first, behind @ ..] = rest {
-        if begins_comment(*first, behind) {
-            return true;
-        }
-        rest = behind;
-    }
-    false
-}
-
-/// Checks whether a text has two spaces, one behind the other.
-fn has_gap(text: &[u8]) -> bool
-    ensures { result ≡ has_gap text.now }
-{
-    let mut rest = text;
-    while let [first, behind @ ..] = rest {
-        if begins_gap(*first, behind) {
+        if is_space_before(*first, behind, byte) {
             return true;
         }
         rest = behind;
@@ -153,9 +132,9 @@ pub fn space_sentence(line: &[u8], free: Option<&[u8]>) -> Option<&'static str>
         Some("a space stands at the beginning of the line")
     } else if ends_in_space(line, free) {
         Some("a space stands at the end of the line")
-    } else if has_comment(words) {
+    } else if has_after_space(words, b'#') {
         Some("a comment has a line of its own")
-    } else if has_gap(words) {
+    } else if has_after_space(words, b' ') {
         Some("two spaces stand one behind the other")
     } else {
         None
