@@ -2,7 +2,7 @@
 pub mod Rules
 pub mod SpacesRight
 pub mod BytesKept
-mod ArgumentsRight
+pub mod ArgumentsRight
 mod CallsRight
 mod LinesRight
 mod BrokenRules

@@ -3,7 +3,7 @@ use Rattle.std.proofs.Common.{◌≡◌, ℕ, List, ◌++◌, Option, Some, None
 use Rattle.std.specs.Prelude.{IfOk, false, is_some, option_map, true}
 use Rattle.std.proofs.lemmas.Result.{IfOk-weaker}
 use Rattle.histar_lint.specs.Lines.{Rule, first_sentence}
-use Rattle.histar_raw_lint.proofs.Rules.{said_behind, said_in_front}
+use Rattle.histar_lint.proofs.Rules.{said_behind, said_in_front}
 
 module _ {V : Type 0} (items : V → List ℕ) (rules others : List Rule) (o : Option V) (said : option_map items o ≡ first_sentence rules) where
   -- the sentence of the rules in front

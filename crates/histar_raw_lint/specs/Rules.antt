@@ -114,9 +114,13 @@ thread_rules word =
     (not (are_digits word), codes "a thread is a number, as in `2 make_category`")
     ∷ digit_rules (codes "a thread") greatest word
 
+-- The rule that a line has a second word.
+abbrev pub second_word_rules : List ℕ → List Rule
+second_word_rules line = (is_none (after_word line), codes "a line is `THREAD CALL`, as in `2 make_category`") ∷ []
+
 -- The rules for the words of any line.
 abbrev pub word_rules : List ℕ → List Rule
-word_rules line = space_rules line None ++ (is_none (after_word line), codes "a line is `THREAD CALL`, as in `2 make_category`") ∷ []
+word_rules line = space_rules line None ++ second_word_rules line
 
 -- The rules for a line of a raw session, in their order.
 abbrev pub rules_for : List ℕ → List Rule
