@@ -113,11 +113,13 @@ word_stays word rest w =
     ap behind_spaces parts ∙ nothing_skipped w.first (w.rest ++ rest) (no_space word w) ∙ sym parts
 
 -- a password is a free part
-pub password_free : (password : List ℕ) → is_password password ≡ true → (lacks 32 password ≡ true) × (one_word (behind_spaces password) ≡ Some password)
+pub password_free : (password : List ℕ) → is_password password ≡ true
+    → (lacks 32 password ≡ true) × (one_word (behind_spaces password) ≡ Some password)
 unfolding is_password
 password_free [] h = absurd cc
 password_free (b ∷ text) h =
-    let plain : lacks 32 (b ∷ text) ≡ true = bytes_lack is_password_byte 32 (b ∷ text) refl (and_parts _ (list_all is_password_byte (b ∷ text)) h).1 in
+    let all = (and_parts _ (list_all is_password_byte (b ∷ text)) h).1 in
+    let plain : lacks 32 (b ∷ text) ≡ true = bytes_lack is_password_byte 32 (b ∷ text) refl all in
     let other = not-true (eqb b 32) (and_parts (not (eqb b 32)) (lacks 32 text) plain).0 in
     let some : eqb (length (b ∷ text)) 0 ≡ false = grind (arith, nat_tests) in
     (plain, ap one_word (nothing_skipped b text other) ∙ rw (some, ends_here (b ∷ text) plain) refl)

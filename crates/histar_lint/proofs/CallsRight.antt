@@ -27,11 +27,11 @@ use Rattle.histar_lint.proofs.ArgumentsRight.{is_word, value_ends, value_word, w
 -- ---- the forms of calls
 
 -- a text is a word
-abbrev is_a_word : List ℕ → Bool
+abbrev pub is_a_word : List ℕ → Bool
 is_a_word [] = false
 is_a_word (b ∷ text) = lacks 32 (b ∷ text) && not (eqb b 35)
 
-a_word : (text : List ℕ) → is_a_word text ≡ true → IsWord text
+pub a_word : (text : List ℕ) → is_a_word text ≡ true → IsWord text
 a_word [] h = absurd cc
 a_word (b ∷ text) h =
     let p = and_parts (lacks 32 (b ∷ text)) (not (eqb b 35)) h in
@@ -132,7 +132,8 @@ two_counted a b text rest last y w is v h =
       is_free =
           ap (λ (l : List ℕ). option_and_then (free_in (kind_of b)) (after_word l)) (words_are text rest ends.free is behind)
           ∙ ap (option_and_then (free_in (kind_of b))) h.0 ∙ ends.is_free;
-      words = subst (λ (l : List ℕ). HasWords l ends.free) (sym (parted text (word_of text) rest refl is)) (one_more (word_of text) rest ends.free w behind);
+      words = subst (λ (l : List ℕ). HasWords l ends.free) (sym (parted text (word_of text) rest refl is))
+          (one_more (word_of text) rest ends.free w behind);
       no_more = ap (λ (l : List ℕ). goes_on (kind_of b) (rest_of l)) same ∙ ap (goes_on (kind_of b)) (rest_is rest last h.0) ∙ ends.ends;
       no_less = ap (λ (l : List ℕ). is_none (after_word l)) same ∙ ap is_none h.0;
     }
@@ -179,5 +180,6 @@ call_right text c e =
       is_free = ap (λ (o : Option Shape). free_in_call o text) is.named ∙ has.is_free;
       words = has.words;
       kept = subst (λ (o : Option Shape). AreKept (shape_rules text o)) (sym is.named)
-          (keep (has_too_much text shape) _ _ has.no_more (keep (has_too_little text shape) _ _ has.no_less (keep (is_none (call_of text)) _ _ (ap is_none e) refl)));
+          (keep (has_too_much text shape) _ _ has.no_more
+          (keep (has_too_little text shape) _ _ has.no_less (keep (is_none (call_of text)) _ _ (ap is_none e) refl)));
     }

@@ -27,14 +27,14 @@ use Rattle.histar_lint.specs.declared.shapes.Shape.TheVariants.{Two}
 use Rattle.histar_lint.specs.Lines.{after_word, byte_rules, first_sentence, rest_of, space_rules, word_of}
 use Rattle.histar_lint.specs.Calls.{call_word_rules, shape_named}
 use Rattle.histar_lint.specs.FreeParts.{free_in, free_in_call, free_of, second_word_rules, word_rules, words_behind}
-use Rattle.histar_lint.specs.Rules.{are_two_words, call_place_rules, group_place_rules, group_word_rules, has_stranger, has_twin, is_comment, is_taken}
+use Rattle.histar_lint.specs.Rules.{are_two_words, call_place_rules, group_place_rules, group_word_rules, has_stranger, has_twin, is_taken}
 use Rattle.histar_lint.specs.Rules.{is_undeclared, kind_rules, said_rules, sentence, user_place_rules, user_word_rules}
 use Rattle.histar_lint.specs.Laws.{NoRightLineBreaksOne}
 use Rattle.histar_lint.proofs.Rules.{AreKept, keep, keep_both}
 use Rattle.histar_lint.proofs.SpacesRight.{AreWords, HasWords, IsWord, one_more, spaces_kept, word_before, words_alone}
 use Rattle.histar_lint.proofs.BytesKept.{plain_kept}
 use Rattle.histar_lint.proofs.ArgumentsRight.{ends_here, password_free, user_name_word, value_word}
-use Rattle.histar_lint.proofs.CallsRight.{call_right, rest_is, words_are}
+use Rattle.histar_lint.proofs.CallsRight.{a_word, call_right, rest_is, words_are}
 use Rattle.histar_lint.proofs.BrokenRules.{name_of_group, rules_of_kind}
 
 -- ---- the rules for any line
@@ -65,7 +65,8 @@ module _ (lines : List (List ℕ)) (s : ScriptModel) (line rest : List ℕ) (is 
 
   -- a line has the words that follow its first one
   line_words : (free : Option (List ℕ)) → IsWord (word_of line) → HasWords rest free → HasWords line free
-  line_words free w has = subst (λ (l : List ℕ). HasWords l free) (sym (parted line (word_of line) rest refl is)) (one_more (word_of line) rest free w has)
+  line_words free w has =
+      subst (λ (l : List ℕ). HasWords l free) (sym (parted line (word_of line) rest refl is)) (one_more (word_of line) rest free w has)
 
 -- the free part of a line, by its kind and the words behind its first one
 abbrev free_of_kind : List ℕ → List ℕ → Bool → Bool → Option (List ℕ)
@@ -133,7 +134,7 @@ user_line lines s line rest u is is_user says takes =
     let behind : HasWords rest free =
     subst (λ (l : List ℕ). HasWords l free) (sym (parted rest (word_of rest) r.password refl r.after))
     (word_before (word_of rest) r.password (user_name_word (word_of rest) r.name)) in
-    let first = found_word (word_of line) (codes "user") (record { first = 117; rest = codes "ser"; parts = refl; plain = refl; no_sign = refl }) is_user in
+    let first = found_word (word_of line) (codes "user") (a_word (codes "user") refl) is_user in
     let words = words_are line rest free is behind in
     let same : free_of line ≡ free =
     free_by line rest true (bytes_eq (word_of line) (codes "group")) is_user refl words
@@ -144,7 +145,8 @@ user_line lines s line rest u is is_user says takes =
     ∙ ap (λ (l : List ℕ). is_none (after_word l)) (rest_is rest r.password r.after) ∙ ap is_none (ends_here r.password secret.0) in
     let read : is_none (password_of (rest_of rest)) ≡ false =
     ap (λ (l : List ℕ). is_none (password_of l)) (rest_is rest r.password r.after) ∙ rw r.secret refl in
-    line_kept lines s line rest is true (bytes_eq (word_of line) (codes "group")) free is_user refl (line_words lines s line rest is free first behind) same
+    line_kept lines s line rest is true (bytes_eq (word_of line) (codes "group")) free is_user refl
+    (line_words lines s line rest is free first behind) same
     (keep_both (user_word_rules rest) (user_place_rules lines s rest)
     (keep (not (are_two_words rest)) _ _ (ap not two)
     (keep (is_none (user_name_of (word_of rest))) _ _ (ap is_none r.named) (keep (is_none (password_of (rest_of rest))) _ _ read refl)))
@@ -163,7 +165,8 @@ six_kept true true false false false d p q r t v w e = absurd cc
 six_kept true true false false true false p q r t v w e = absurd cc
 six_kept true true false false true true p q r t v w e = refl
 
-group_place_kept : (s : ScriptModel) (text : List ℕ) (g : Group) → group_of text ≡ Some g → takes_group s g ≡ true → AreKept (group_place_rules s text)
+group_place_kept : (s : ScriptModel) (text : List ℕ) (g : Group) → group_of text ≡ Some g → takes_group s g ≡ true
+    → AreKept (group_place_rules s text)
 group_place_kept s text g is takes =
     let name = name_of_group text g is in
     let user : is_taken (has_user s.accounts.users) text ≡ has_user s.accounts.users g.name =
@@ -199,12 +202,13 @@ group_line lines s line rest g is kinds says takes =
     let behind : HasWords rest None =
     subst (λ (l : List ℕ). HasWords l None) (sym spelled.0)
     (words_alone g.name g.members (user_name_word g.name spelled.1) (name_words g.members spelled.2)) in
-    let first = found_word (word_of line) (codes "group") (record { first = 103; rest = codes "roup"; parts = refl; plain = refl; no_sign = refl }) kinds.1 in
+    let first = found_word (word_of line) (codes "group") (a_word (codes "group") refl) kinds.1 in
     let same : free_of line ≡ None = free_by line rest false true kinds.0 kinds.1 (words_are line rest None is behind) in
     line_kept lines s line rest is false true None kinds.0 kinds.1 (line_words lines s line rest is None first behind) same
     (keep_both (group_word_rules rest) (group_place_rules s rest)
     (keep (is_none (after_word rest)) _ _ (group_goes_on rest g says)
-    (keep (is_none (user_name_of (word_of rest))) _ _ (ap is_none (name_of_group rest g says)) (keep (is_none (group_of rest)) _ _ (ap is_none says) refl)))
+    (keep (is_none (user_name_of (word_of rest))) _ _ (ap is_none (name_of_group rest g says))
+    (keep (is_none (group_of rest)) _ _ (ap is_none says) refl)))
     (group_place_kept s rest g says takes))
 
 -- ---- a call line

@@ -22,13 +22,13 @@ words_behind text = behind_spaces (rest_of text)
 abbrev pub one_word : List ℕ → Option (List ℕ)
 one_word text = if length text == 0 || is_some (after_word text) then None else Some text
 
--- the free part of an argument of this kind, which is this text up to the end of its line: bytes, or a password
+-- the free part of an argument of this kind, with which its line ends: bytes, or a password
 abbrev pub free_in : Kind → List ℕ → Option (List ℕ)
 free_in Bytes text = Some text
 free_in Password text = one_word (behind_spaces text)
 free_in kind text = None
 
--- the free part of a call of this shape, which is this text up to the end of its line; what follows an unknown word may be bytes
+-- the free part of a call of this shape, which is this text; what follows the word of an unknown call may be bytes
 abbrev pub free_in_call : Option Shape → List ℕ → Option (List ℕ)
 free_in_call None text = after_word text
 free_in_call (Some Alone) text = None
@@ -44,7 +44,8 @@ free_of line =
 
 -- The rule that a line has a second word.
 abbrev pub second_word_rules : List ℕ → List Rule
-second_word_rules line = (is_none (after_word line), codes "a line is `user NAME PASSWORD`, `group NAME USER..` or `PROC CALL`") ∷ []
+second_word_rules line =
+    (is_none (after_word line), codes "a line is `user NAME PASSWORD`, `group NAME USER..` or `PROC CALL`") ∷ []
 
 -- The rules for the words of any line.
 abbrev pub word_rules : List ℕ → List Rule

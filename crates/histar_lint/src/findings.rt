@@ -138,7 +138,8 @@ fn said_sentence(
     line: &[u8],
 ) -> Result<Option<Vec<u8>>, AllocError>
     ensures { IfOk result (λ said. option_map (λ text. text.items) said
-        ≡ first_sentence (said_rules (lines_of text.now) (read_so_far accounts.now calls.now) line.now)) }
+        ≡ first_sentence (said_rules (lines_of text.now) (read_so_far accounts.now calls.now)
+        line.now)) }
 {
     if is_comment(line) {
         return Ok(None);

@@ -1,7 +1,7 @@
 //! Why a script is bad: its first bad line, with the sentence of the first rule that the line breaks.
 //!
-//! `specs/Rules.antt` has the rules in their order. [`lint_laws`] says what they guarantee. [`line_rules`] are those that lines of
-//! raw sessions keep too.
+//! `specs/Rules.antt` has the rules in their order. [`lint_laws`] says what they guarantee. The rules of
+//! [`line_rules`] are for lines of raw sessions too.
 #![tactic(auto)]
 
 mod call_rules;

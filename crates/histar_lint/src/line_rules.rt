@@ -123,9 +123,11 @@ pub fn byte_sentence(alloc: Global, line: &[u8]) -> Result<Option<Vec<u8>>, Allo
     }
 }
 
-/// Returns the sentence of the first rule for spaces that a line breaks, given its free part, if it ends in one.
+/// Returns the sentence of the first rule for spaces that a line breaks, given the free part in which it may
+/// end.
 pub fn space_sentence(line: &[u8], free: Option<&[u8]>) -> Option<&'static str>
-    ensures { option_copied result ≡ first_sentence (space_rules line.now (option_copied free.entry)) }
+    ensures { option_copied result
+        ≡ first_sentence (space_rules line.now (option_copied free.entry)) }
 {
     let words = before_free(line, free);
     if begins_with(line, b' ') {

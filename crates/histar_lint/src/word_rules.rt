@@ -42,7 +42,7 @@ fn one_word(text: &[u8]) -> Option<&[u8]>
     }
 }
 
-/// Returns the free part of an argument of this kind, which is this text up to the end of its line.
+/// Returns the free part of an argument of this kind, with which its line ends.
 fn free_in(kind: Kind, text: &[u8]) -> Option<&[u8]>
     ensures { option_copied result ≡ free_in kind text.now }
 {
@@ -63,7 +63,7 @@ fn free_in_argument(kind: Kind, argument: Option<&[u8]>) -> Option<&[u8]>
     }
 }
 
-/// Returns the free part of a call of this shape, which is this text up to the end of its line.
+/// Returns the free part of a call of this shape.
 fn free_in_call(shape: Option<Shape>, text: &[u8]) -> Option<&[u8]>
     ensures { option_copied result ≡ free_in_call shape text.now }
 {

@@ -12,8 +12,9 @@ behind_first : (byte : ℕ) (text : List ℕ) → 1 ≤ length text
 behind_first byte [] some none = absurd (omega arith)
 behind_first byte (b ∷ text) some none =
     let whole : take (length (b ∷ text) - 1) text ≡ text = grind (arith, common_steps) in
-    subst (λ (behind : List ℕ). false ≡ (b == 32 && begins_with byte behind) → has_after_space byte (b ∷ text) ≡ has_after_space byte behind) (sym whole)
-    (λ none. ap (λ (front : Bool). front || has_after_space byte text) (sym none)) none
+    let family : List ℕ → Type 0 = λ (behind : List ℕ).
+    false ≡ (b == 32 && begins_with byte behind) → has_after_space byte (b ∷ text) ≡ has_after_space byte behind in
+    subst family (sym whole) (λ none. ap (λ (front : Bool). front || has_after_space byte text) (sym none)) none
 
 pub loop-rest-preserved : goal.loop-rest-preserved
 loop-rest-preserved c =
