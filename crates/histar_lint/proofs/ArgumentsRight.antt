@@ -1,5 +1,5 @@
 -- The arguments of a right call are words, or bytes at its end.
-use Rattle.std.proofs.Common.{◌≡◌, ℕ, ◌<◌, ◌^◌, Bool, true, false, eqb, ltb, leb, ◌&&◌, not, List, ◌∷◌, ◌++◌, [], codes, length, drop}
+use Rattle.std.proofs.Common.{◌≡◌, ℕ, ◌<◌, ◌^◌, Bool, true, false, eqb, ◌&&◌, not, List, ◌∷◌, ◌++◌, [], codes, length}
 use Rattle.std.proofs.Common.{Option, Some, None, refl, sym, ap, subst, ◌∙◌, inl, inr, arith}
 use Rattle.std.specs.Prelude.{is_some}
 use Rattle.std.specs.List.{list_all}
@@ -17,8 +17,8 @@ use Rattle.histar_flat.specs.Texts.{mode_text}
 use Rattle.histar_flat.proofs.Numbers.{decimal_digits, is_digit}
 use Rattle.histar_flat.proofs.Options.{either_chosen}
 use Rattle.histar_flat.proofs.SplitLemmas.{lacks, split_alone}
-use Rattle.histar_script.specs.CallForms.{Argument, a_path, a_mode, any_bytes, a_name, a_password, a_process, a_number, Value, Spells}
-use Rattle.histar_script.specs.Lines.{split_word, ◌space◌}
+use Rattle.histar_script.specs.CallForms.{Argument, a_path, a_mode, any_bytes, a_name, a_password, a_process, a_number, Value}
+use Rattle.histar_script.specs.Lines.{◌space◌}
 use Rattle.histar_script.specs.Reading.{value_of}
 use Rattle.histar_script.proofs.ArgumentsBack.{is_bounded, value_takes}
 use Rattle.histar_script.proofs.PathsBack.{path_lacks_space}

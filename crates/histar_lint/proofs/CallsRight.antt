@@ -1,6 +1,6 @@
 -- The text of a right call keeps the rules for calls.
 use Rattle.std.proofs.Common.{◌≡◌, ℕ, Bool, true, false, cond, eqb, ◌&&◌, not, List, [], ◌∷◌, ◌++◌, Option, Some, None, refl, sym, ap, subst}
-use Rattle.std.proofs.Common.{◌∙◌, inl, inr, ltb}
+use Rattle.std.proofs.Common.{◌∙◌, inl, inr}
 use Rattle.std.specs.Prelude.{is_none, is_some, unwrap_or, option_and_then}
 use Rattle.std.specs.List.{list_all}
 use Rattle.std.specs.Str.{bytes_eq}
@@ -17,7 +17,7 @@ use Rattle.histar_script.proofs.Parting.{parted, split_part}
 use Rattle.histar_script.proofs.WordsBack.{same_bytes}
 use Rattle.histar_lint.specs.declared.shapes.Shape.{Shape}
 use Rattle.histar_lint.specs.declared.shapes.Shape.TheVariants.{Alone, One, Two}
-use Rattle.histar_lint.specs.Lines.{after_word, begins_with, rest_of, word_of}
+use Rattle.histar_lint.specs.Lines.{after_word, rest_of, word_of}
 use Rattle.histar_lint.specs.Calls.{goes_on, has_too_little, has_too_much, kind_of, shape_among, shape_named, shape_of, shape_rules}
 use Rattle.histar_lint.specs.FreeParts.{behind_spaces, free_in, free_in_call, words_behind}
 use Rattle.histar_lint.proofs.Rules.{AreKept, keep}

@@ -17,8 +17,8 @@ use Rattle.histar_script.specs.declared.items.Item.TheVariants as items
 use Rattle.histar_script.specs.CallForms.{a_process}
 use Rattle.histar_script.specs.Lines.{is_plain}
 use Rattle.histar_script.specs.Script.{ScriptModel, is_declared_call}
-use Rattle.histar_script.specs.Reading.{are_distinct, are_users, call_item, call_of, group_item, group_of, has_user, is_empty, item_of}
-use Rattle.histar_script.specs.Reading.{takes_call, takes_group, takes_user, user_item, user_of, with_item, with_line, words_item}
+use Rattle.histar_script.specs.Reading.{are_distinct, are_users, call_of, group_of, has_user, is_empty, item_of}
+use Rattle.histar_script.specs.Reading.{takes_call, takes_group, takes_user, user_of, with_item, with_line, words_item}
 use Rattle.histar_script.proofs.GroupsBack.{group_takes}
 use Rattle.histar_script.proofs.Parting.{parted}
 use Rattle.histar_script.proofs.WordsBack.{same_bytes}

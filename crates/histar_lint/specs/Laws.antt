@@ -6,7 +6,9 @@ use Rattle.histar_lint.specs.Rules.{sentence}
 
 -- each bad line breaks a rule
 abbrev pub EachBadLineBreaksOne : Type 0
-EachBadLineBreaksOne = (lines : List (List ℕ)) (s : ScriptModel) (n : ℕ) (line : List ℕ) → with_line s n line ≡ None → is_some (sentence lines s line) ≡ true
+EachBadLineBreaksOne =
+    (lines : List (List ℕ)) (s : ScriptModel) (n : ℕ) (line : List ℕ)
+    → with_line s n line ≡ None → is_some (sentence lines s line) ≡ true
 
 -- no right line breaks a rule
 abbrev pub NoRightLineBreaksOne : Type 0

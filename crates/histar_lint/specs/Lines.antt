@@ -1,4 +1,4 @@
--- The parts of a line, and the rules for its bytes.
+-- The parts of a line, and the rules for its bytes and its spaces.
 use Rattle.std.specs.Prelude.{ℕ, ◌+◌, ◌-◌, ◌%◌, ◌/◌, Bool, false, ◌&&◌, ◌||◌, ◌==◌, nat_lt, List, [], ◌∷◌, ◌++◌, length, codes, decimal}
 use Rattle.std.specs.Prelude.{Option, None, Some, is_none, is_some, take, unwrap_or, if◌then◌else◌}
 use Rattle.std.specs.List.{slice_get}

@@ -1,23 +1,17 @@
 //! The rules for call lines.
 ghost use Rattle.std.specs.Prelude.{◌≡◌, ◌++◌, [], IfOk, OnOk, is_some, map, option_map};
 ghost use Rattle.std.specs.Option.{option_copied, option_map_or};
-ghost use Rattle.histar_lint.specs.Lines.{first_sentence, rest_of};
+ghost use Rattle.histar_lint.specs.Lines.{first_sentence};
 ghost use Rattle.histar_lint.specs.Calls.{argument_rules, bad_argument, call_word_rules, goes_on, has_too_little, has_too_much, suggestion};
 ghost use Rattle.histar_lint.specs.Calls.{unknown_text};
 ghost use Rattle.histar_script.specs.Reading.{call_of};
 ghost use Rattle.histar_lint.specs.Rules.{call_place_rules, is_undeclared, read_so_far};
 
+use crate::line_rules::rest_of;
 use crate::shapes::{Kind, Shape, is_bytes, is_value, kind_text, nearest, shape_named, usage_text};
 use histar_flat::{Accounts, CallLine, UnixCall, read_process};
 use histar_script::{is_declared_call, read_call, split_word};
 use std::alloc::{AllocError, Global};
-
-/// Returns what follows the first word of a text.
-pub(crate) fn rest_of(text: &[u8]) -> &[u8]
-    ensures { result.now ≡ rest_of text.now }
-{
-    split_word(text).1.unwrap_or(&[])
-}
 
 /// Checks whether more words follow an argument of this kind, which begins a text.
 fn goes_on(kind: Kind, text: &[u8]) -> bool

@@ -8,7 +8,7 @@ ghost use Rattle.histar_lint.specs.Lines.{first_sentence};
 ghost use Rattle.histar_lint.specs.Rules.{are_two_words, declared_on, declared_twice, declares, group_place_rules, group_word_rules};
 ghost use Rattle.histar_lint.specs.Rules.{has_stranger, has_twin, is_taken, member_rules, read_so_far, user_place_rules, user_word_rules};
 
-use crate::call_rules::rest_of;
+use crate::line_rules::rest_of;
 use crate::shapes::{Kind, kind_text};
 use crate::texts::push_number;
 use histar_flat::{Accounts, CallLine, Group, User, read_password, read_user_name};

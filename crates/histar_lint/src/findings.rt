@@ -8,11 +8,11 @@ ghost use Rattle.histar_lint.specs.FreeParts.{word_rules};
 ghost use Rattle.histar_lint.specs.Rules.{call_place_rules, group_place_rules, group_word_rules, is_comment, kind_rules, read_so_far};
 ghost use Rattle.histar_lint.specs.Rules.{said_rules, sentence, user_place_rules, user_word_rules};
 
-use crate::call_rules::{call_place_sentence, call_word_sentence, rest_of};
+use crate::call_rules::{call_place_sentence, call_word_sentence};
 use crate::declaration_rules::{
     group_place_sentence, group_word_sentence, user_place_sentence, user_word_sentence,
 };
-use crate::line_rules::{begins_with, byte_sentence};
+use crate::line_rules::{begins_with, byte_sentence, rest_of};
 use crate::word_rules::word_sentence;
 use histar_flat::{Accounts, CallLine};
 use histar_script::split_word;

@@ -2,13 +2,21 @@
 ghost use Rattle.std.specs.Prelude.{◌≡◌, ◌==◌, ◌&&◌, IfOk, is_none, option_map};
 ghost use Rattle.std.specs.Option.{option_copied};
 ghost use Rattle.histar_lint.specs.Lines.{before_free, begins_with, byte_rules, ends_with, first_sentence, has_after_space};
-ghost use Rattle.histar_lint.specs.Lines.{long_text, space_rules, unprintable_from, unprintable_text};
+ghost use Rattle.histar_lint.specs.Lines.{long_text, rest_of, space_rules, unprintable_from, unprintable_text};
 
 use crate::texts::{push_hex, push_number};
+use histar_script::split_word;
 use std::alloc::{AllocError, Global};
 
 /// The most bytes of a line.
 const MOST_LINE_BYTES: usize = 1_024;
+
+/// Returns what follows the first word of a text.
+pub fn rest_of(text: &[u8]) -> &[u8]
+    ensures { result.now ≡ rest_of text.now }
+{
+    split_word(text).1.unwrap_or(&[])
+}
 
 /// Checks whether a text begins with a byte.
 pub fn begins_with(text: &[u8], byte: u8) -> bool

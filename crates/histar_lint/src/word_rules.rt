@@ -5,8 +5,7 @@ ghost use Rattle.histar_lint.specs.Lines.{first_sentence};
 ghost use Rattle.histar_lint.specs.FreeParts.{behind_spaces, free_in, free_in_call, free_of, one_word, word_rules};
 ghost use Rattle.histar_lint.specs.FreeParts.{words_behind};
 
-use crate::call_rules::rest_of;
-use crate::line_rules::space_sentence;
+use crate::line_rules::{rest_of, space_sentence};
 use crate::shapes::{Kind, Shape, shape_named};
 use histar_script::split_word;
 

@@ -1,15 +1,9 @@
 -- The text of a call that can be read keeps its rules.
-use Rattle.std.proofs.Common.{◌≡◌, ℕ, ◌^◌, ◌<◌, true, false, eqb, leb, ◌&&◌, not, List, [], ◌∷◌, ◌++◌, codes, length, drop}
+use Rattle.std.proofs.Common.{◌≡◌, ℕ, ◌^◌, ◌<◌, true, false, eqb, not, List, [], ◌∷◌, ◌++◌, codes, drop}
 use Rattle.std.proofs.Common.{Option, Some, None, refl, sym, ap, subst, ◌∙◌, arith}
 use Rattle.std.specs.Prelude.{⊤}
 use Rattle.std.specs.Fmt.{decimal}
-use Rattle.std.specs.List.{list_all}
-use Rattle.std.proofs.lemmas.Bool.{and_parts, not-true}
-use Rattle.std.proofs.lemmas.Bool.Decides.{nat_tests}
-use Rattle.std.proofs.lemmas.Fmt.{decimal_nonempty}
 use Rattle.std.proofs.lemmas.List.{append_assoc, append-nil}
-use Rattle.histar_flat.proofs.Numbers.{decimal_digits}
-use Rattle.histar_flat.proofs.SplitLemmas.{lacks}
 use Rattle.histar_level.specs.Levels.{Levels}
 use Rattle.histar_object.specs.declared.objects.Entry.{Entry}
 use Rattle.histar_object.specs.declared.objects.Entry.TheVariants.{Login, Mark}
@@ -23,7 +17,7 @@ use Rattle.histar_rawtext.proofs.CallTexts.{name_is_word, words_of}
 use Rattle.histar_rawtext.proofs.LabelTexts.{lacks-label}
 use Rattle.histar_rawtext.proofs.Parting.{spaced}
 use Rattle.histar_rawtext.proofs.Splits.{joined, split_spaced}
-use Rattle.histar_rawtext.proofs.WordTexts.{lacks-bytes, lacks-decimal, lacks-entry, space_is_no_digit}
+use Rattle.histar_rawtext.proofs.WordTexts.{lacks-bytes, lacks-entry}
 use Rattle.histar_rawtext.proofs.WordsRead.{writable_entry, writable_label}
 use Rattle.histar_lint.specs.Lines.{Rule}
 use Rattle.histar_lint.proofs.ArgumentsRight.{number_word}

@@ -1,5 +1,4 @@
 -- The lemmas of this crate.
-mod Sayings
 mod Steps
 mod Parts
 mod NumbersKept

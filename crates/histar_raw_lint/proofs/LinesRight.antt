@@ -1,14 +1,10 @@
 -- No right line breaks a rule.
-use Rattle.std.proofs.Common.{◌≡◌, ℕ, suc, ◌+◌, ◌-◌, Bool, true, false, cond, eqb, leb, ◌&&◌, ◌||◌, not, List, [], ◌∷◌, ◌++◌, codes, length}
+use Rattle.std.proofs.Common.{◌≡◌, ℕ, true, not, List, [], ◌∷◌, ◌++◌, codes}
 use Rattle.std.proofs.Common.{Option, Some, None, refl, sym, ap, subst, ◌∙◌, arith}
-use Rattle.std.specs.Prelude.{is_none, is_some, nat_lt, slice_get, unwrap_or, ⊤, ◌==◌}
+use Rattle.std.specs.Prelude.{is_none, unwrap_or}
 use Rattle.std.specs.Fmt.{decimal}
-use Rattle.std.specs.List.{list_all}
-use Rattle.std.specs.Option.{option_map_or}
-use Rattle.std.proofs.lemmas.Bool.{and_parts, not-true}
-use Rattle.std.proofs.lemmas.Bool.Decides.{nat_tests}
-use Rattle.std.proofs.lemmas.List.{append_assoc, append-nil}
-use Rattle.histar_flat.proofs.SplitLemmas.{lacks, split_before}
+use Rattle.std.proofs.lemmas.List.{append_assoc}
+use Rattle.histar_flat.proofs.SplitLemmas.{split_before}
 use Rattle.histar_rules.specs.Rules.{greatest}
 use Rattle.histar_rules.specs.declared.raw.RawCall.{RawCall}
 use Rattle.histar_rawtext.specs.RawText.{call_name, call_words}
@@ -17,7 +13,7 @@ use Rattle.histar_rawtext.specs.Readable.{IsReadable}
 use Rattle.histar_rawtext.proofs.CallTexts.{words_of}
 use Rattle.histar_rawtext.proofs.Parting.{spaced}
 use Rattle.histar_rawtext.proofs.WordTexts.{lacks-decimal, space_is_no_digit}
-use Rattle.histar_script.specs.Lines.{is_plain, is_plain_byte, most_line_bytes}
+use Rattle.histar_script.specs.Lines.{is_plain}
 use Rattle.histar_lint.specs.Lines.{Rule, after_word, byte_rules, rest_of, space_rules, word_of}
 use Rattle.histar_lint.proofs.ArgumentsRight.{number_word}
 use Rattle.histar_lint.proofs.BytesKept.{plain_kept}
