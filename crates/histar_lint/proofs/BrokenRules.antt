@@ -17,11 +17,12 @@ use Rattle.histar_script.specs.Script.{ScriptModel, is_declared_call}
 use Rattle.histar_script.specs.Reading.{are_distinct, are_users, call_item, call_of, group_item, group_of, has_user, is_empty, item_of}
 use Rattle.histar_script.specs.Reading.{members_of, takes_call, takes_group, takes_user, user_item, user_of, with_item, with_line}
 use Rattle.histar_script.specs.Reading.{words_item}
-use Rattle.histar_lint.specs.Lines.{Rule, after_word, begins_with, byte_rules, ends_with, has_comment, rest_of, unprintable_from, word_of, word_rules}
+use Rattle.histar_lint.specs.Lines.{Rule, after_word, byte_rules, ends_with, rest_of, space_rules, unprintable_from, word_of}
 use Rattle.histar_lint.specs.declared.shapes.Shape.{Shape}
 use Rattle.histar_lint.specs.Calls.{call_word_rules, has_too_little, has_too_much, shape_named, shape_rules}
-use Rattle.histar_lint.specs.Rules.{call_place_rules, group_place_rules, group_word_rules, has_stranger, has_twin, is_taken, is_undeclared}
-use Rattle.histar_lint.specs.Rules.{kind_rules, rules_for, user_place_rules, user_word_rules}
+use Rattle.histar_lint.specs.FreeParts.{free_of, second_word_rules, word_rules}
+use Rattle.histar_lint.specs.Rules.{are_two_words, call_place_rules, group_place_rules, group_word_rules, has_stranger, has_twin, is_comment}
+use Rattle.histar_lint.specs.Rules.{is_taken, is_undeclared, kind_rules, rules_for, said_rules, user_place_rules, user_word_rules}
 use Rattle.histar_lint.specs.Laws.{EachBadLineBreaksOne}
 use Rattle.histar_lint.proofs.Rules.{some_broken, or_first, or_second, is_said, in_front, behind, none_at}
 
@@ -34,16 +35,17 @@ no_user : (text : List ℕ) → user_of text ≡ None → some_broken (user_word
 unfolding user_of
 no_user text bad =
     let name = user_name_of (word_of text) in
+    let other = not (are_two_words text) in
     elim (none_at name _ bad) [
-      | inl none ↦ or_first (is_none name) _ (is_nothing name none)
+      | inl none ↦ or_second other _ (or_first (is_none name) _ (is_nothing name none))
       | inr named ↦ elim (none_at (after_word text) _ named.2) [
-        | inl none ↦ or_second (is_none name) _ (or_first (is_none (after_word text)) _ (is_nothing (after_word text) none))
+        | inl none ↦ or_first other _ (ap (λ (o : Option (List ℕ)). not (is_some o && is_none (after_word (unwrap_or o [])))) none)
         | inr rest ↦ elim (none_at (password_of rest.0) _ rest.2) [
           | inl none ↦
               let same : rest_of text ≡ rest.0 = ap (λ (o : Option (List ℕ)). unwrap_or o []) rest.1 in
               let wrong : is_none (password_of (rest_of text)) ≡ true =
               ap (λ (word : List ℕ). is_none (password_of word)) same ∙ is_nothing (password_of rest.0) none in
-              or_second (is_none name) _ (or_second (is_none (after_word text)) _ (or_first (is_none (password_of (rest_of text))) false wrong))
+              or_second other _ (or_second (is_none name) _ (or_first (is_none (password_of (rest_of text))) false wrong))
           | inr password ↦ absurd cc
         ]
       ]
@@ -83,7 +85,7 @@ one_of_six true true false false true false e = refl
 one_of_six true true false false true true e = absurd cc
 
 -- the name of a group is the first word
-name_of_group : (text : List ℕ) (g : Group) → group_of text ≡ Some g → user_name_of (word_of text) ≡ Some g.name
+pub name_of_group : (text : List ℕ) (g : Group) → group_of text ≡ Some g → user_name_of (word_of text) ≡ Some g.name
 unfolding group_of
 name_of_group text g is =
     let named = bind_some (user_name_of (word_of text)) _ g is in
@@ -188,7 +190,7 @@ kind word rest item false false is_user is_group says =
     subst (IsKind word rest) same (call process.0 found.0 is_user is_group found.1)
 
 -- the rules for a line with this first word and this rest
-abbrev rules_of_kind : List (List ℕ) → ScriptModel → List ℕ → List ℕ → Bool → Bool → List Rule
+abbrev pub rules_of_kind : List (List ℕ) → ScriptModel → List ℕ → List ℕ → Bool → Bool → List Rule
 rules_of_kind lines s word rest u g =
     cond u (user_word_rules rest ++ user_place_rules lines s rest)
     (cond g (group_word_rules rest ++ group_place_rules s rest) (call_word_rules word rest ++ call_place_rules s rest))
@@ -210,7 +212,7 @@ no_kind lines s word rest false true bad =
   where
     no_group : (text : List ℕ) → group_of text ≡ None → some_broken (group_word_rules text) ≡ true
     no_group text none =
-        or_second (is_none (user_name_of (word_of text))) _ (or_second (is_none (after_word text)) _
+        or_second (is_none (after_word text)) _ (or_second (is_none (user_name_of (word_of text))) _
         (or_first (is_none (group_of text)) false (is_nothing (group_of text) none)))
 no_kind lines s word rest false false bad = in_front (call_word_rules word rest) (call_place_rules s rest) (no_call word rest bad)
 
@@ -235,35 +237,42 @@ refused_item lines s n word rest _ (call p c is_user is_group says) bad =
       | inr h ↦ rw (is_user, is_group) (behind (call_word_rules word rest) (call_place_rules s rest) (misplaced_call s rest c says h.0))
     ]
 
--- the rules for lines of its kind come after those for the bytes and the words of any line
-by_kind : (lines : List (List ℕ)) (s : ScriptModel) (line rest : List ℕ) → after_word line ≡ Some rest
+-- the rules for what a line says come after those for its bytes, if it is no comment
+by_words : (lines : List (List ℕ)) (s : ScriptModel) (line : List ℕ) → is_comment line ≡ false
+    → some_broken (word_rules line ++ kind_rules lines s line) ≡ true → some_broken (rules_for lines s line) ≡ true
+by_words lines s line words broken =
+    let rules = word_rules line ++ kind_rules lines s line in
+    behind (byte_rules line) (said_rules lines s line)
+    (ap (λ (comment : Bool). some_broken (cond comment [] rules)) words ∙ broken)
+
+-- the rules for lines of its kind come after those for the words of any line
+by_kind : (lines : List (List ℕ)) (s : ScriptModel) (line rest : List ℕ) → is_comment line ≡ false → after_word line ≡ Some rest
     → some_broken (rules_of_kind lines s (word_of line) rest (bytes_eq (word_of line) (codes "user"))
     (bytes_eq (word_of line) (codes "group"))) ≡ true
     → some_broken (rules_for lines s line) ≡ true
-by_kind lines s line rest is broken =
+by_kind lines s line rest words is broken =
     let same : rest ≡ rest_of line = sym (ap (λ (o : Option (List ℕ)). unwrap_or o []) is) in
-    behind (byte_rules line) (word_rules line ++ kind_rules lines s line)
+    by_words lines s line words
     (behind (word_rules line) (kind_rules lines s line)
     (subst (λ text. some_broken (rules_of_kind lines s (word_of line) text (bytes_eq (word_of line) (codes "user"))
     (bytes_eq (word_of line) (codes "group"))) ≡ true) same broken))
 
 -- a line whose words have no item breaks a rule
-no_words_item : (lines : List (List ℕ)) (s : ScriptModel) (line : List ℕ) → words_item line ≡ None → some_broken (rules_for lines s line) ≡ true
+no_words_item : (lines : List (List ℕ)) (s : ScriptModel) (line : List ℕ) → is_comment line ≡ false → words_item line ≡ None
+    → some_broken (rules_for lines s line) ≡ true
 unfolding words_item
-no_words_item lines s line bad =
+no_words_item lines s line words bad =
     elim (none_at (after_word line) _ bad) [
-      | inl none ↦
-          behind (byte_rules line) (word_rules line ++ kind_rules lines s line)
-          (in_front (word_rules line) (kind_rules lines s line) (lone_word line none))
+      | inl none ↦ by_words lines s line words (in_front (word_rules line) (kind_rules lines s line) (lone_word line none))
       | inr found ↦
-          by_kind lines s line found.0 found.1 (no_kind lines s (word_of line) found.0 (bytes_eq (word_of line) (codes "user"))
+          by_kind lines s line found.0 words found.1 (no_kind lines s (word_of line) found.0 (bytes_eq (word_of line) (codes "user"))
           (bytes_eq (word_of line) (codes "group")) found.2)
     ]
   where
     lone_word : (line : List ℕ) → after_word line ≡ None → some_broken (word_rules line) ≡ true
     lone_word line none =
-        or_second (begins_with 32 line) _ (or_second (ends_with 32 line) _ (or_second (has_comment line) _
-        (or_first (is_none (after_word line)) false (is_nothing (after_word line) none))))
+        behind (space_rules line (free_of line)) (second_word_rules line)
+        (or_first (is_none (after_word line)) false (is_nothing (after_word line) none))
 
 -- a line without an item breaks a rule
 no_item : (lines : List (List ℕ)) (s : ScriptModel) (line : List ℕ) → item_of line ≡ None → some_broken (rules_for lines s line) ≡ true
@@ -271,17 +280,20 @@ unfolding item_of
 no_item lines s [] bad = absurd cc
 no_item lines s (b ∷ line) bad =
     elim (either_chosen (is_plain (b ∷ line)) _ _ None bad) [
-      | inr h ↦ in_front (byte_rules (b ∷ line)) (word_rules (b ∷ line) ++ kind_rules lines s (b ∷ line)) (not_plain (b ∷ line) h.0)
-      | inl h ↦ elim (either_chosen (eqb b 35) _ _ None h.1) [ inl comment ↦ absurd cc | inr words ↦ no_words_item lines s (b ∷ line) words.1 ]
+      | inr h ↦ in_front (byte_rules (b ∷ line)) (said_rules lines s (b ∷ line)) (not_plain (b ∷ line) h.0)
+      | inl h ↦ elim (either_chosen (eqb b 35) _ _ None h.1) [
+        | inl comment ↦ absurd cc
+        | inr words ↦ no_words_item lines s (b ∷ line) words.0 words.1
+      ]
     ]
 
 -- a line of words whose item may not be here breaks a rule
-misplaced_words : (lines : List (List ℕ)) (s : ScriptModel) (n : ℕ) (line : List ℕ) (item : Item)
+misplaced_words : (lines : List (List ℕ)) (s : ScriptModel) (n : ℕ) (line : List ℕ) (item : Item) → is_comment line ≡ false
     → words_item line ≡ Some item → with_item s n item ≡ None → some_broken (rules_for lines s line) ≡ true
 unfolding words_item
-misplaced_words lines s n line item is bad =
+misplaced_words lines s n line item words is bad =
     let rest = bind_some (after_word line) _ item is in
-    by_kind lines s line rest.0 rest.1
+    by_kind lines s line rest.0 words rest.1
     (refused_item lines s n (word_of line) rest.0 item
     (kind (word_of line) rest.0 item (bytes_eq (word_of line) (codes "user")) (bytes_eq (word_of line) (codes "group")) refl refl rest.2) bad)
 
@@ -304,7 +316,7 @@ misplaced lines s n (b ∷ line) item is bad =
       | inr h ↦ absurd cc
       | inl h ↦ elim (either_chosen (eqb b 35) _ _ (Some item) h.1) [
         | inl comment ↦ no_comment lines s n (b ∷ line) item comment.1 bad
-        | inr words ↦ misplaced_words lines s n (b ∷ line) item words.1 bad
+        | inr words ↦ misplaced_words lines s n (b ∷ line) item words.0 words.1 bad
       ]
     ]
 

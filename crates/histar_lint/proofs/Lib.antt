@@ -1,6 +1,11 @@
 -- The lemmas of this crate.
-mod Rules
+pub mod Rules
+pub mod SpacesRight
+pub mod BytesKept
+pub mod ArgumentsRight
+mod CallsRight
+mod LinesRight
 mod BrokenRules
 mod LinesBefore
 mod Steps
-mod Sayings
+pub mod Sayings

@@ -1,5 +1,5 @@
 -- Lists of rules: the first that is broken.
-use Rattle.std.proofs.Common.{◌≡◌, Bool, true, false, cond, List, [], ◌∷◌, ◌++◌, Option, Some, None, ◌||◌, ◌⊎◌, inl, inr, refl, ℕ}
+use Rattle.std.proofs.Common.{◌≡◌, Bool, true, false, cond, List, [], ◌∷◌, ◌++◌, Option, Some, None, ◌||◌, ◌⊎◌, inl, inr, refl, ap, ◌∙◌, ℕ}
 use Rattle.std.specs.Prelude.{is_some}
 use Rattle.std.specs.List.{list_any}
 use Rattle.std.specs.Option.{option_and_then}
@@ -70,3 +70,30 @@ said_behind (rule ∷ rules) others e =
 pub none_at : {A B : Type 0} (o : Option A) (f : A → Option B) → option_and_then f o ≡ None → (o ≡ None) ⊎ ((x : A) × (o ≡ Some x) × (f x ≡ None))
 none_at None f e = inl refl
 none_at (Some x) f e = inr (x, refl, e)
+
+-- ---- rules that are kept
+
+-- where there is no sentence, no rule is broken
+abbrev pub AreKept : List Rule → Type 0
+AreKept rules = first_sentence rules ≡ None
+
+-- the first rule, with this test, is kept, and so are those after it
+pub first_kept : (test : Bool) (said : List ℕ) (rest : Option (List ℕ)) → cond test (Some said) rest ≡ None → (test ≡ false) × (rest ≡ None)
+first_kept true said rest e = absurd cc
+first_kept false said rest e = (refl, e)
+
+-- the rules in front are kept, and so are those after them
+pub both_kept : (rules others : List Rule) → AreKept (rules ++ others) → AreKept rules × AreKept others
+both_kept [] others e = (refl, e)
+both_kept (rule ∷ rules) others e =
+    let first = first_kept rule.0 rule.1 (first_sentence (rules ++ others)) e in
+    let rest = both_kept rules others first.1 in
+    (rw first.0 rest.0, rest.1)
+
+-- a rule whose test fails is kept, before others that are
+pub keep : (test : Bool) (said : List ℕ) (rest : Option (List ℕ)) → test ≡ false → rest ≡ None → cond test (Some said) rest ≡ None
+keep test said rest kept others = ap (λ b. cond b (Some said) rest) kept ∙ others
+
+-- rules are kept, before others that are
+pub keep_both : (rules others : List Rule) → AreKept rules → AreKept others → AreKept (rules ++ others)
+keep_both rules others kept more = said_behind rules others kept ∙ more

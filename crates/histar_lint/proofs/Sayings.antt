@@ -15,11 +15,15 @@ module _ {V : Type 0} (items : V → List ℕ) (rules others : List Rule) (o : O
   pub front_says : (v : V) → o ≡ Some v → Some (items v) ≡ first_sentence (rules ++ others)
   front_says v is = sym (said_in_front rules others (items v) (sym said ∙ ap (option_map items) is))
 
-  -- or else that of the later ones
+  -- the first rules have no sentence
+  pub behind_is : o ≡ None → first_sentence (rules ++ others) ≡ first_sentence others
+  behind_is none = said_behind rules others (sym said ∙ ap (option_map items) none)
+
+  -- so the sentence is that of the later ones
   pub behind_says : {E : Type 0} (r : Result (Option V) E) → o ≡ None
       → IfOk r (λ more. option_map items more ≡ first_sentence others)
       → IfOk r (λ more. option_map items more ≡ first_sentence (rules ++ others))
-  behind_says r none more = IfOk-weaker r _ _ (λ given is. is ∙ sym (said_behind rules others (sym said ∙ ap (option_map items) none))) more
+  behind_says r none more = IfOk-weaker r _ _ (λ given is. is ∙ sym (behind_is none)) more
 
 -- an optional sentence that is there
 pub unpacked : {V : Type 0} (items : V → List ℕ) (o : Option V) (v : V) (x : Option (List ℕ)) → x ≡ option_map items o

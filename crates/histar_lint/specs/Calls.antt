@@ -1,6 +1,6 @@
 -- The rules for the words of a call.
 use Rattle.std.specs.Prelude.{ℕ, Bool, true, false, ◌==◌, List, [], ◌∷◌, ◌++◌, codes, length, Option, None, Some, is_none, is_some, nat_eq}
-use Rattle.std.specs.Prelude.{map, if◌then◌else◌}
+use Rattle.std.specs.Prelude.{◌&&◌, map, not, if◌then◌else◌}
 use Rattle.std.specs.Option.{option_map_or}
 use Rattle.std.specs.Str.{bytes_eq}
 use Rattle.strsim.specs.Edits.{levenshtein_row}
@@ -80,11 +80,20 @@ arguments_text (Two a b) = codes " " ++ kind_name a ++ codes " " ++ kind_name b
 abbrev pub usage_text : List ℕ → Shape → List ℕ
 usage_text word shape = codes "the call is `PROC " ++ word ++ arguments_text shape ++ codes "`"
 
--- nothing may follow the word of the call, and something does
+-- an argument that is all the rest of its line
+abbrev pub is_bytes : Kind → Bool
+is_bytes kinds.Bytes = true
+is_bytes kind = false
+
+-- more words follow the last argument, which is of this kind and begins this text
+abbrev pub goes_on : Kind → List ℕ → Bool
+goes_on kind text = not (is_bytes kind) && is_some (after_word text)
+
+-- more words follow than the call has arguments
 abbrev pub has_too_much : List ℕ → Shape → Bool
 has_too_much text Alone = is_some (after_word text)
-has_too_much text (One a) = false
-has_too_much text (Two a b) = false
+has_too_much text (One a) = goes_on a (rest_of text)
+has_too_much text (Two a b) = goes_on b (rest_of (rest_of text))
 
 -- the call lacks an argument
 abbrev pub has_too_little : List ℕ → Shape → Bool

@@ -1,6 +1,6 @@
--- The parts of a line, and the rules for its bytes.
+-- The parts of a line, and the rules for its bytes and its spaces.
 use Rattle.std.specs.Prelude.{ℕ, ◌+◌, ◌-◌, ◌%◌, ◌/◌, Bool, false, ◌&&◌, ◌||◌, ◌==◌, nat_lt, List, [], ◌∷◌, ◌++◌, length, codes, decimal}
-use Rattle.std.specs.Prelude.{Option, None, Some, is_none, is_some, unwrap_or, if◌then◌else◌}
+use Rattle.std.specs.Prelude.{Option, None, Some, is_none, is_some, take, unwrap_or, if◌then◌else◌}
 use Rattle.std.specs.List.{slice_get}
 use Rattle.std.specs.Option.{option_map_or}
 use Rattle.histar_script.specs.Lines.{is_plain_byte, most_line_bytes, split_word}
@@ -35,10 +35,14 @@ begins_with b (c ∷ text) = c == b
 abbrev pub ends_with : ℕ → List ℕ → Bool
 ends_with b text = option_map_or (λ c. c == b) (slice_get text (length text - 1)) false
 
--- the text has a space directly followed by a number sign
-abbrev pub has_comment : List ℕ → Bool
-has_comment [] = false
-has_comment (b ∷ text) = (b == 32 && begins_with 35 text) || has_comment text
+-- the text has a space directly followed by this byte
+abbrev pub has_after_space : ℕ → List ℕ → Bool
+has_after_space b [] = false
+has_after_space b (c ∷ text) = (c == 32 && begins_with b text) || has_after_space b text
+
+-- a line up to its free part, if it ends in one
+abbrev pub before_free : List ℕ → Option (List ℕ) → List ℕ
+before_free line free = option_map_or (λ part. take (length line - length part) line) free line
 
 -- a hexadecimal digit
 abbrev pub hex_digit : ℕ → ℕ
@@ -68,10 +72,10 @@ byte_rules line =
     ∷ (ends_with 13 line, codes "the line ends with a carriage return (0x0d)")
     ∷ (is_some (unprintable_from 1 line), option_map_or unprintable_text (unprintable_from 1 line) []) ∷ []
 
--- The rules for the words of any line.
-abbrev pub word_rules : List ℕ → List Rule
-word_rules line =
+-- The rules for the spaces of a line. They are not for its free part, if it ends in one.
+abbrev pub space_rules : List ℕ → Option (List ℕ) → List Rule
+space_rules line free =
     (begins_with 32 line, codes "a space stands at the beginning of the line")
-    ∷ (ends_with 32 line, codes "a space stands at the end of the line")
-    ∷ (has_comment line, codes "a comment has a line of its own")
-    ∷ (is_none (after_word line), codes "a line is `user NAME PASSWORD`, `group NAME USER..` or `PROC CALL`") ∷ []
+    ∷ (is_none free && ends_with 32 line, codes "a space stands at the end of the line")
+    ∷ (has_after_space 35 (before_free line free), codes "a comment has a line of its own")
+    ∷ (has_after_space 32 (before_free line free), codes "two spaces stand one behind the other") ∷ []

@@ -1,6 +1,6 @@
 -- The rules that a line of a script has to keep, each with the sentence that is written if a bad line breaks it.
 use Rattle.std.specs.Prelude.{ℕ, ◌+◌, Bool, false, not, nat_lt, List, [], ◌∷◌, ◌++◌, length, codes, decimal, Option, None, Some}
-use Rattle.std.specs.Prelude.{is_none, if◌then◌else◌}
+use Rattle.std.specs.Prelude.{true, ◌&&◌, ◌==◌, is_none, is_some, if◌then◌else◌}
 use Rattle.std.specs.Option.{option_map_or}
 use Rattle.std.specs.Str.{bytes_eq}
 use Rattle.histar_flat.specs.declared.calls.CallLine.{CallLine}
@@ -13,8 +13,9 @@ use Rattle.histar_script.specs.declared.items.Item.TheVariants as items
 use Rattle.histar_script.specs.Script.{ScriptModel, is_declared_call}
 use Rattle.histar_script.specs.Reading.{are_distinct, are_users, call_of, group_of, has_user, is_empty, item_of}
 use Rattle.histar_lint.specs.declared.shapes.Kind.TheVariants.{Mode, Password}
-use Rattle.histar_lint.specs.Lines.{Rule, after_word, byte_rules, first_sentence, rest_of, word_of, word_rules}
+use Rattle.histar_lint.specs.Lines.{Rule, after_word, byte_rules, first_sentence, rest_of, word_of}
 use Rattle.histar_lint.specs.Calls.{call_word_rules, kind_text}
+use Rattle.histar_lint.specs.FreeParts.{word_rules}
 
 -- the script of the lines above
 abbrev pub read_so_far : Accounts → List CallLine → ScriptModel
@@ -49,11 +50,15 @@ is_taken taken text = option_map_or taken (user_name_of (word_of text)) false
 abbrev pub declared_twice : List (List ℕ) → Name → List ℕ
 declared_twice lines name = codes "user " ++ name ++ codes " stands already on line " ++ decimal (declared_on lines name)
 
+-- the text is two words, with a space between them
+abbrev pub are_two_words : List ℕ → Bool
+are_two_words text = is_some (after_word text) && is_none (after_word (rest_of text))
+
 -- The rules for the words that follow `user`.
 abbrev pub user_word_rules : List ℕ → List Rule
 user_word_rules text =
-    (is_none (user_name_of (word_of text)), declared_name_text)
-    ∷ (is_none (after_word text), codes "a user line is `user NAME PASSWORD`")
+    (not (are_two_words text), codes "a user line is `user NAME PASSWORD`")
+    ∷ (is_none (user_name_of (word_of text)), declared_name_text)
     ∷ (is_none (password_of (rest_of text)), kind_text Password) ∷ []
 
 -- The rules for what a user line needs of the lines above, given their script.
@@ -75,8 +80,8 @@ has_twin group = option_map_or (λ (g : Group). not (are_distinct g.members)) gr
 -- The rules for the words that follow `group`.
 abbrev pub group_word_rules : List ℕ → List Rule
 group_word_rules text =
-    (is_none (user_name_of (word_of text)), declared_name_text)
-    ∷ (is_none (after_word text), codes "a group line is `group NAME USER..`")
+    (is_none (after_word text), codes "a group line is `group NAME USER..`")
+    ∷ (is_none (user_name_of (word_of text)), declared_name_text)
     ∷ (is_none (group_of text), codes "a group has 1 to 16 members, each a user's name, with one space between two") ∷ []
 
 -- The rules for the members of a group, given the users.
@@ -111,9 +116,18 @@ kind_rules lines s line =
     else (if bytes_eq (word_of line) (codes "group") then group_word_rules (rest_of line) ++ group_place_rules s (rest_of line)
     else (call_word_rules (word_of line) (rest_of line) ++ call_place_rules s (rest_of line)))
 
+-- the line is a comment: it is empty, or begins with a number sign
+abbrev pub is_comment : List ℕ → Bool
+is_comment [] = true
+is_comment (b ∷ text) = b == 35
+
+-- The rules for what a line that is no comment says.
+abbrev pub said_rules : List (List ℕ) → ScriptModel → List ℕ → List Rule
+said_rules lines s line = if is_comment line then [] else (word_rules line ++ kind_rules lines s line)
+
 -- The rules for a line of a text with these lines, in their order, given the script of the lines above.
 abbrev pub rules_for : List (List ℕ) → ScriptModel → List ℕ → List Rule
-rules_for lines s line = byte_rules line ++ (word_rules line ++ kind_rules lines s line)
+rules_for lines s line = byte_rules line ++ said_rules lines s line
 
 -- the sentence of the first rule that the line breaks
 abbrev pub sentence : List (List ℕ) → ScriptModel → List ℕ → Option (List ℕ)

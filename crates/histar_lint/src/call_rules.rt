@@ -1,29 +1,42 @@
 //! The rules for call lines.
-ghost use Rattle.std.specs.Prelude.{◌≡◌, ◌++◌, ◌||◌, [], IfOk, OnOk, is_some, map, option_map};
+ghost use Rattle.std.specs.Prelude.{◌≡◌, ◌++◌, [], IfOk, OnOk, is_some, map, option_map};
 ghost use Rattle.std.specs.Option.{option_copied, option_map_or};
-ghost use Rattle.histar_lint.specs.Lines.{first_sentence, rest_of};
-ghost use Rattle.histar_lint.specs.Calls.{argument_rules, bad_argument, call_word_rules, has_too_little, has_too_much, suggestion, unknown_text};
+ghost use Rattle.histar_lint.specs.Lines.{first_sentence};
+ghost use Rattle.histar_lint.specs.Calls.{argument_rules, bad_argument, call_word_rules, goes_on, has_too_little, has_too_much, suggestion};
+ghost use Rattle.histar_lint.specs.Calls.{unknown_text};
 ghost use Rattle.histar_script.specs.Reading.{call_of};
 ghost use Rattle.histar_lint.specs.Rules.{call_place_rules, is_undeclared, read_so_far};
 
-use crate::shapes::{Kind, Shape, is_value, kind_text, nearest, shape_named, usage_text};
+use crate::line_rules::rest_of;
+use crate::shapes::{Kind, Shape, is_bytes, is_value, kind_text, nearest, shape_named, usage_text};
 use histar_flat::{Accounts, CallLine, UnixCall, read_process};
 use histar_script::{is_declared_call, read_call, split_word};
 use std::alloc::{AllocError, Global};
 
-/// Returns what follows the first word of a text.
-pub(crate) fn rest_of(text: &[u8]) -> &[u8]
-    ensures { result.now ≡ rest_of text.now }
+/// Checks whether more words follow an argument of this kind, which begins a text.
+fn goes_on(kind: Kind, text: &[u8]) -> bool
+    ensures { result ≡ goes_on kind text.now }
 {
-    split_word(text).1.unwrap_or(&[])
+    !is_bytes(kind) && split_word(text).1.is_some()
 }
 
-/// Checks whether a call has an argument too much, or lacks one.
-fn is_miscounted(text: &[u8], shape: Shape) -> bool
-    ensures { result ≡ (has_too_much text.now shape || has_too_little text.now shape) }
+/// Checks whether more words follow than a call has arguments.
+fn has_too_much(text: &[u8], shape: Shape) -> bool
+    ensures { result ≡ has_too_much text.now shape }
 {
     match shape {
         Shape::Alone => split_word(text).1.is_some(),
+        Shape::One(kind) => goes_on(kind, rest_of(text)),
+        Shape::Two(_, kind) => goes_on(kind, rest_of(rest_of(text))),
+    }
+}
+
+/// Checks whether a call lacks an argument.
+fn has_too_little(text: &[u8], shape: Shape) -> bool
+    ensures { result ≡ has_too_little text.now shape }
+{
+    match shape {
+        Shape::Alone => false,
         Shape::One(_) => split_word(text).1.is_none(),
         Shape::Two(_, _) => split_word(rest_of(text)).1.is_none(),
     }
@@ -94,7 +107,7 @@ fn argument_sentence(
     ensures { IfOk result (λ said. option_map (λ text. text.items) said
         ≡ first_sentence (argument_rules text.now shape)) }
 {
-    if is_miscounted(text, shape) {
+    if has_too_much(text, shape) || has_too_little(text, shape) {
         return Ok(Some(usage_text(alloc, split_word(text).0, shape)?));
     }
     if is_call(alloc, text)? {

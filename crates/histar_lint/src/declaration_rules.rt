@@ -5,9 +5,10 @@ ghost use Rattle.histar_flat.specs.Accounts.{is_group};
 ghost use Rattle.histar_script.specs.Lines.{lines_of};
 ghost use Rattle.histar_script.specs.Reading.{has_user, item_of};
 ghost use Rattle.histar_lint.specs.Lines.{first_sentence};
-ghost use Rattle.histar_lint.specs.Rules.{declared_on, declared_twice, declares, group_place_rules, group_word_rules};
+ghost use Rattle.histar_lint.specs.Rules.{are_two_words, declared_on, declared_twice, declares, group_place_rules, group_word_rules};
 ghost use Rattle.histar_lint.specs.Rules.{has_stranger, has_twin, is_taken, member_rules, read_so_far, user_place_rules, user_word_rules};
 
+use crate::line_rules::rest_of;
 use crate::shapes::{Kind, kind_text};
 use crate::texts::push_number;
 use histar_flat::{Accounts, CallLine, Group, User, read_password, read_user_name};
@@ -26,18 +27,24 @@ const MOST_GROUPS: usize = 8;
 const DECLARED_NAME: &str =
     "the name of a user or a group has 1 to 32 of a-z, 0-9, dot, underscore and hyphen, begins with a letter and is not nobody";
 
+/// Checks whether a text is two words, with a space between them.
+fn are_two_words(text: &[u8]) -> bool
+    ensures { result ≡ are_two_words text.now }
+{
+    split_word(text).1.is_some() && split_word(rest_of(text)).1.is_none()
+}
+
 /// Returns the sentence of the first rule that the words after `user` break.
 pub(crate) fn user_word_sentence(text: &[u8]) -> Option<&'static str>
     ensures { option_copied result ≡ first_sentence (user_word_rules text.now) }
 {
-    let (word, rest) = split_word(text);
-    if read_user_name(word).is_none() {
+    if !are_two_words(text) {
+        return Some("a user line is `user NAME PASSWORD`");
+    }
+    if read_user_name(split_word(text).0).is_none() {
         return Some(DECLARED_NAME);
     }
-    let Some(rest) = rest else {
-        return Some("a user line is `user NAME PASSWORD`");
-    };
-    if read_password(rest).is_none() {
+    if read_password(rest_of(text)).is_none() {
         return Some(kind_text(Kind::Password));
     }
     None
@@ -87,7 +94,7 @@ fn declared_twice(alloc: Global, text: &[u8], name: &[u8]) -> Result<Vec<u8>, Al
     let mut said = Vec::from_slice(alloc, b"user ".as_slice())?;
     said.extend_from_slice(name)?;
     said.extend_from_slice(b" stands already on line ")?;
-    push_number(&mut said, line)?;
+    push_number(&mut said, line as u64)?;
     Ok(said)
 }
 
@@ -145,11 +152,11 @@ pub(crate) fn group_word_sentence(
     ensures { IfOk result (λ said. option_copied said ≡ first_sentence (group_word_rules text.now)) }
 {
     let (word, rest) = split_word(text);
-    if read_user_name(word).is_none() {
-        return Ok(Some(DECLARED_NAME));
-    }
     if rest.is_none() {
         return Ok(Some("a group line is `group NAME USER..`"));
+    }
+    if read_user_name(word).is_none() {
+        return Ok(Some(DECLARED_NAME));
     }
     if read_group(alloc, text)?.is_none() {
         return Ok(Some(

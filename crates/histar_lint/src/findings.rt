@@ -2,16 +2,18 @@
 ghost use Rattle.std.specs.Prelude.{◌≡◌, ◌++◌, IfOk, option_map};
 ghost use Rattle.std.specs.Option.{option_copied};
 ghost use Rattle.histar_script.specs.Lines.{lines_of};
-ghost use Rattle.histar_lint.specs.Lines.{first_sentence, word_rules};
+ghost use Rattle.histar_lint.specs.Lines.{first_sentence};
 ghost use Rattle.histar_lint.specs.Calls.{call_word_rules};
-ghost use Rattle.histar_lint.specs.Rules.{call_place_rules, group_place_rules, group_word_rules, kind_rules, read_so_far, sentence};
-ghost use Rattle.histar_lint.specs.Rules.{user_place_rules, user_word_rules};
+ghost use Rattle.histar_lint.specs.FreeParts.{word_rules};
+ghost use Rattle.histar_lint.specs.Rules.{call_place_rules, group_place_rules, group_word_rules, is_comment, kind_rules, read_so_far};
+ghost use Rattle.histar_lint.specs.Rules.{said_rules, sentence, user_place_rules, user_word_rules};
 
-use crate::call_rules::{call_place_sentence, call_word_sentence, rest_of};
+use crate::call_rules::{call_place_sentence, call_word_sentence};
 use crate::declaration_rules::{
     group_place_sentence, group_word_sentence, user_place_sentence, user_word_sentence,
 };
-use crate::line_rules::{byte_sentence, word_sentence};
+use crate::line_rules::{begins_with, byte_sentence, rest_of};
+use crate::word_rules::word_sentence;
 use histar_flat::{Accounts, CallLine};
 use histar_script::split_word;
 use std::alloc::{AllocError, Global};
@@ -103,7 +105,7 @@ fn kind_sentence(
 }
 
 /// Returns the sentence of the first rule for words that a line breaks.
-fn printable_sentence(
+fn words_sentence(
     alloc: Global,
     text: &[u8],
     accounts: &Accounts,
@@ -120,6 +122,31 @@ fn printable_sentence(
     }
 }
 
+/// Checks whether a line is a comment.
+fn is_comment(line: &[u8]) -> bool
+    ensures { result ≡ is_comment line.now }
+{
+    line.is_empty() || begins_with(line, b'#')
+}
+
+/// Returns the sentence of the first rule for what it says that a line breaks.
+fn said_sentence(
+    alloc: Global,
+    text: &[u8],
+    accounts: &Accounts,
+    calls: &[CallLine],
+    line: &[u8],
+) -> Result<Option<Vec<u8>>, AllocError>
+    ensures { IfOk result (λ said. option_map (λ text. text.items) said
+        ≡ first_sentence (said_rules (lines_of text.now) (read_so_far accounts.now calls.now)
+        line.now)) }
+{
+    if is_comment(line) {
+        return Ok(None);
+    }
+    words_sentence(alloc, text, accounts, calls, line)
+}
+
 /// Returns the sentence of the first rule that a line of a text breaks, given the accounts and calls of the
 /// lines above it.
 pub(crate) fn sentence(
@@ -134,6 +161,6 @@ pub(crate) fn sentence(
 {
     match byte_sentence(alloc, line)? {
         Some(said) => Ok(Some(said)),
-        None => printable_sentence(alloc, text, accounts, calls, line),
+        None => said_sentence(alloc, text, accounts, calls, line),
     }
 }

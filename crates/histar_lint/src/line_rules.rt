@@ -1,8 +1,8 @@
-//! The rules for the bytes of a line and for its words.
-ghost use Rattle.std.specs.Prelude.{◌≡◌, ◌==◌, ◌&&◌, IfOk, option_map};
+//! The rules for the bytes of a line and for its spaces.
+ghost use Rattle.std.specs.Prelude.{◌≡◌, ◌==◌, ◌&&◌, IfOk, is_none, option_map};
 ghost use Rattle.std.specs.Option.{option_copied};
-ghost use Rattle.histar_lint.specs.Lines.{begins_with, byte_rules, ends_with, first_sentence, has_comment};
-ghost use Rattle.histar_lint.specs.Lines.{long_text, unprintable_from, unprintable_text, word_rules};
+ghost use Rattle.histar_lint.specs.Lines.{before_free, begins_with, byte_rules, ends_with, first_sentence, has_after_space};
+ghost use Rattle.histar_lint.specs.Lines.{long_text, rest_of, space_rules, unprintable_from, unprintable_text};
 
 use crate::texts::{push_hex, push_number};
 use histar_script::split_word;
@@ -11,8 +11,15 @@ use std::alloc::{AllocError, Global};
 /// The most bytes of a line.
 const MOST_LINE_BYTES: usize = 1_024;
 
+/// Returns what follows the first word of a text.
+pub fn rest_of(text: &[u8]) -> &[u8]
+    ensures { result.now ≡ rest_of text.now }
+{
+    split_word(text).1.unwrap_or(&[])
+}
+
 /// Checks whether a text begins with a byte.
-fn begins_with(text: &[u8], byte: u8) -> bool
+pub fn begins_with(text: &[u8], byte: u8) -> bool
     ensures { result ≡ begins_with byte text.now }
 {
     match text {
@@ -22,7 +29,7 @@ fn begins_with(text: &[u8], byte: u8) -> bool
 }
 
 /// Checks whether a text ends with a byte.
-fn ends_with(text: &[u8], byte: u8) -> bool
+pub fn ends_with(text: &[u8], byte: u8) -> bool
     ensures { result ≡ ends_with byte text.now }
 {
     match text.last() {
@@ -31,25 +38,42 @@ fn ends_with(text: &[u8], byte: u8) -> bool
     }
 }
 
-/// Checks whether a byte is a space and the text behind it begins with a number sign.
-fn begins_comment(byte: u8, behind: &[u8]) -> bool
-    ensures { result ≡ (byte == 32 && begins_with 35 behind.now) }
+/// Checks whether a byte is a space and the text behind it begins with another byte.
+fn is_space_before(first: u8, behind: &[u8], byte: u8) -> bool
+    ensures { result ≡ (first == 32 && begins_with byte behind.now) }
 {
-    byte == b' ' && begins_with(behind, b'#')
+    first == b' ' && begins_with(behind, byte)
 }
 
-/// Checks whether a text has a space directly followed by a number sign.
-fn has_comment(text: &[u8]) -> bool
-    ensures { result ≡ has_comment text.now }
+/// Checks whether a text has a space directly followed by a byte.
+fn has_after_space(text: &[u8], byte: u8) -> bool
+    ensures { result ≡ has_after_space byte text.now }
 {
     let mut rest = text;
     while let [first, behind @ ..] = rest {
-        if begins_comment(*first, behind) {
+        if is_space_before(*first, behind, byte) {
             return true;
         }
         rest = behind;
     }
     false
+}
+
+/// Returns a line up to its free part, if it ends in one.
+fn before_free<'a>(line: &'a [u8], free: Option<&[u8]>) -> &'a [u8]
+    ensures { result.now ≡ before_free line.now (option_copied free.entry) }
+{
+    match free {
+        Some(part) => &line[..line.len().saturating_sub(part.len())],
+        None => line,
+    }
+}
+
+/// Checks whether a line has no free part and ends with a space.
+fn ends_in_space(line: &[u8], free: Option<&[u8]>) -> bool
+    ensures { result ≡ (is_none (option_copied free.entry) && ends_with 32 line.now) }
+{
+    free.is_none() && ends_with(line, b' ')
 }
 
 /// Returns the column and the value of the first byte that is not printable.
@@ -69,7 +93,7 @@ fn long_text(alloc: Global, line: &[u8]) -> Result<Vec<u8>, AllocError>
     ensures { IfOk result (λ said. said.items ≡ long_text line.now) }
 {
     let mut said = Vec::from_slice(alloc, b"the line has ".as_slice())?;
-    push_number(&mut said, line.len())?;
+    push_number(&mut said, line.len() as u64)?;
     said.extend_from_slice(b" bytes, and 1024 is the most")?;
     Ok(said)
 }
@@ -81,13 +105,13 @@ fn unprintable_text(alloc: Global, column: usize, byte: u8) -> Result<Vec<u8>, A
     let mut said = Vec::from_slice(alloc, b"byte ".as_slice())?;
     push_hex(&mut said, byte)?;
     said.extend_from_slice(b" at column ")?;
-    push_number(&mut said, column)?;
+    push_number(&mut said, column as u64)?;
     said.extend_from_slice(b" is not printable")?;
     Ok(said)
 }
 
 /// Returns the sentence of the first rule for bytes that a line breaks.
-pub(crate) fn byte_sentence(alloc: Global, line: &[u8]) -> Result<Option<Vec<u8>>, AllocError>
+pub fn byte_sentence(alloc: Global, line: &[u8]) -> Result<Option<Vec<u8>>, AllocError>
     ensures { IfOk result (λ said. option_map (λ text. text.items) said
         ≡ first_sentence (byte_rules line.now)) }
 {
@@ -107,18 +131,21 @@ pub(crate) fn byte_sentence(alloc: Global, line: &[u8]) -> Result<Option<Vec<u8>
     }
 }
 
-/// Returns the sentence of the first rule for words that a line breaks.
-pub(crate) fn word_sentence(line: &[u8]) -> Option<&'static str>
-    ensures { option_copied result ≡ first_sentence (word_rules line.now) }
+/// Returns the sentence of the first rule for spaces that a line breaks, given the free part in which it may
+/// end.
+pub fn space_sentence(line: &[u8], free: Option<&[u8]>) -> Option<&'static str>
+    ensures { option_copied result
+        ≡ first_sentence (space_rules line.now (option_copied free.entry)) }
 {
+    let words = before_free(line, free);
     if begins_with(line, b' ') {
         Some("a space stands at the beginning of the line")
-    } else if ends_with(line, b' ') {
+    } else if ends_in_space(line, free) {
         Some("a space stands at the end of the line")
-    } else if has_comment(line) {
+    } else if has_after_space(words, b'#') {
         Some("a comment has a line of its own")
-    } else if split_word(line).1.is_none() {
-        Some("a line is `user NAME PASSWORD`, `group NAME USER..` or `PROC CALL`")
+    } else if has_after_space(words, b' ') {
+        Some("two spaces stand one behind the other")
     } else {
         None
     }

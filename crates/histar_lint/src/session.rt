@@ -102,7 +102,7 @@ fn finding(alloc: Global, file: &[u8], line: u32, said: &[u8]) -> Result<Vec<u8>
 {
     let mut text = Vec::from_slice(alloc, file)?;
     text.extend_from_slice(b":")?;
-    push_number(&mut text, line as usize)?;
+    push_number(&mut text, line.into())?;
     text.extend_from_slice(b": ")?;
     text.extend_from_slice(said)?;
     text.extend_from_slice(b"\n")?;

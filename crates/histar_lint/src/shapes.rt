@@ -4,7 +4,7 @@ ghost use Rattle.std.specs.Prelude.{◌≡◌, ◌++◌, IfOk, OnOk, codes, map}
 ghost use Rattle.std.specs.Option.{option_copied};
 ghost use Rattle.std.specs.Str.{bytes_eq};
 ghost use Rattle.histar_script.specs.CallForms.{call_forms, entry_calls, process_calls, reading_calls};
-ghost use Rattle.histar_lint.specs.Calls.{arguments_text, first_near, is_near, is_value, kind_name, kind_text, nearest};
+ghost use Rattle.histar_lint.specs.Calls.{arguments_text, first_near, is_bytes, is_near, is_value, kind_name, kind_text, nearest};
 ghost use Rattle.histar_lint.specs.Calls.{shape_among, shape_named, usage_text};
 
 use histar_flat::{read_mode, read_name, read_password, read_path, read_process, read_status};
@@ -163,6 +163,13 @@ pub(crate) fn kind_text(kind: Kind) -> &'static str
             "a process is 0, or 0 and up to 7 numbers from 1 to 64 with a dot before each",
         Kind::Status => "an exit status is a number from 0 to 255",
     }
+}
+
+/// Checks whether an argument of this kind is all the rest of its line.
+pub(crate) fn is_bytes(kind: Kind) -> bool
+    ensures { result ≡ is_bytes kind }
+{
+    matches!(kind, Kind::Bytes)
 }
 
 /// Checks whether a text is a value of this kind.

@@ -11,11 +11,11 @@ use Rattle.histar_rules.specs.declared.raw.RawCall.{RawCall}
 use Rattle.histar_rawtext.specs.RawText.{call_text}
 use Rattle.histar_rawtext.specs.Readable.{IsCallLine}
 use Rattle.histar_script.specs.Lines.{is_plain, is_plain_byte, most_line_bytes}
-use Rattle.histar_lint.specs.Lines.{after_word, begins_with, byte_rules, ends_with, has_comment, rest_of, unprintable_from, word_of}
+use Rattle.histar_lint.specs.Lines.{after_word, byte_rules, ends_with, rest_of, space_rules, unprintable_from, word_of}
 use Rattle.histar_raw_lint.specs.Laws.{EachBadRawLineBreaksOne}
-use Rattle.histar_raw_lint.specs.Rules.{call_rules, has_gap, sentence, thread_rules, word_rules}
+use Rattle.histar_raw_lint.specs.Rules.{call_rules, second_word_rules, sentence, thread_rules, word_rules}
 use Rattle.histar_raw_lint.specs.Values.{are_digits}
-use Rattle.histar_raw_lint.proofs.Rules.{AreKept, both_kept, first_kept}
+use Rattle.histar_lint.proofs.Rules.{AreKept, both_kept, first_kept}
 use Rattle.histar_raw_lint.proofs.NumbersKept.{is_there, number_by_digits}
 use Rattle.histar_raw_lint.proofs.CallsKept.{by_first_word, call_by_rules, tail_of}
 
@@ -43,12 +43,8 @@ plain_by_rules line kept =
 -- a line that keeps the rules for words has a second one
 second_word : (line : List ℕ) → AreKept (word_rules line) → (rest : List ℕ) × (after_word line ≡ Some rest)
 second_word line kept =
-    let first = first_kept (begins_with 32 line) _ _ kept in
-    let second = first_kept (ends_with 32 line) _ _ first.1 in
-    let third = first_kept (has_comment line) _ _ second.1 in
-    let fourth = first_kept (has_gap line) _ _ third.1 in
-    let fifth = first_kept (is_none (after_word line)) _ _ fourth.1 in
-    is_there (after_word line) fifth.0
+    let last = both_kept (space_rules line None) (second_word_rules line) kept in
+    is_there (after_word line) (first_kept (is_none (after_word line)) _ _ last.1).0
 
 -- a line that keeps all rules is plain, and contains a call
 says_call : (line : List ℕ) → sentence line ≡ None → IsTrue (is_plain line) × (thread : ℕ) × (call : RawCall) × IsCallLine line thread call

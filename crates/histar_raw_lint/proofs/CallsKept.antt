@@ -14,7 +14,7 @@ use Rattle.histar_lint.specs.Lines.{after_word, word_of}
 use Rattle.histar_raw_lint.specs.declared.kinds.Kind.{Kind}
 use Rattle.histar_raw_lint.specs.declared.kinds.Kind.TheVariants.{Container, Object, Segment, Gate, Keep, Label, Clearance, Verify, Bytes, Entry}
 use Rattle.histar_raw_lint.specs.Rules.{argument_rules, call_rules, fits, kinds_among, kinds_rules, raw_calls, value_rules}
-use Rattle.histar_raw_lint.proofs.Rules.{AreKept, both_kept, first_kept}
+use Rattle.histar_lint.proofs.Rules.{AreKept, both_kept, first_kept}
 use Rattle.histar_raw_lint.proofs.Parts.{split_back, whole_back}
 use Rattle.histar_raw_lint.proofs.LabelsKept.{not_so}
 use Rattle.histar_raw_lint.proofs.ValuesKept.{IsValue, value_by_rules}

@@ -1,15 +1,9 @@
 -- The text of a call that can be read keeps its rules.
-use Rattle.std.proofs.Common.{◌≡◌, ℕ, ◌^◌, ◌<◌, true, false, eqb, leb, ◌&&◌, not, List, [], ◌∷◌, ◌++◌, codes, length, drop}
+use Rattle.std.proofs.Common.{◌≡◌, ℕ, ◌^◌, ◌<◌, true, false, eqb, not, List, [], ◌∷◌, ◌++◌, codes, drop}
 use Rattle.std.proofs.Common.{Option, Some, None, refl, sym, ap, subst, ◌∙◌, arith}
 use Rattle.std.specs.Prelude.{⊤}
 use Rattle.std.specs.Fmt.{decimal}
-use Rattle.std.specs.List.{list_all}
-use Rattle.std.proofs.lemmas.Bool.{and_parts, not-true}
-use Rattle.std.proofs.lemmas.Bool.Decides.{nat_tests}
-use Rattle.std.proofs.lemmas.Fmt.{decimal_nonempty}
 use Rattle.std.proofs.lemmas.List.{append_assoc, append-nil}
-use Rattle.histar_flat.proofs.Numbers.{decimal_digits}
-use Rattle.histar_flat.proofs.SplitLemmas.{lacks}
 use Rattle.histar_level.specs.Levels.{Levels}
 use Rattle.histar_object.specs.declared.objects.Entry.{Entry}
 use Rattle.histar_object.specs.declared.objects.Entry.TheVariants.{Login, Mark}
@@ -23,41 +17,19 @@ use Rattle.histar_rawtext.proofs.CallTexts.{name_is_word, words_of}
 use Rattle.histar_rawtext.proofs.LabelTexts.{lacks-label}
 use Rattle.histar_rawtext.proofs.Parting.{spaced}
 use Rattle.histar_rawtext.proofs.Splits.{joined, split_spaced}
-use Rattle.histar_rawtext.proofs.WordTexts.{lacks-bytes, lacks-decimal, lacks-entry, space_is_no_digit}
+use Rattle.histar_rawtext.proofs.WordTexts.{lacks-bytes, lacks-entry}
 use Rattle.histar_rawtext.proofs.WordsRead.{writable_entry, writable_label}
 use Rattle.histar_lint.specs.Lines.{Rule}
+use Rattle.histar_lint.proofs.ArgumentsRight.{number_word}
+use Rattle.histar_lint.proofs.SpacesRight.{IsWord}
 use Rattle.histar_raw_lint.specs.declared.kinds.Kind.{Kind}
 use Rattle.histar_raw_lint.specs.declared.kinds.Kind.TheVariants.{Container, Object, Segment, Gate, Keep, Label, Clearance, Verify, Bytes}
 use Rattle.histar_raw_lint.specs.declared.kinds.Kind.TheVariants.{Entry as AnEntry}
 use Rattle.histar_raw_lint.specs.Rules.{argument_rules, call_rules, fits, kinds_among, raw_calls, unknown_text, usage_text, value_rules}
-use Rattle.histar_raw_lint.proofs.Rules.{AreKept, keep, keep_both}
+use Rattle.histar_lint.proofs.Rules.{AreKept, keep, keep_both}
 use Rattle.histar_raw_lint.proofs.ValuesRight.{bytes_kept, entry_kept, label_kept, number_kept}
 
 -- ---- words
-
--- a word: no space is in it, and it begins with a byte that is no number sign
-pub record IsWord (word : List ℕ) : Type 0 where
-  pub first : ℕ
-  pub rest : List ℕ
-  pub parts : word ≡ first ∷ rest
-  pub plain : lacks 32 word ≡ true
-  pub no_sign : eqb first 35 ≡ false
-
--- its first byte is no space
-pub no_space : (word : List ℕ) (w : IsWord word) → eqb w.first 32 ≡ false
-no_space word w =
-    let plain : lacks 32 (w.first ∷ w.rest) ≡ true = ap (lacks 32) (sym w.parts) ∙ w.plain in
-    not-true (eqb w.first 32) (and_parts (not (eqb w.first 32)) (lacks 32 w.rest) plain).0
-
-pub number_is_word : (n : ℕ) → IsNumber n → IsWord (decimal n)
-number_is_word n small = by (decimal n) refl (decimal_digits n small) (decimal_nonempty n small)
-  where
-    by : (text : List ℕ) → decimal n ≡ text → list_all (λ b. leb 48 b && leb b 57) text ≡ true → 0 < length text → IsWord (decimal n)
-    by [] is digits some = absurd (omega (arith, some))
-    by (b ∷ text) is digits some =
-        let first = and_parts (leb 48 b) (leb b 57) (and_parts (leb 48 b && leb b 57) (list_all (λ b. leb 48 b && leb b 57) text) digits).0 in
-        let low = first.0 in
-        record { first = b; rest = text; parts = is; plain = lacks-decimal 32 n space_is_no_digit small; no_sign = grind (arith, nat_tests, low) }
 
 label_is_word : (L : Levels) → IsReadableLabel L → IsWord (label_text L)
 label_is_word L p = record { first = 123; rest = drop 1 (label_text L); parts = refl; plain = lacks-label L (writable_label L p); no_sign = refl }
@@ -165,20 +137,20 @@ is_named (calls.Unlink a b) = refl
 is_named (calls.LabelOf a b) = refl
 
 container : (n : ℕ) → IsNumber n → IsRight Container (decimal n)
-container n p = record { is_word = number_is_word n p; kept = number_kept (codes "a container") greatest n p (omega (arith, p)) }
+container n p = record { is_word = number_word n p; kept = number_kept (codes "a container") greatest n p (omega (arith, p)) }
 
 object : (n : ℕ) → IsNumber n → IsRight Object (decimal n)
-object n p = record { is_word = number_is_word n p; kept = number_kept (codes "an object") greatest n p (omega (arith, p)) }
+object n p = record { is_word = number_word n p; kept = number_kept (codes "an object") greatest n p (omega (arith, p)) }
 
 segment : (n : ℕ) → IsNumber n → IsRight Segment (decimal n)
-segment n p = record { is_word = number_is_word n p; kept = number_kept (codes "a segment") greatest n p (omega (arith, p)) }
+segment n p = record { is_word = number_word n p; kept = number_kept (codes "a segment") greatest n p (omega (arith, p)) }
 
 gate : (n : ℕ) → IsNumber n → IsRight Gate (decimal n)
-gate n p = record { is_word = number_is_word n p; kept = number_kept (codes "a gate") greatest n p (omega (arith, p)) }
+gate n p = record { is_word = number_word n p; kept = number_kept (codes "a gate") greatest n p (omega (arith, p)) }
 
 keep_word : (n : ℕ) → n < 2 ^ 32 → IsRight Keep (decimal n)
 keep_word n p = record {
-  is_word = number_is_word n (omega (arith, p));
+  is_word = number_word n (omega (arith, p));
   kept =
       number_kept (codes "KEEP") 4294967295 n (omega (arith, p)) (omega (arith, p));
 }

@@ -32,7 +32,7 @@ use Rattle.histar_lint.specs.Lines.{ends_with}
 use Rattle.histar_raw_lint.specs.Values.{before_colon, before_last, behind_colon, category_of_part, category_rules, exception_rules}
 use Rattle.histar_raw_lint.specs.Values.{exceptions_rules, in_braces}
 use Rattle.histar_raw_lint.specs.Values.{is_braced, is_late, is_level, label_rules, lacks_default, last_of, part_rules, text_behind}
-use Rattle.histar_raw_lint.proofs.Rules.{AreKept, both_kept, first_kept}
+use Rattle.histar_lint.proofs.Rules.{AreKept, both_kept, first_kept}
 use Rattle.histar_raw_lint.proofs.NumbersKept.{is_there, number_by_rules}
 use Rattle.histar_raw_lint.proofs.Parts.{split_back}
 

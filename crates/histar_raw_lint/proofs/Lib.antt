@@ -1,6 +1,4 @@
 -- The lemmas of this crate.
-mod Rules
-mod Sayings
 mod Steps
 mod Parts
 mod NumbersKept

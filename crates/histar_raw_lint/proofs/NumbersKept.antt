@@ -12,7 +12,7 @@ use Rattle.histar_flat.proofs.Numbers.{number_takes}
 use Rattle.histar_rules.specs.Rules.{greatest}
 use Rattle.histar_rawtext.specs.Reading.{number_in}
 use Rattle.histar_raw_lint.specs.Values.{are_digits, digit_rules, has_zero, number_rules, positive_rules}
-use Rattle.histar_raw_lint.proofs.Rules.{AreKept, first_kept}
+use Rattle.histar_lint.proofs.Rules.{AreKept, first_kept}
 
 -- a value is there that is not missing
 pub is_there : {A : Type 0} (o : Option A) → is_none o ≡ false → (x : A) × (o ≡ Some x)

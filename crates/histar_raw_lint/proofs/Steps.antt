@@ -12,7 +12,7 @@ use Rattle.histar_rawtext.proofs.LabelsRead.{taken}
 use Rattle.histar_raw_lint.specs.declared.kinds.Kind.{Kind}
 use Rattle.histar_raw_lint.specs.Rules.{argument_rules, fits, value_rules}
 use Rattle.histar_raw_lint.specs.Values.{category_of_part, exception_rules, exceptions_rules, last_of, before_last, list_rules, part_rules}
-use Rattle.histar_raw_lint.proofs.Sayings.{behind_is, front_says}
+use Rattle.histar_lint.proofs.Sayings.{behind_is, front_says}
 
 -- the rest of a list is the next item and those after it
 pub cut : {X : Type 0} (xs : List X) (i : ℕ) (d : X) → i < length xs → drop i xs ≡ get_or xs i d ∷ drop (i + 1) xs

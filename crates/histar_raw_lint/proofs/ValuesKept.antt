@@ -19,7 +19,7 @@ use Rattle.histar_raw_lint.specs.declared.kinds.Kind.{Kind}
 use Rattle.histar_raw_lint.specs.declared.kinds.Kind.TheVariants as kinds
 use Rattle.histar_raw_lint.specs.Rules.{value_rules}
 use Rattle.histar_raw_lint.specs.Values.{before_colon, behind_colon, bytes_rules, entry_form, entry_rules, is_hex_digit, number_rules, positive_rules}
-use Rattle.histar_raw_lint.proofs.Rules.{AreKept, first_kept}
+use Rattle.histar_lint.proofs.Rules.{AreKept, first_kept}
 use Rattle.histar_raw_lint.proofs.Parts.{split_back}
 use Rattle.histar_raw_lint.proofs.NumbersKept.{number_by_rules, positive_by_rules}
 use Rattle.histar_raw_lint.proofs.LabelsKept.{label_by_rules, not_so}

@@ -40,7 +40,7 @@ use Rattle.histar_raw_lint.specs.Values.{exceptions_rules, has_zero, in_braces, 
 use Rattle.histar_raw_lint.specs.Values.{lacks_default, level_sentence}
 use Rattle.histar_raw_lint.specs.Values.{list_rules, number_rules, part_rules, positive_rules}
 use Rattle.histar_raw_lint.proofs.LabelsKept.{AreNext, IsNext, category_is, part}
-use Rattle.histar_raw_lint.proofs.Rules.{AreKept, keep, keep_both}
+use Rattle.histar_lint.proofs.Rules.{AreKept, keep, keep_both}
 use Rattle.histar_raw_lint.proofs.Steps.{front_is, last_is}
 
 -- ---- numbers

@@ -1,11 +1,11 @@
 -- The rules of a line of a raw session, each with the sentence that is written where a bad line breaks it.
-use Rattle.std.specs.Prelude.{ℕ, Bool, true, false, not, ◌&&◌, ◌||◌, ◌==◌, List, [], ◌∷◌, ◌++◌, codes, Option, None, Some, is_none, map}
+use Rattle.std.specs.Prelude.{ℕ, Bool, true, false, not, List, [], ◌∷◌, ◌++◌, codes, Option, None, Some, is_none, map}
 use Rattle.std.specs.Prelude.{if◌then◌else◌}
 use Rattle.std.specs.List.{flat_map}
 use Rattle.std.specs.Option.{option_map_or}
 use Rattle.std.specs.Str.{bytes_eq}
 use Rattle.histar_rules.specs.Rules.{greatest}
-use Rattle.histar_lint.specs.Lines.{Rule, after_word, begins_with, byte_rules, ends_with, first_sentence, has_comment, rest_of, word_of}
+use Rattle.histar_lint.specs.Lines.{Rule, after_word, byte_rules, first_sentence, rest_of, space_rules, word_of}
 use Rattle.histar_lint.specs.Calls.{first_near, suggestion}
 use Rattle.histar_raw_lint.specs.declared.kinds.Kind.{Kind}
 use Rattle.histar_raw_lint.specs.declared.kinds.Kind.TheVariants.{Container, Object, Segment, Gate, Keep, Label, Clearance, Verify, Bytes, Entry}
@@ -114,19 +114,13 @@ thread_rules word =
     (not (are_digits word), codes "a thread is a number, as in `2 make_category`")
     ∷ digit_rules (codes "a thread") greatest word
 
--- there are two spaces, one after the other
-abbrev pub has_gap : List ℕ → Bool
-has_gap [] = false
-has_gap (b ∷ text) = (b == 32 && begins_with 32 text) || has_gap text
+-- The rule that a line has a second word.
+abbrev pub second_word_rules : List ℕ → List Rule
+second_word_rules line = (is_none (after_word line), codes "a line is `THREAD CALL`, as in `2 make_category`") ∷ []
 
 -- The rules for the words of any line.
 abbrev pub word_rules : List ℕ → List Rule
-word_rules line =
-    (begins_with 32 line, codes "a space stands at the beginning of the line")
-    ∷ (ends_with 32 line, codes "a space stands at the end of the line")
-    ∷ (has_comment line, codes "a comment has a line of its own")
-    ∷ (has_gap line, codes "two spaces stand one behind the other")
-    ∷ (is_none (after_word line), codes "a line is `THREAD CALL`, as in `2 make_category`") ∷ []
+word_rules line = space_rules line None ++ second_word_rules line
 
 -- The rules for a line of a raw session, in their order.
 abbrev pub rules_for : List ℕ → List Rule

@@ -1,7 +1,7 @@
 //! The rules for raw calls.
 ghost use Rattle.std.specs.Prelude.{◌≡◌, ◌++◌, [], IfOk, OnOk, map, option_map};
 ghost use Rattle.std.specs.Option.{option_copied, option_map_or};
-ghost use Rattle.histar_lint.specs.Lines.{first_sentence, rest_of};
+ghost use Rattle.histar_lint.specs.Lines.{first_sentence};
 ghost use Rattle.histar_lint.specs.Calls.{first_near, is_near, suggestion};
 ghost use Rattle.histar_raw_lint.specs.Rules.{argument_rules, call_rules, fits, kinds_rules, nearest, thread_rules, unknown_text};
 
@@ -90,13 +90,6 @@ fn unknown_text(alloc: Global, word: &[u8]) -> Result<Vec<u8>, AllocError>
     said.extend_from_slice(word)?;
     push_suggestion(&mut said, near)?;
     Ok(said)
-}
-
-/// Returns the text after the first word of a text.
-pub(crate) fn rest_of(text: &[u8]) -> &[u8]
-    ensures { result.now ≡ rest_of text.now }
-{
-    split_word(text).1.unwrap_or(&[])
 }
 
 /// Checks whether there are as many further words as arguments.

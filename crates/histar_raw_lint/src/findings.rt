@@ -4,8 +4,9 @@ ghost use Rattle.std.specs.Option.{option_copied};
 ghost use Rattle.histar_lint.specs.Lines.{first_sentence, rest_of, word_of};
 ghost use Rattle.histar_raw_lint.specs.Rules.{call_rules, sentence, thread_rules, word_rules};
 
-use crate::call_rules::{call_sentence, rest_of, thread_sentence};
-use crate::line_rules::{byte_sentence, word_sentence};
+use crate::call_rules::{call_sentence, thread_sentence};
+use crate::line_rules::word_sentence;
+use histar_lint::line_rules::{byte_sentence, rest_of};
 use histar_script::split_word;
 use std::alloc::{AllocError, Global};
 

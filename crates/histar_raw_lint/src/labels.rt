@@ -6,10 +6,10 @@ ghost use Rattle.histar_lint.specs.Lines.{first_sentence};
 ghost use Rattle.histar_raw_lint.specs.Values.{category_of_part, category_rules, exception_rules, exceptions_rules, in_braces, is_braced};
 ghost use Rattle.histar_raw_lint.specs.Values.{is_late, is_level, label_rules, lacks_default, list_rules, part_rules};
 
-use crate::line_rules::{begins_with, ends_with};
 use crate::numbers::{number_in, number_sentence};
 use crate::texts::said;
 use histar_flat::split_at_first;
+use histar_lint::line_rules::{begins_with, ends_with};
 use std::alloc::{AllocError, Global};
 
 /// The sentence that lists the levels.

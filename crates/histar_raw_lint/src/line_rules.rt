@@ -1,131 +1,21 @@
-//! The rules for the bytes of a line and for its words.
-ghost use Rattle.std.specs.Prelude.{◌≡◌, IfOk, option_map};
+//! The rules for the words of any line.
+ghost use Rattle.std.specs.Prelude.{◌≡◌};
 ghost use Rattle.std.specs.Option.{option_copied};
-ghost use Rattle.histar_lint.specs.Lines.{begins_with, byte_rules, ends_with, first_sentence, has_comment};
-ghost use Rattle.histar_lint.specs.Lines.{long_text, unprintable_from, unprintable_text};
-ghost use Rattle.histar_raw_lint.specs.Rules.{has_gap, word_rules};
+ghost use Rattle.histar_lint.specs.Lines.{first_sentence};
+ghost use Rattle.histar_raw_lint.specs.Rules.{word_rules};
 
-use crate::texts::{push_hex, push_number, said};
+use histar_lint::line_rules::space_sentence;
 use histar_script::split_word;
-use std::alloc::{AllocError, Global};
-
-/// The greatest number of bytes of a line.
-const MOST_LINE_BYTES: usize = 1_024;
-
-/// Checks whether a text begins with a byte.
-pub(crate) fn begins_with(text: &[u8], byte: u8) -> bool
-    ensures { result ≡ begins_with byte text.now }
-{
-    match text {
-        [first, ..] => *first == byte,
-        [] => false,
-    }
-}
-
-/// Checks whether a text ends with a byte.
-pub(crate) fn ends_with(text: &[u8], byte: u8) -> bool
-    ensures { result ≡ ends_with byte text.now }
-{
-    match text.last() {
-        Some(last) => *last == byte,
-        None => false,
-    }
-}
-
-/// Checks whether a text contains a space followed by a number sign.
-fn has_comment(text: &[u8]) -> bool
-    ensures { result ≡ has_comment text.now }
-{
-    let mut rest = text;
-    while let [first, behind @ ..] = rest {
-        if *first == b' ' && begins_with(behind, b'#') {
-            return true;
-        }
-        rest = behind;
-    }
-    false
-}
-
-/// Checks whether a text contains two spaces, one after the other.
-fn has_gap(text: &[u8]) -> bool
-    ensures { result ≡ has_gap text.now }
-{
-    let mut rest = text;
-    while let [first, behind @ ..] = rest {
-        if *first == b' ' && begins_with(behind, b' ') {
-            return true;
-        }
-        rest = behind;
-    }
-    false
-}
-
-/// Returns the column and the value of the first byte that is not printable.
-fn unprintable(line: &[u8]) -> Option<(usize, u8)>
-    ensures { result ≡ unprintable_from 1 line.now }
-{
-    'bytes: for (place, byte) in line.iter().enumerate() {
-        if !matches!(*byte, b' '..=b'~') {
-            return Some((place + 1, *byte));
-        }
-    }
-    None
-}
-
-/// Returns the sentence that a line has too many bytes, with their number.
-fn long_text(alloc: Global, line: &[u8]) -> Result<Vec<u8>, AllocError>
-    ensures { IfOk result (λ said. said.items ≡ long_text line.now) }
-{
-    let mut said = Vec::from_slice(alloc, b"the line has ".as_slice())?;
-    push_number(&mut said, line.len() as u64)?;
-    said.extend_from_slice(b" bytes, and 1024 is the most")?;
-    Ok(said)
-}
-
-/// Returns the sentence that a byte is not printable, with its column.
-fn unprintable_text(alloc: Global, column: usize, byte: u8) -> Result<Vec<u8>, AllocError>
-    ensures { IfOk result (λ said. said.items ≡ unprintable_text (column, byte)) }
-{
-    let mut said = Vec::from_slice(alloc, b"byte ".as_slice())?;
-    push_hex(&mut said, byte)?;
-    said.extend_from_slice(b" at column ")?;
-    push_number(&mut said, column as u64)?;
-    said.extend_from_slice(b" is not printable")?;
-    Ok(said)
-}
-
-/// Returns the sentence of the first rule that the bytes of a line break.
-pub(crate) fn byte_sentence(alloc: Global, line: &[u8]) -> Result<Option<Vec<u8>>, AllocError>
-    ensures { IfOk result (λ said. option_map (λ text. text.items) said
-        ≡ first_sentence (byte_rules line.now)) }
-{
-    if line.len() > MOST_LINE_BYTES {
-        return Ok(Some(long_text(alloc, line)?));
-    }
-    if ends_with(line, b'\r') {
-        return said(alloc, "the line ends with a carriage return (0x0d)");
-    }
-    match unprintable(line) {
-        None => Ok(None),
-        Some((column, byte)) => Ok(Some(unprintable_text(alloc, column, byte)?)),
-    }
-}
 
 /// Returns the sentence of the first rule that the words of a line break.
 pub(crate) fn word_sentence(line: &[u8]) -> Option<&'static str>
     ensures { option_copied result ≡ first_sentence (word_rules line.now) }
 {
-    if begins_with(line, b' ') {
-        Some("a space stands at the beginning of the line")
-    } else if ends_with(line, b' ') {
-        Some("a space stands at the end of the line")
-    } else if has_comment(line) {
-        Some("a comment has a line of its own")
-    } else if has_gap(line) {
-        Some("two spaces stand one behind the other")
-    } else if split_word(line).1.is_none() {
-        Some("a line is `THREAD CALL`, as in `2 make_category`")
-    } else {
-        None
+    if let Some(said) = space_sentence(line, None) {
+        return Some(said);
     }
+    if split_word(line).1.is_none() {
+        return Some("a line is `THREAD CALL`, as in `2 make_category`");
+    }
+    None
 }

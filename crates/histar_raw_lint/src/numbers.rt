@@ -6,8 +6,9 @@ ghost use Rattle.histar_lint.specs.Lines.{first_sentence};
 ghost use Rattle.histar_rawtext.specs.Reading.{number_in};
 ghost use Rattle.histar_raw_lint.specs.Values.{are_digits, digit_rules, has_zero, is_digit, number_rules, positive_rules};
 
-use crate::line_rules::begins_with;
-use crate::texts::{push_number, said_of};
+use crate::texts::said_of;
+use histar_lint::line_rules::begins_with;
+use histar_lint::texts::push_number;
 use itoa::Buffer;
 use std::alloc::{AllocError, Global};
 

@@ -7,9 +7,9 @@ ghost use Rattle.histar_lint.specs.Session.{IsMemory, finding_text};
 ghost use Rattle.histar_raw_lint.specs.Session.{IsFinding, IsFirstBad, LintsRaw};
 
 use crate::findings::sentence;
-use crate::texts::push_number;
 use histar_command::{Command, run_command};
 use histar_io::{Sink, Source, write_bytes};
+use histar_lint::texts::push_number;
 use histar_raw_session::read_session::read_session;
 use histar_script::{Fault, split_line};
 use std::alloc::{AllocError, Global};

@@ -7,10 +7,10 @@ ghost use Rattle.histar_raw_lint.specs.Values.{bytes_rules, entry_rules, is_hex_
 
 use crate::kinds::Kind;
 use crate::labels::label_sentence;
-use crate::line_rules::begins_with;
 use crate::numbers::{is_digit, number_sentence, positive_sentence};
 use crate::texts::said;
 use histar_flat::split_at_first;
+use histar_lint::line_rules::begins_with;
 use std::alloc::{AllocError, Global};
 
 /// The sentence that shows the forms of a gate's entry.

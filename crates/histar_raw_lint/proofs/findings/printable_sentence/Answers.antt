@@ -2,7 +2,7 @@
 use Rattle.std.proofs.Common.{◌++◌, ◌∙◌}
 use Rattle.histar_lint.specs.Lines.{rest_of, word_of}
 use Rattle.histar_raw_lint.specs.Rules.{call_rules, thread_rules, word_rules}
-use Rattle.histar_raw_lint.proofs.Sayings.{behind_says, front_says}
+use Rattle.histar_lint.proofs.Sayings.{behind_says, front_says}
 use Rattle.histar_raw_lint.proofs.findings.printable_sentence.Goals as goal
 
 pub returns-in-Some : goal.returns-in-Some

@@ -3,7 +3,7 @@ use Rattle.std.proofs.Common.{List, ℕ, ap, ◌∙◌}
 use Rattle.std.proofs.lemmas.Result.{IfOk-weaker}
 use Rattle.histar_lint.specs.Lines.{first_sentence, rest_of, word_of}
 use Rattle.histar_raw_lint.specs.Rules.{call_rules, thread_rules}
-use Rattle.histar_raw_lint.proofs.Sayings.{behind_says, front_says}
+use Rattle.histar_lint.proofs.Sayings.{behind_says, front_says}
 use Rattle.histar_raw_lint.proofs.findings.thread_call_sentence.Goals as goal
 
 pub returns-in-Some : goal.returns-in-Some

@@ -1,7 +1,7 @@
 -- Proves the goals of `said_at` of src/session.rt that the search leaves open.
 use Rattle.std.proofs.Common.{sym}
 use Rattle.histar_raw_lint.proofs.FirstBadLine.{says_something}
-use Rattle.histar_raw_lint.proofs.Sayings.{none_unpacked, unpacked}
+use Rattle.histar_lint.proofs.Sayings.{none_unpacked, unpacked}
 use Rattle.histar_raw_lint.proofs.session.said_at.Goals as goal
 
 pub unreachable-requires : goal.unreachable-requires
