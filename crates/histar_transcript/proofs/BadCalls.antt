@@ -1,5 +1,6 @@
 -- The first bad line behind the lines of a script is none of these.
-use Rattle.std.proofs.Common.{◌≡◌, ℕ, zero, suc, ◌+◌, ◌-◌, ◌<◌, ◌≤◌, Bool, true, false, not, eqb, List, [], ◌∷◌, ◌++◌, length, take, Option, None, Some, Ok, Err}
+use Rattle.std.proofs.Common.{◌≡◌, ℕ, zero, suc, ◌+◌, ◌-◌, ◌<◌, ◌≤◌, Bool, true, false, not, eqb}
+use Rattle.std.proofs.Common.{List, [], ◌∷◌, ◌++◌, length, take, Option, None, Some, Ok, Err}
 use Rattle.std.proofs.Common.{refl, sym, ap, ◌∙◌, subst, inl, inr, arith, append_assoc, length-append}
 use Rattle.std.specs.List.{AllByRecursion, list_all}
 use Rattle.std.specs.Prelude.{if◌then◌else◌}
@@ -88,7 +89,9 @@ module _ (at : Option ℕ) (calls : List (List ℕ)) (text : List ℕ) (script :
         begins_none (extended_text at calls text) line (bad_so (extended_text at calls text) line bad)
         (let sum = ap length lines_are ∙ length-append (take kept (lines_of text)) (lines_of (ended_lines calls)) in
         let few = length-take-le kept (lines_of text) (few_kept at (lines_of text)) in omega (arith, sum, few, le))
-        text script (first_kept line kept (lines_of text) (lines_of (ended_lines calls)) le (few_kept at (lines_of text)) ∙ ap (take line) (sym lines_are)) read
+        text script
+        (first_kept line kept (lines_of text) (lines_of (ended_lines calls)) le (few_kept at (lines_of text)) ∙ ap (take line) (sym lines_are))
+        read
 
 pub added_lines_are_bad : AddedLinesAreBad
 added_lines_are_bad at calls text script is line bad =

@@ -12,8 +12,8 @@ reply_number line = number_of (λ n. nat_le n most_script_lines) (split_word lin
 abbrev pub call_and_reply : List (List ℕ) → ℕ → List ℕ → List ℕ
 call_and_reply script n reply = decimal n ++ codes "  " ++ slice_index_or script (n - 1) [] ++ codes "  " ++ reply
 
--- A line of a run's output, with the call that it answers: a reply begins with the number of its call's line, and the text of that line is
--- put between the number and the reply, with two spaces on each side. Other lines stay as they are.
+-- A line of a run's output, with the call that it answers: a reply begins with the number of its call's line, and the
+-- text of that line is put between the number and the reply, with two spaces on each side. Other lines stay as they are.
 abbrev pub with_call : List (List ℕ) → List ℕ → List ℕ
 with_call script line = elim (reply_number line) [
   | None ↦ line

@@ -22,14 +22,15 @@ line_behind first lines number reply = if nat_lt first number then tried_line li
 
 -- the lines of answers to lines behind the first ones of a script
 abbrev pub lines_behind : ℕ → List (List ℕ) → List RepliedCall → List ℕ
-lines_behind first lines answers = flat_map (λ (a : RepliedCall). line_behind first lines a.call.line a.reply) answers
+lines_behind first lines answers = flat_map (λ a. line_behind first lines a.call.line a.reply) answers
 
 -- the replies of a script's meaning to the lines behind the first ones
 abbrev pub tried_text : ℕ → List (List ℕ) → ScriptModel → List ℕ
 tried_text first lines script = lines_behind first lines (meaning script.accounts script.calls)
 
--- For every flat state that the machine represented, it represents the one after these calls, and what was added to a text are the lines of
--- their replies behind the first lines.
+-- For every flat state that the machine represented, it represents the one after these calls, and what was added to a
+-- text are the lines of their replies behind the first lines.
 abbrev pub AddsReplies : ℕ → List (List ℕ) → MachineModel → MachineModel → List ℕ → List ℕ → List CallLine → Type 0
 AddsReplies first lines old new before after calls = (accounts : Accounts) (f : Flat) → Shows accounts old f
-    → Shows accounts new (flat_end accounts f calls) × (after ≡ before ++ lines_behind first lines (answered_from accounts f calls))
+    → Shows accounts new (flat_end accounts f calls)
+    × (after ≡ before ++ lines_behind first lines (answered_from accounts f calls))

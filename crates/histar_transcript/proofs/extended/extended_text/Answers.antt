@@ -8,5 +8,6 @@ pub returns : goal.returns
 returns c =
     c.in_ok-push_lines-2.ensures
     ∙ ap (λ (text : List ℕ). text ++ ended_lines (map (λ call. call.now) c.args.calls.now))
-    (c.in_ok-push_lines.ensures ∙ ap (λ (l : List ℕ). l ++ ended_lines (map (λ line. line.now) (take c.args.kept c.args.lines.now))) c.new-text.ensures.items
+    (c.in_ok-push_lines.ensures
+    ∙ ap (λ (l : List ℕ). l ++ ended_lines (map (λ line. line.now) (take c.args.kept c.args.lines.now))) c.new-text.ensures.items
     ∙ ap ended_lines (sym (take-map (λ line. line.now) c.args.kept c.args.lines.now)))
