@@ -9,6 +9,7 @@ pub mod Head
 pub mod Session
 pub mod Files
 pub mod Secrets
+pub mod Flows
 pub mod Views
 pub mod Places
 pub mod Drawing

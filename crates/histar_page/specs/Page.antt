@@ -9,6 +9,7 @@ use Rattle.histar_page.specs.Head.{head_items}
 use Rattle.histar_page.specs.Session.{IsSession}
 use Rattle.histar_page.specs.Files.{files_items, runners_of}
 use Rattle.histar_page.specs.Secrets.{secrets_items}
+use Rattle.histar_page.specs.Flows.{flows_items}
 use Rattle.histar_page.specs.Drawing.{drawing_items, jobs_of}
 
 -- the texts that a page is made of
@@ -19,23 +20,24 @@ pub record Sources : Type 0 where
   pub output : List ℕ
   pub table : List ℕ
   pub secrets : List ℕ
+  pub flows : List ℕ
 
 -- the texts behind the references
 abbrev pub sources_of : Texts → Sources
-sources_of texts = record { name = texts.name.now; version = texts.version.now; script = texts.script.now; output = texts.output.now; table = texts.table.now; secrets = texts.secrets.now }
+sources_of texts = record { name = texts.name.now; version = texts.version.now; script = texts.script.now; output = texts.output.now; table = texts.table.now; secrets = texts.secrets.now; flows = texts.flows.now }
 
 -- the files, with the jobs of the session and the users of its processes
 abbrev pub files_shown : Sources → List Item
 files_shown sources =
     files_items (jobs_of (lines_of sources.script) (lines_of sources.output)) (runners_of (lines_of sources.secrets)) (lines_of sources.table)
 
--- the files, the secrets and the drawing
+-- the files, the secrets, the flows and the drawing
 abbrev pub rights_shown : Sources → List Item
 rights_shown sources =
-    files_shown sources ++ secrets_items (lines_of sources.secrets)
+    files_shown sources ++ secrets_items (lines_of sources.secrets) ++ flows_items (lines_of sources.flows)
     ++ drawing_items (lines_of sources.script) (lines_of sources.output) (lines_of sources.table)
 
--- What a page shows: its head, the session, the files, the secrets and the drawing.
+-- What a page shows: its head, the session, the files, the secrets, the flows and the drawing.
 pub record IsReport (sources : Sources) (items : List Item) : Type 0 where
   pub session : List Item
   pub parts : items ≡ head_items sources.name sources.version (lines_of sources.output) ++ session ++ rights_shown sources

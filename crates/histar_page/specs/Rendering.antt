@@ -8,13 +8,13 @@ use Rattle.histar_page.specs.declared.kind.Kind.TheVariants.{Title, FileName, Ca
 use Rattle.histar_page.specs.declared.kind.Kind.TheVariants.{Refusal, RawCall, DeniedCall, Explanation, ColumnUser, Column, JobColumn, Path, Stat}
 use Rattle.histar_page.specs.declared.kind.Kind.TheVariants.{Process, JobProcess, Granted, Withheld, Secret, Trusted, Confined, LoginReader}
 use Rattle.histar_page.specs.declared.kind.Kind.TheVariants.{DrawnHeight, ProcessBand, FileBand, ReadEdge, WriteEdge, BothEdge, EdgeEnd, EdgeProcess}
-use Rattle.histar_page.specs.declared.kind.Kind.TheVariants.{EdgeFile, ProcessNode, FileNode, NodeName}
+use Rattle.histar_page.specs.declared.kind.Kind.TheVariants.{EdgeFile, ProcessNode, FileNode, NodeName, Flow}
 use Rattle.histar_page.specs.declared.markup.Markup.{Markup}
 use Rattle.histar_page.specs.declared.markup.Markup.TheVariants.{Begin, Style, BeginCounts, EndHead, BeginSession, BeginBoot, BeginOther, BeginCall}
 use Rattle.histar_page.specs.declared.markup.Markup.TheVariants.{BeginBehind, EndCall, BeginBare, EndBare, EndSession, BeginFiles, EndUsers}
 use Rattle.histar_page.specs.declared.markup.Markup.TheVariants.{EndColumns, BeginRow, EndCell, EndRow, EndFiles, BeginSecrets, NoSecrets, OnSecrets}
 use Rattle.histar_page.specs.declared.markup.Markup.TheVariants.{BeginSecret, EndSecret, EndSecrets, BeginLabels, NotDrawn, BeginDrawing, Arrows}
-use Rattle.histar_page.specs.declared.markup.Markup.TheVariants.{EndDrawing, End}
+use Rattle.histar_page.specs.declared.markup.Markup.TheVariants.{BeginFlows, OnFlows, EndFlows, EndDrawing, End}
 use Rattle.histar_page.specs.declared.piece.Piece.{Piece}
 use Rattle.histar_page.specs.declared.piece.Piece.TheVariants.{Fixed, Shown, Counted, Letter}
 
@@ -47,6 +47,7 @@ opening Secret = codes "<code>"
 opening Trusted = codes "<span class=\"trusted\">trusted <b>"
 opening Confined = codes "<span class=\"confined\">confined <b>"
 opening LoginReader = codes "<span class=\"login\">login <b>"
+opening Flow = codes "<p class=\"flow\"><code>"
 opening DrawnHeight = codes "<svg viewBox=\"0 0 936 "
 opening ProcessBand = codes "<rect class=\"job\" width=\"216\" height=\"44\" y=\"-9\" transform=\"translate(0 "
 opening FileBand = codes "<rect class=\"job\" width=\"416\" height=\"32\" y=\"-3\" transform=\"translate(512 "
@@ -89,6 +90,7 @@ closing Secret = codes "</code>\n"
 closing Trusted = codes "</b></span>\n"
 closing Confined = codes "</b></span>\n"
 closing LoginReader = codes "</b></span>\n"
+closing Flow = codes "</code></p>\n"
 closing DrawnHeight = codes "\" role=\"img\" aria-label=\"Processes and files\">\n"
 closing ProcessBand = codes ")\"></rect>\n"
 closing FileBand = codes ")\"></rect>\n"
@@ -107,7 +109,7 @@ abbrev pub markup_text : Markup → List ℕ
 markup_text Begin = codes "<!DOCTYPE html>\n<html lang=\"en\">\n<head>\n<meta charset=\"utf-8\">\n<meta name=\"viewport\" content=\"width=device-width, initial-scale=1\">\n"
 markup_text Style = STYLE.now
 markup_text BeginCounts = codes "<p>\n"
-markup_text EndHead = codes "</p>\n<nav><a href=\"#session\">Session</a> <a href=\"#files\">Files</a> <a href=\"#secrets\">Secrets</a> <a href=\"#labels\">Labels</a></nav>\n</header>\n<main>\n"
+markup_text EndHead = codes "</p>\n<nav><a href=\"#session\">Session</a> <a href=\"#files\">Files</a> <a href=\"#secrets\">Secrets</a> <a href=\"#flows\">Flows</a> <a href=\"#labels\">Labels</a></nav>\n</header>\n<main>\n"
 markup_text BeginSession = codes "<section id=\"session\">\n<h2>Session</h2>\n"
 markup_text BeginBoot = codes "<details class=\"other\">\n<summary>Boot, line "
 markup_text BeginOther = codes "<details class=\"other\">\n<summary>Raw calls of line "
@@ -130,6 +132,9 @@ markup_text OnSecrets = codes "<p>On whom each file rests at the end that isn't 
 markup_text BeginSecret = codes "<p class=\"secret\">\n"
 markup_text EndSecret = codes "</p>\n"
 markup_text EndSecrets = codes "</section>\n"
+markup_text BeginFlows = codes "<section id=\"flows\">\n<h2>Flows</h2>\n"
+markup_text OnFlows = codes "<p>To whom each process can pass on what it learns, at the end: a process in a job to those alone that know each of its jobs. An exclamation mark is behind one that holds such a job, and may pass on what the job made.</p>\n"
+markup_text EndFlows = codes "</section>\n"
 markup_text BeginLabels = codes "<section id=\"labels\">\n<h2>Labels</h2>\n"
 markup_text NotDrawn = codes "<p>It has more than 12 processes or 30 files and directories at the end, and is not drawn.</p>\n</section>\n"
 markup_text BeginDrawing = codes "<p>Processes are on the left, files and directories on the right. A line with a head at the process says that it may read the file, one with a head at the file that it may write there: so what one writes another may read. The bands are jobs, and what they may change.</p>\n<div class=\"wide\">\n"

@@ -42,6 +42,8 @@ pub enum Kind {
     Confined,
     /// A user as whom a process that logs in may read a file.
     LoginReader,
+    /// To whom a process can pass on what it learns.
+    Flow,
     /// The height of a drawing.
     DrawnHeight,
     /// How far down a process of a job is.
@@ -99,6 +101,7 @@ impl Kind {
             Kind::Trusted => b"<span class=\"trusted\">trusted <b>",
             Kind::Confined => b"<span class=\"confined\">confined <b>",
             Kind::LoginReader => b"<span class=\"login\">login <b>",
+            Kind::Flow => b"<p class=\"flow\"><code>",
             Kind::DrawnHeight => b"<svg viewBox=\"0 0 936 ",
             Kind::ProcessBand =>
                 b"<rect class=\"job\" width=\"216\" height=\"44\" y=\"-9\" transform=\"translate(0 ",
@@ -144,6 +147,7 @@ impl Kind {
             Kind::Stat => b"</td>",
             Kind::Process | Kind::JobProcess => b"</small>",
             Kind::Withheld => b"</i>",
+            Kind::Flow => b"</code></p>\n",
             Kind::DrawnHeight => b"\" role=\"img\" aria-label=\"Processes and files\">\n",
             Kind::ProcessBand | Kind::FileBand => b")\"></rect>\n",
             Kind::ReadEdge | Kind::WriteEdge | Kind::BothEdge => b"\" y2=\"",

@@ -8,6 +8,7 @@ mod bands;
 mod drawing;
 mod edges;
 mod files;
+mod flows;
 mod head;
 mod jobs;
 mod kind;

@@ -123,6 +123,9 @@ pub enum Markup {
     BeginSecret,
     EndSecret,
     EndSecrets,
+    BeginFlows,
+    OnFlows,
+    EndFlows,
     BeginLabels,
     NotDrawn,
     BeginDrawing,
@@ -146,7 +149,7 @@ impl Markup {
             Markup::Style => STYLE,
             Markup::BeginCounts => b"<p>\n",
             Markup::EndHead => b"</p>
-<nav><a href=\"#session\">Session</a> <a href=\"#files\">Files</a> <a href=\"#secrets\">Secrets</a> <a href=\"#labels\">Labels</a></nav>
+<nav><a href=\"#session\">Session</a> <a href=\"#files\">Files</a> <a href=\"#secrets\">Secrets</a> <a href=\"#flows\">Flows</a> <a href=\"#labels\">Labels</a></nav>
 </header>
 <main>
 ",
@@ -158,7 +161,7 @@ impl Markup {
             Markup::EndCall => b"</div>\n</details>\n",
             Markup::BeginBare => b"<div class=\"bare\">",
             Markup::EndBare => b"</div>\n",
-            Markup::EndSession | Markup::EndSecrets => b"</section>\n",
+            Markup::EndSession | Markup::EndSecrets | Markup::EndFlows => b"</section>\n",
             Markup::BeginFiles => b"<section id=\"files\">
 <h2>Files</h2>
 <p>Who may do what at the end: s to see it, r to read it, w to write it, d to take it away. Above each process is its user; the tinted columns are of processes in jobs.</p>
@@ -179,6 +182,9 @@ impl Markup {
                 b"<p>On whom each file rests at the end that isn't for everyone to read: the trusted could pass it on, the confined can't, and who logs in as one of these users may read it.</p>\n",
             Markup::BeginSecret => b"<p class=\"secret\">\n",
             Markup::EndSecret => b"</p>\n",
+            Markup::BeginFlows => b"<section id=\"flows\">\n<h2>Flows</h2>\n",
+            Markup::OnFlows =>
+                b"<p>To whom each process can pass on what it learns, at the end: a process in a job to those alone that know each of its jobs. An exclamation mark is behind one that holds such a job, and may pass on what the job made.</p>\n",
             Markup::BeginLabels => b"<section id=\"labels\">\n<h2>Labels</h2>\n",
             Markup::NotDrawn =>
                 b"<p>It has more than 12 processes or 30 files and directories at the end, and is not drawn.</p>\n</section>\n",

@@ -6,6 +6,7 @@ ghost use Rattle.histar_page.specs.Page.{AddsItems, IsPage, files_shown, rights_
 
 use crate::drawing::drawing_pieces;
 use crate::files::files_pieces;
+use crate::flows::flows_pieces;
 use crate::head::head_pieces;
 use crate::jobs::jobs_of;
 use crate::piece::{Piece, render};
@@ -28,6 +29,8 @@ pub struct Texts<'a> {
     /// The lines on secrets: one of the processes with their users, and then one for each file that not
     /// everyone may read.
     pub secrets: &'a [u8],
+    /// What `flows` writes of the script.
+    pub flows: &'a [u8],
 }
 
 /// Returns the page of a session.
@@ -46,13 +49,14 @@ pub fn page_text(alloc: Global, texts: &Texts) -> Result<Vec<u8>, AllocError>
     Ok(page)
 }
 
-/// Adds the parts that show rights: the files, the secrets and the drawing.
+/// Adds the parts that show rights: the files, the secrets, the flows and the drawing.
 fn render_rights(alloc: Global, page: &mut Vec<u8>, texts: &Texts) -> Result<(), AllocError>
     ensures { OnOk result (AddsItems page.old.items page.new.items
         (rights_shown (sources_of texts.now))) }
 {
     render_part(page, files_of(alloc, texts))?;
     render_part(page, secrets_pieces(alloc, texts.secrets))?;
+    render_part(page, flows_pieces(alloc, texts.flows))?;
     render_part(
         page,
         drawing_pieces(alloc, texts.script, texts.output, texts.table),

@@ -9,7 +9,7 @@ use Rattle.histar_script.specs.Reading.{script_of}
 use Rattle.histar_shell.specs.declared.session.Options.{Options}
 use Rattle.histar_run_explain.specs.Output.{IsExplainedOutput}
 use Rattle.histar_access.specs.Session.{AccessText}
-use Rattle.histar_trust.specs.Session.{SecretsText}
+use Rattle.histar_trust.specs.Session.{FlowsText, SecretsText}
 use Rattle.histar_page.specs.Page.{IsPage}
 
 -- the options of the run: it prints its raw calls
@@ -24,8 +24,12 @@ IsTable text table = AccessText None text (Some []) (Some table) (Ok tt)
 abbrev pub AreSecrets : List ℕ → List ℕ → Type 0
 AreSecrets text secrets = SecretsText text (Some []) (Some secrets) (Ok tt)
 
--- A page was written as far as `Writes` says: one that shows the output of the run of the script in a text, its table of rights, and which
--- processes have to be trusted with its secret files.
+-- these are the lines on the flows after the script in a text
+abbrev pub AreFlows : List ℕ → List ℕ → Type 0
+AreFlows text flows = FlowsText None text (Some []) (Some flows) (Ok tt)
+
+-- A page was written as far as `Writes` says: one that shows the output of the run of the script in a text, its table of rights, which
+-- processes have to be trusted with its secret files, and to whom each process can pass on what it learns.
 pub record WritesPageAs (Writes : List ℕ → Type 0) (name version text : List ℕ) : Type 0 where
   pub output : List ℕ
   pub is_output : IsExplainedOutput with_trace text output
@@ -33,8 +37,11 @@ pub record WritesPageAs (Writes : List ℕ → Type 0) (name version text : List
   pub is_table : IsTable text table
   pub secrets : List ℕ
   pub are_secrets : AreSecrets text secrets
+  pub flows : List ℕ
+  pub are_flows : AreFlows text flows
   pub page : List ℕ
-  pub is_page : IsPage (record { name = name; version = version; script = text; output = output; table = table; secrets = secrets }) page
+  pub is_page : IsPage
+      (record { name = name; version = version; script = text; output = output; table = table; secrets = secrets; flows = flows }) page
   pub written : Writes page
 
 -- A page of the run was written; or the fault of the script is returned, and nothing was written. At a failed write a beginning was

@@ -2,7 +2,7 @@
 ghost use Rattle.std.specs.Prelude.{◌≡◌, false, None, IfErr, IfSome};
 ghost use Rattle.histar_io.specs.Device.{CountsFailure};
 ghost use Rattle.histar_script.specs.Runs.{LeavesSink, RunsInput, is_read_failed, is_write_failed};
-ghost use Rattle.histar_report.specs.Session.{AreSecrets, IsTable, WritesPage};
+ghost use Rattle.histar_report.specs.Session.{AreFlows, AreSecrets, IsTable, WritesPage};
 ghost use Rattle.histar_run_explain.specs.Output.{GivesText};
 
 use histar_access::access;
@@ -12,7 +12,7 @@ use histar_page::{Texts, page_text};
 use histar_run_explain::{explained_output, in_memory};
 use histar_script::Fault;
 use histar_shell::{Counted, Options};
-use histar_trust::secrets;
+use histar_trust::{flows, secrets};
 use std::alloc::Global;
 
 /// The options of the run: it prints its raw calls, and no tree, since the table of rights has the files.
@@ -22,8 +22,8 @@ const OPTIONS: Options = Options {
 };
 
 /// Reads a script, runs it with explanations, and writes one page that shows the session, who may do what at
-/// its end, and which processes have to be trusted with its secret files. The name is that of the script's
-/// file.
+/// its end, which processes have to be trusted with its secret files, and to whom each process can pass on
+/// what it learns. The name is that of the script's file.
 ///
 /// It writes once the script has run. It doesn't flush the sink.
 pub fn report<R: Source, W: Sink>(
@@ -92,6 +92,7 @@ fn report_text<W: Sink>(
     let output = explained_output(alloc, text, OPTIONS)?;
     let table = table_of(alloc, text)?;
     let secret_lines = secrets_of(alloc, text)?;
+    let flow_lines = flows_of(alloc, text)?;
     let page = page_text(
         alloc,
         &Texts {
@@ -101,6 +102,7 @@ fn report_text<W: Sink>(
             output: output.as_slice(),
             table: table.as_slice(),
             secrets: secret_lines.as_slice(),
+            flows: flow_lines.as_slice(),
         },
     )?;
     write_bytes(writer, page.as_slice())?;
@@ -126,6 +128,18 @@ fn secrets_of(alloc: Global, text: &[u8]) -> Result<Vec<u8>, Fault>
     let mut reader = Counted::new(text);
     let mut writer = Counted::new(Vec::new(alloc));
     match secrets(alloc, &mut reader, &mut writer) {
+        Ok(()) => Ok(writer.into_inner()),
+        Err(fault) => Err(in_memory(fault)),
+    }
+}
+
+/// Returns the lines on the flows after the script in a text.
+fn flows_of(alloc: Global, text: &[u8]) -> Result<Vec<u8>, Fault>
+    ensures { GivesText AreFlows text.now result }
+{
+    let mut reader = Counted::new(text);
+    let mut writer = Counted::new(Vec::new(alloc));
+    match flows(alloc, &mut reader, &mut writer, None) {
         Ok(()) => Ok(writer.into_inner()),
         Err(fault) => Err(in_memory(fault)),
     }

@@ -8,6 +8,9 @@ returns c =
     let files = items_added c.files_of.result (λ p. p.items) c.in_ok-render_part.ensures.0 c.in_ok-render_part.ensures.1 c.files_of.ensures in
     let secrets = items_added c.secrets_pieces.result (λ p. p.items) c.in_ok-render_part-2.ensures.0 c.in_ok-render_part-2.ensures.1
     c.secrets_pieces.ensures in
-    on_ok_weaker c.render_part-3.result
-    (λ done. parts_added (parts_added files secrets) (items_added c.drawing_pieces.result (λ p. p.items) done.0 done.1 c.drawing_pieces.ensures))
-    c.render_part-3.ensures
+    let flows = items_added c.flows_pieces.result (λ p. p.items) c.in_ok-render_part-3.ensures.0 c.in_ok-render_part-3.ensures.1
+    c.flows_pieces.ensures in
+    on_ok_weaker c.render_part-4.result
+    (λ done. parts_added (parts_added (parts_added files secrets) flows)
+    (items_added c.drawing_pieces.result (λ p. p.items) done.0 done.1 c.drawing_pieces.ensures))
+    c.render_part-4.ensures

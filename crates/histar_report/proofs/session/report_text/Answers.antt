@@ -11,7 +11,9 @@ returns-in_err-write_bytes-clause-runs g c =
       is_table = rw c.as_slice-2.ensures.value c.in_ok-table.ensures;
       secrets = c.as_slice-3.result.now;
       are_secrets = rw c.as_slice-3.ensures.value c.in_ok-secret_lines.ensures;
-      page = c.as_slice-4.result.now;
-      is_page = rw c.as_slice-4.ensures.value c.in_ok-page.ensures;
+      flows = c.as_slice-4.result.now;
+      are_flows = rw c.as_slice-4.ensures.value c.in_ok-flow_lines.ensures;
+      page = c.as_slice-5.result.now;
+      is_page = rw c.as_slice-5.ensures.value c.in_ok-page.ensures;
       written = c.in_err-write_bytes.ensures.err;
     })
