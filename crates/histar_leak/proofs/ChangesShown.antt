@@ -31,7 +31,7 @@ use Rattle.histar_trust.proofs.Places.{AreAlike, first_of_list, number_of, rest_
 use Rattle.histar_leak.specs.declared.changes.Change.{Change}
 use Rattle.histar_leak.specs.declared.changes.Change.TheVariants as changes
 use Rattle.histar_leak.specs.ChangeCalls.{call_above, change_call, entry_call, made_name, other_bytes, own_call, way_call}
-use Rattle.histar_leak.specs.Findings.{call_of, change_in, change_there, changes_above, changes_to, entries_of, entry_change, first_change}
+use Rattle.histar_leak.specs.Findings.{call_of, change_there, changes_above, changes_in, changes_to, entries_of, entry_change, first_change}
 use Rattle.histar_leak.specs.Findings.{is_entry_of, make_in, other_write, way_change}
 
 -- ---- entries
@@ -168,11 +168,14 @@ module _ (accounts : Accounts) (f : Flat) where
 
   module _ (s : State) (category : Categories) (tree : List TreeNode) (alike : (q : Path) → AreAlike s category q (node_at q tree) (get f.files q))
       (listed : (d : Path) → entries_of d tree ≡ map (below d) (entries_in f d)) where
+    listed_at : (d p : Path) → p ≡ d → entries_of p tree ≡ map (below d) (entries_in f d)
+    listed_at d p e = ap (λ (r : Path). entries_of r tree) e ∙ listed d
+
     -- the call by the entry on the way
     way_is : (n : Name) (d p : Path) → p ≡ d → length d < most_names
-        → option_map call_of (way_change (node_at (n ∷ d) tree) (entries_of d tree) p n) ≡ way_call accounts f n d
+        → option_map call_of (way_change (node_at (n ∷ d) tree) (entries_of p tree) p n) ≡ way_call accounts f n d
     way_is n d p e short =
-        (λ i. option_map call_of (way_change (node_at (n ∷ d) tree) (listed d i) (e i) n))
+        (λ i. option_map call_of (way_change (node_at (n ∷ d) tree) (listed_at d p e i) (e i) n))
         ∙ by (node_at (n ∷ d) tree) (get f.files (n ∷ d)) (alike (n ∷ d))
       where
         room : (b : Bool) (es : List Entry)
@@ -197,11 +200,11 @@ module _ (accounts : Accounts) (f : Flat) where
 
     -- the call by what is at a path
     own_is : (path : Path) (node : TreeNode) (there : Node) → AreAlike s category path (Some node) (Some there) → get f.files path ≡ Some there
-        → option_map call_of (if is_directory node.target then entry_change (entries_of path tree) node.path made_name
+        → option_map call_of (if is_directory node.target then entry_change (entries_of node.path tree) node.path made_name
         else Some (other_write node.path (bytes_at f path))) ≡ own_call accounts f path
     own_is path node there h at =
         (λ i. option_map call_of (let o : Option Change = if (h.kind ∙ sym (ap (λ o. is_some_and o is_dir) at)) i
-        then entry_change (listed path i) (h.path i) made_name else Some (other_write (h.path i) (bytes_at f path)) in o))
+        then entry_change (listed_at path node.path h.path i) (h.path i) made_name else Some (other_write (h.path i) (bytes_at f path)) in o))
         ∙ by (is_dir_at f path)
       where
         by : (b : Bool) → option_map call_of (let o : Option Change = if b then entry_change (map (below path) (entries_in f path)) path made_name
@@ -225,14 +228,14 @@ module _ (accounts : Accounts) (f : Flat) where
       module _ (rest : List FlatClass) (calls : List (Option Change)) (reads : Bool) (all : reads_all (of_groups accounts.groups) rest q ≡ reads) where
         -- the first call by the directory, of which a name is the entry on the way, and by what is above
         step : (n : Name) (d : Path) → length d < most_names → (t : Option TreeNode) (o : Option Node) → AreAlike s category d t o
-            → option_map call_of (first (class_on number o ++ rest) (change_in tree (node_at (n ∷ d) tree) d n t ++ calls))
+            → option_map call_of (first (class_on number o ++ rest) (changes_in tree t (node_at (n ∷ d) tree) n ++ calls))
             ≡ (let c : Option UnixCall = if (is_some_and o (λ x. may_write accounts p x.class) && reads) && is_some_and o is_dir
             then way_call accounts f n d else option_map call_of (first rest calls) in c)
         step n d short None None h = refl
         step n d short None (Some x) h = absurd h
         step n d short (Some node) None h = absurd h
         step n d short (Some node) (Some x) h =
-            let way = way_change (node_at (n ∷ d) tree) (entries_of d tree) node.path n in
+            let way = way_change (node_at (n ∷ d) tree) (entries_of node.path tree) node.path n in
             let is = way_is n d node.path h.path short in
             by_directory (may_write (of_groups accounts.groups) q (class_by_number number x.class) && reads_all (of_groups accounts.groups) rest q)
             (is_directory node.target) way (first rest calls) (ap is_some is ∙ way_some n d)
@@ -241,14 +244,14 @@ module _ (accounts : Accounts) (f : Flat) where
 
         -- the first call by what is at a path, and by what is above
         top : (path : Path) (t : Option TreeNode) (o : Option Node) → AreAlike s category path t o → get f.files path ≡ o
-            → option_map call_of (first (class_on number o ++ rest) (change_there tree path t (bytes_at f path) ++ calls))
+            → option_map call_of (first (class_on number o ++ rest) (change_there tree t (bytes_at f path) ++ calls))
             ≡ (let c : Option UnixCall = if (is_some_and o (λ x. may_write accounts p x.class) && reads) && is_some (own_call accounts f path)
             then own_call accounts f path else option_map call_of (first rest calls) in c)
         top path None None h at = refl
         top path None (Some x) h at = absurd h
         top path (Some node) None h at = absurd h
         top path (Some node) (Some x) h at =
-            let own : Option Change = if is_directory node.target then entry_change (entries_of path tree) node.path made_name
+            let own : Option Change = if is_directory node.target then entry_change (entries_of node.path tree) node.path made_name
             else Some (other_write node.path (bytes_at f path)) in
             let is = own_is path node x h at in
             either (may_write (of_groups accounts.groups) q (class_by_number number x.class) && reads_all (of_groups accounts.groups) rest q) own

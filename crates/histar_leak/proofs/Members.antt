@@ -1,12 +1,11 @@
 -- Members are the running processes, and know each other's jobs, as in the flat state.
-use Rattle.std.specs.Prelude.{◌≡◌, ℕ, Bool, true, false, ◌&&◌, ◌||◌, List, [], ◌∷◌, ◌++◌, map, nat_eq, Option, Some, None, refl}
-use Rattle.std.specs.List.{flat_map, list_all, list_any}
+use Rattle.std.specs.Prelude.{◌≡◌, ℕ, Bool, true, false, List, [], ◌∷◌, ◌++◌, map, Option, refl}
+use Rattle.std.specs.List.{flat_map, list_all}
 use Rattle.std.proofs.Common.{ap, sym, ◌∙◌}
 use Rattle.histar_flat.specs.Words.{Path, ProcName}
 use Rattle.histar_flat.specs.Accounts.{Accounts}
 use Rattle.histar_flat.specs.Classes.{Process, is_free, knows, sees}
 use Rattle.histar_flat.specs.FlatState.{Flat, is_some_and}
-use Rattle.histar_flat.specs.FlatCalls.{running}
 use Rattle.histar_refinement.specs.Categories.{Categories}
 use Rattle.histar_refinement.specs.NumberedClasses.{job_numbers}
 use Rattle.histar_rights.specs.Running.{Named}
@@ -15,7 +14,7 @@ use Rattle.histar_secrecy.specs.ShownRoles.{job_numbered}
 use Rattle.histar_secrecy.proofs.NumberedJobs.{in_two_steps, knows_by_number, knows_numbers, named}
 use Rattle.histar_secrecy.proofs.ShownProcesses.{shown_is}
 use Rattle.histar_shell.specs.Machine.{MachineModel}
-use Rattle.histar_trust.specs.Findings.{AreMembers, Runner, ShowsReached, runner_of}
+use Rattle.histar_trust.specs.Findings.{AreMembers, ShowsReached, runner_of}
 use Rattle.histar_trust.proofs.Places.{first_of_list, number_of, rest_of_list}
 use Rattle.histar_trust.proofs.Runners.{AllOf, Runs, numbered}
 use Rattle.histar_trust.proofs.ShownTrust.{one_number, shown}

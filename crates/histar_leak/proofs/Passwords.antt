@@ -1,9 +1,8 @@
 -- Each user's password is the one that is asked for at the user's name: names of users are distinct.
-use Rattle.std.specs.Prelude.{◌≡◌, ◌≢◌, ℕ, suc, ◌<◌, true, false, cond, List, [], ◌∷◌, length, Option, Some, AllPairs, slice_index_or, refl}
-use Rattle.std.proofs.Common.{ap, sym, ◌∙◌, inl, inr, arith}
+use Rattle.std.specs.Prelude.{◌≡◌, ◌≢◌, ℕ, suc, ◌<◌, true, cond, List, [], ◌∷◌, length, Some, AllPairs, slice_index_or}
+use Rattle.std.proofs.Common.{ap, ◌∙◌, inl, inr, arith}
 use Rattle.histar_base.specs.Paths.{same}
 use Rattle.histar_flat.specs.declared.calls.User.{User}
-use Rattle.histar_flat.specs.Words.{Name}
 use Rattle.histar_flat.specs.Accounts.{Accounts, user_named}
 use Rattle.histar_flat.specs.FlatState.{is_some_and}
 use Rattle.histar_flat.proofs.FileLemmas.{same_itself, same_name_found}

@@ -7,7 +7,7 @@ use Rattle.histar_flat.specs.Accounts.{Group}
 use Rattle.histar_secrecy.specs.declared.file_class.FileClass.{FileClass}
 use Rattle.histar_secrecy.specs.declared.role.Member.{Member}
 use Rattle.histar_secrecy.specs.ShownRoles.{with_user}
-use Rattle.histar_leak.specs.Findings.{is_jobless, is_shown_stranger, knows_jobs_of, shown_listeners, shown_strangers}
+use Rattle.histar_leak.specs.Findings.{is_jobless, is_shown_outsider, knows_jobs_of, shown_listeners, shown_outsiders}
 
 -- what holds of what was done follows from what is stronger
 pub ok_so : {A E : Type 0} {P Q : Type 0} (r : Result A E) → (P → Q) → OnOk r P → OnOk r Q
@@ -50,11 +50,11 @@ none_of (job ∷ rest) h = absurd (true≢false (sym h))
 
 -- all outsiders know each job of a process in no job
 pub free_listeners : (groups : List Group) (classes : List FileClass) (members : List Member) (m : Member) → is_jobless m ≡ true
-    → shown_strangers groups classes members ≡ shown_listeners groups classes members m
+    → shown_outsiders groups classes members ≡ shown_listeners groups classes members m
 free_listeners groups classes members m free = λ i. map with_user (filter (λ o. each o i) members)
   where
-    each : (o : Member) → is_shown_stranger groups classes o ≡ (is_shown_stranger groups classes o && knows_jobs_of o m)
+    each : (o : Member) → is_shown_outsider groups classes o ≡ (is_shown_outsider groups classes o && knows_jobs_of o m)
     each o =
-        sym (and_true (is_shown_stranger groups classes o))
-        ∙ ap (λ (jobs : List ℕ). is_shown_stranger groups classes o
+        sym (and_true (is_shown_outsider groups classes o))
+        ∙ ap (λ (jobs : List ℕ). is_shown_outsider groups classes o
         && list_all (λ job. list_any (nat_eq job) o.jobs.items || list_any (nat_eq job) o.held.items) jobs) (sym (none_of m.jobs.items free))

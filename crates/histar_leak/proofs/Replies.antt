@@ -5,12 +5,10 @@ use Rattle.std.proofs.Common.{ap, sym, ◌∙◌, arith}
 use Rattle.std.proofs.lemmas.Fmt.{decimal_digit}
 use Rattle.std.proofs.lemmas.Bool.{and_parts, not-true, true≢false}
 use Rattle.histar_base.specs.Refusals.{◌orelse◌, unless}
-use Rattle.histar_flat.specs.declared.calls.UnixCall.{UnixCall}
 use Rattle.histar_flat.specs.declared.calls.UnixCall.TheVariants.{Login, Read}
 use Rattle.histar_flat.specs.declared.calls.User.{User}
 use Rattle.histar_flat.specs.declared.replies.Errno.TheVariants.{EACCES, EAUTH, ENOENT}
-use Rattle.histar_flat.specs.declared.replies.Reply.{Reply}
-use Rattle.histar_flat.specs.declared.replies.Reply.TheVariants.{Data, Done, Exited, Running}
+use Rattle.histar_flat.specs.declared.replies.Reply.TheVariants.{Done, Exited}
 use Rattle.histar_base.specs.Paths.{same}
 use Rattle.histar_flat.specs.Words.{Name, Path, ProcName}
 use Rattle.histar_flat.specs.Accounts.{Accounts, user_named}
@@ -23,12 +21,12 @@ use Rattle.histar_secrecy.specs.Ways.{reaches, reads_all, way_to}
 use Rattle.histar_secrecy.specs.Logins.{is_password_of, logged_in}
 use Rattle.histar_secrecy.specs.Leaks.{IsListener, IsReader, Line, asking, replies_from}
 use Rattle.histar_secrecy.specs.Noninterference.{IsReached}
-use Rattle.histar_secrecy.specs.Roles.{is_bound, is_outsider, is_trusted}
+use Rattle.histar_secrecy.specs.Roles.{is_bound, is_trusted}
 use Rattle.histar_secrecy.proofs.Learning.{roles_are_shown}
 use Rattle.histar_secrecy.proofs.Names.{login_of, some_process}
 use Rattle.histar_secrecy.proofs.Telling.{logins_tell_here, readers_tell_here}
 use Rattle.histar_leak.specs.LeakLines.{by_first, call_line, lines_text, reply_line}
-use Rattle.histar_leak.specs.LeakText.{is_in_no_job, is_stranger, knows_all_of, listeners, login_line, strangers_in_no_job}
+use Rattle.histar_leak.specs.LeakText.{is_in_no_job, is_outside, knows_all_of, listeners, login_line, free_outsiders}
 use Rattle.histar_leak.specs.Findings.{asking_text, of_first, reading_text, replied_text}
 
 -- the line of the reply that a process has exited with 1
@@ -111,9 +109,9 @@ module _ (accounts : Accounts) (f : Flat) (reached : IsReached accounts f) (path
 
   -- an outsider that knows all jobs of a process can be told by it
   listener : (me : ProcName) (p : Process) → running f me ≡ Some p → (other : ProcName)
-      → (is_stranger accounts f path other && knows_all_of accounts f path other me) ≡ true → (q : Process) × IsListener accounts f path p other q
+      → (is_outside accounts f path other && knows_all_of accounts f path other me) ≡ true → (q : Process) × IsListener accounts f path p other q
   listener me p runs other passes =
-      let parts = and_parts (is_stranger accounts f path other) (knows_all_of accounts f path other me) passes in
+      let parts = and_parts (is_outside accounts f path other) (knows_all_of accounts f path other me) passes in
       let q = some_process (running f other) (λ q. is_some_and (running f me) (λ x. sees q x)) parts.1 in (
         q.0,
         record {
@@ -129,11 +127,11 @@ module _ (accounts : Accounts) (f : Flat) (reached : IsReached accounts f) (path
       → lines_text accounts f (by_first (listeners accounts f path me) (λ other. asking me other path 1))
       ≡ of_first (listeners accounts f path me) (asking_text me path (bytes_at f path))
   trusted_lines me p runs trusted =
-      first_lines accounts f (λ other. (is_stranger accounts f path other && knows_all_of accounts f path other me) ≡ true)
+      first_lines accounts f (λ other. (is_outside accounts f path other && knows_all_of accounts f path other me) ≡ true)
       (λ other. asking me other path 1) (asking_text me path (bytes_at f path)) each (listeners accounts f path me)
-      (first_passes (λ other. is_stranger accounts f path other && knows_all_of accounts f path other me) (running_in f))
+      (first_passes (λ other. is_outside accounts f path other && knows_all_of accounts f path other me) (running_in f))
     where
-      each : (other : ProcName) → (is_stranger accounts f path other && knows_all_of accounts f path other me) ≡ true
+      each : (other : ProcName) → (is_outside accounts f path other && knows_all_of accounts f path other me) ≡ true
           → lines_text accounts f (asking me other path 1) ≡ asking_text me path (bytes_at f path) other
       each other passes =
           let q = listener me p runs other passes in
@@ -143,17 +141,17 @@ module _ (accounts : Accounts) (f : Flat) (reached : IsReached accounts f) (path
 
   -- the lines of the first outsider in no job that logs in
   pub login_lines : (user : User) → is_password_of accounts user.name user.password ≡ true → reaches accounts f (logged_in user.name) path ≡ true
-      → lines_text accounts f (by_first (strangers_in_no_job accounts f path) (λ me. login_line me user ∷ (me, Read path) ∷ []))
-      ≡ of_first (strangers_in_no_job accounts f path) (reading_text user path (bytes_at f path))
+      → lines_text accounts f (by_first (free_outsiders accounts f path) (λ me. login_line me user ∷ (me, Read path) ∷ []))
+      ≡ of_first (free_outsiders accounts f path) (reading_text user path (bytes_at f path))
   login_lines user right reaches_it =
-      first_lines accounts f (λ me. (is_stranger accounts f path me && is_in_no_job accounts f path me) ≡ true)
-      (λ me. login_line me user ∷ (me, Read path) ∷ []) (reading_text user path (bytes_at f path)) each (strangers_in_no_job accounts f path)
-      (first_passes (λ me. is_stranger accounts f path me && is_in_no_job accounts f path me) (running_in f))
+      first_lines accounts f (λ me. (is_outside accounts f path me && is_in_no_job accounts f path me) ≡ true)
+      (λ me. login_line me user ∷ (me, Read path) ∷ []) (reading_text user path (bytes_at f path)) each (free_outsiders accounts f path)
+      (first_passes (λ me. is_outside accounts f path me && is_in_no_job accounts f path me) (running_in f))
     where
-      each : (me : ProcName) → (is_stranger accounts f path me && is_in_no_job accounts f path me) ≡ true
+      each : (me : ProcName) → (is_outside accounts f path me && is_in_no_job accounts f path me) ≡ true
           → lines_text accounts f (login_line me user ∷ (me, Read path) ∷ []) ≡ reading_text user path (bytes_at f path) me
       each me passes =
-          let parts = and_parts (is_stranger accounts f path me) (is_in_no_job accounts f path me) passes in
+          let parts = and_parts (is_outside accounts f path me) (is_in_no_job accounts f path me) passes in
           let p = some_process (running f me) is_free parts.1 in
           lines_replied accounts f (login_line me user ∷ (me, Read path) ∷ [])
           ∙ ap (replied_text (login_line me user ∷ (me, Read path) ∷ []))

@@ -1,5 +1,5 @@
 -- The contract of `leak`, put together from those of its parts.
-use Rattle.std.proofs.Common.{◌≡◌, ◌∙◌, ℕ, List, Option, Result, Ok, Err, refl, ap, sym, subst}
+use Rattle.std.proofs.Common.{◌≡◌, ◌∙◌, ℕ, List, Option, Ok, Err, ap, sym, subst}
 use Rattle.histar_flat.specs.Words.{Path}
 use Rattle.histar_flat.specs.Accounts.{Accounts}
 use Rattle.histar_script.specs.declared.fault.Fault.{Fault}

@@ -1,10 +1,9 @@
 -- What is computed from a machine and the users of its script is the text of the flat state that the machine represents.
-use Rattle.std.specs.Prelude.{◌≡◌, ℕ, ◌≤◌, Bool, true, false, not, ◌&&◌, ◌||◌, List, [], ◌∷◌, ◌++◌, length, map, codes, Option, None, Some, option_map}
+use Rattle.std.specs.Prelude.{◌≡◌, ℕ, ◌≤◌, true, not, ◌&&◌, ◌||◌, List, [], ◌∷◌, ◌++◌, length, map, codes, Option, None, Some, option_map}
 use Rattle.std.specs.Prelude.{if◌then◌else◌, refl}
 use Rattle.std.specs.List.{flat_map}
 use Rattle.std.proofs.Common.{ap, sym, ◌∙◌, subst}
 use Rattle.histar_flat.specs.declared.calls.User.{User}
-use Rattle.histar_flat.specs.declared.calls.UnixCall.{UnixCall}
 use Rattle.histar_flat.specs.declared.calls.UnixCall.TheVariants.{Read}
 use Rattle.histar_flat.specs.declared.replies.Reply.TheVariants.{Done}
 use Rattle.histar_flat.specs.Words.{Name, Path, ProcName, most_names}
@@ -15,7 +14,6 @@ use Rattle.histar_flat.specs.FlatCalls.{running}
 use Rattle.histar_flat.proofs.Trees.{paths_are_a_tree}
 use Rattle.histar_object.specs.State.{State}
 use Rattle.histar_syscall.specs.KernelModel.{state}
-use Rattle.histar_layout.specs.Listing.{is_directory}
 use Rattle.histar_refinement.specs.Categories.{Categories}
 use Rattle.histar_rights.specs.Running.{Named, running_in}
 use Rattle.histar_readout.specs.declared.tree.TreeNode.{TreeNode}
@@ -29,25 +27,24 @@ use Rattle.histar_secrecy.specs.Leaks.{asking}
 use Rattle.histar_secrecy.specs.Roles.{is_trusted}
 use Rattle.histar_secrecy.specs.Changers.{is_changer, may_change}
 use Rattle.histar_secrecy.specs.ShownRoles.{classes_on, flat_class, has_role, has_shown_role, is_login_reader, is_shown_changer, with_user}
-use Rattle.histar_secrecy.proofs.NumberedJobs.{named}
 use Rattle.histar_shell.specs.Ending.{IsTreeIn}
 use Rattle.histar_shell.specs.Machine.{MachineModel}
-use Rattle.histar_trust.specs.Findings.{AreMembers, ShowsReached, classes_to, head_text, node_at, runner_of}
+use Rattle.histar_trust.specs.Findings.{AreMembers, ShowsReached, classes_to, node_at}
 use Rattle.histar_trust.specs.TrustText.{is_open_way}
 use Rattle.histar_trust.proofs.Places.{AreAlike, classes_are, number_of, open_by_number}
-use Rattle.histar_trust.proofs.Runners.{AllOf, Runs, numbered}
+use Rattle.histar_trust.proofs.Runners.{AllOf, Runs}
 use Rattle.histar_trust.proofs.ShownTrust.{all_run, changer_same, chosen, each, head_is, is_so, members_are, one_number, outside_same, own_tree, same_tree}
 use Rattle.histar_trust.proofs.ShownTrust.{trusted_same}
 use Rattle.histar_leak.specs.declared.changes.Change.{Change}
-use Rattle.histar_leak.specs.LeakLines.{by_first, lines_text, paragraph, some_text, titled, who_text}
+use Rattle.histar_leak.specs.LeakLines.{by_first, paragraph, some_text, titled, who_text}
 use Rattle.histar_leak.specs.ChangeCalls.{change_call}
 use Rattle.histar_leak.specs.LeakText.{change_lines, changer_login_text, changer_text, changers_part, found_part, is_below_file, is_in_no_job}
-use Rattle.histar_leak.specs.LeakText.{is_stranger, knows_all_of, leak_text, listeners, login_by, login_line, login_text, others_in_no_job, readers_of}
-use Rattle.histar_leak.specs.LeakText.{readers_part, strangers_in_no_job, trusted_text}
+use Rattle.histar_leak.specs.LeakText.{is_outside, knows_all_of, leak_text, listeners, login_by, login_line, login_text, others_in_no_job, readers_of}
+use Rattle.histar_leak.specs.LeakText.{readers_part, free_outsiders, trusted_text}
 use Rattle.histar_leak.specs.Findings.{asking_text, bytes_there, call_of, change_text, changes_to, changing_text, entries_of, first_change}
-use Rattle.histar_leak.specs.Findings.{is_below_shown_file, is_file_there, is_jobless, is_shown_stranger, knows_jobs_of, login_change_text, of_first, reading_text, replied}
-use Rattle.histar_leak.specs.Findings.{reads_way, rights_of, shown_changer, shown_changer_login, shown_changers, shown_changes, shown_found}
-use Rattle.histar_leak.specs.Findings.{shown_free_strangers, shown_leak, shown_listeners, shown_login, shown_others, shown_readers, shown_roles}
+use Rattle.histar_leak.specs.Findings.{is_below_shown_file, is_file_there, is_jobless, is_shown_outsider, knows_jobs_of, login_change_text, of_first, reading_text, replied}
+use Rattle.histar_leak.specs.Findings.{reads_way, rights_of, shown_changer, shown_changer_login, shown_changes, shown_found}
+use Rattle.histar_leak.specs.Findings.{shown_free_outsiders, shown_leak, shown_listeners, shown_login, shown_others, shown_readers, shown_roles}
 use Rattle.histar_leak.specs.Findings.{shown_trusted}
 use Rattle.histar_leak.proofs.Changing.{change_lines_done, done_text, login_change_lines}
 use Rattle.histar_leak.proofs.ChangesShown.{below, change_is, entries_listed, first_by, first_mapped}
@@ -93,10 +90,10 @@ module _ {accounts : Accounts} {m : MachineModel} {f : Flat} (r : ShowsReached a
   module _ (members : List Member) (found : AreMembers m members) (classes : List FileClass) (to : map flat_class classes ≡ classes_on number f path) where
     -- ---- processes
 
-    stranger_same : (member : Member) (c : Named) → Is r path members found member c → Runs f category c
-        → is_shown_stranger accounts.groups classes member ≡ is_stranger accounts f path c.0
+    outsider_same : (member : Member) (c : Named) → Is r path members found member c → Runs f category c
+        → is_shown_outsider accounts.groups classes member ≡ is_outside accounts f path c.0
     unfolding has_shown_role
-    stranger_same member c same runs =
+    outsider_same member c same runs =
         ap (λ way. has_role accounts.groups way Outside member) to ∙ outside_same r members found member c same runs path
 
     role_same : (member : Member) (c : Named) → Is r path members found member c → Runs f category c
@@ -112,15 +109,15 @@ module _ {accounts : Accounts} {m : MachineModel} {f : Flat} (r : ShowsReached a
     listeners_are : (me : Member) (c : Named) → Is r path members found me c → Runs f category c
         → shown_listeners accounts.groups classes members me ≡ listeners accounts f path c.0
     listeners_are me c same runs =
-        chosen r members found (λ o. is_shown_stranger accounts.groups classes o && knows_jobs_of o me)
-        (λ other. is_stranger accounts f path other && knows_all_of accounts f path other c.0)
-        (λ o co so ro i. stranger_same o co so ro i && knows_same r path members found o co so ro me c same runs i)
+        chosen r members found (λ o. is_shown_outsider accounts.groups classes o && knows_jobs_of o me)
+        (λ other. is_outside accounts f path other && knows_all_of accounts f path other c.0)
+        (λ o co so ro i. outsider_same o co so ro i && knows_same r path members found o co so ro me c same runs i)
 
-    free_are : shown_free_strangers accounts.groups classes members ≡ strangers_in_no_job accounts f path
+    free_are : shown_free_outsiders accounts.groups classes members ≡ free_outsiders accounts f path
     free_are =
-        chosen r members found (λ o. is_shown_stranger accounts.groups classes o && is_jobless o)
-        (λ other. is_stranger accounts f path other && is_in_no_job accounts f path other)
-        (λ o co so ro i. stranger_same o co so ro i && jobless_same r path members found o co so ro i)
+        chosen r members found (λ o. is_shown_outsider accounts.groups classes o && is_jobless o)
+        (λ other. is_outside accounts f path other && is_in_no_job accounts f path other)
+        (λ o co so ro i. outsider_same o co so ro i && jobless_same r path members found o co so ro i)
 
     others_are : shown_others accounts.groups classes members ≡ others_in_no_job accounts f path
     others_are =
@@ -149,25 +146,25 @@ module _ {accounts : Accounts} {m : MachineModel} {f : Flat} (r : ShowsReached a
           ∙ ap (titled (title (c.0, c.1.user) (listeners accounts f path c.0))) (sym (trusted_lines accounts f r.reached path file c.0 c.1 runs t)))
 
       login_is : (user : User) → Knows user
-          → shown_login accounts.groups classes path bytes (shown_free_strangers accounts.groups classes members) user
+          → shown_login accounts.groups classes path bytes (shown_free_outsiders accounts.groups classes members) user
           ≡ login_text accounts f path user
       login_is user right =
           let title : List (ProcName × Name) → List ℕ = λ w. codes "login " ++ user.name ++ codes " by " ++ some_text w in
-          let shown = titled (title (shown_free_strangers accounts.groups classes members))
-          (of_first (shown_free_strangers accounts.groups classes members) (reading_text user path bytes)) in
-          let meant = paragraph accounts f (title (strangers_in_no_job accounts f path))
-          (by_first (strangers_in_no_job accounts f path) (λ me. login_line me user ∷ (me, Read path) ∷ [])) in
+          let shown = titled (title (shown_free_outsiders accounts.groups classes members))
+          (of_first (shown_free_outsiders accounts.groups classes members) (reading_text user path bytes)) in
+          let meant = paragraph accounts f (title (free_outsiders accounts f path))
+          (by_first (free_outsiders accounts f path) (λ me. login_line me user ∷ (me, Read path) ∷ [])) in
           ap (λ b. (let l : List ℕ = if b then shown else [] in l)) (reads_same user.name)
           ∙ when (reaches accounts f (logged_in user.name) path) shown meant
           (λ t. (λ i. titled (title (free_are i)) (of_first (free_are i) (reading_text user path bytes)))
-          ∙ ap (titled (title (strangers_in_no_job accounts f path))) (sym (login_lines accounts f r.reached path file user right t)))
+          ∙ ap (titled (title (free_outsiders accounts f path))) (sym (login_lines accounts f r.reached path file user right t)))
 
       readers_are : shown_readers accounts.groups classes path bytes accounts.users members ≡ readers_part accounts f path
       readers_are =
           λ i. if (ap is_open_way to ∙ open_by_number number f path) i then codes "\n# everyone\n" else
           texts_same f category (shown_trusted accounts.groups classes path bytes members) (trusted_text accounts f path) trusted_is members
           (running_in f) (members_are r members found) (all_run r members found) i
-          ++ users_same Knows (shown_login accounts.groups classes path bytes (shown_free_strangers accounts.groups classes members))
+          ++ users_same Knows (shown_login accounts.groups classes path bytes (shown_free_outsiders accounts.groups classes members))
           (login_text accounts f path) login_is accounts.users passwords i
 
     -- ---- changers

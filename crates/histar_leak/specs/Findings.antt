@@ -15,7 +15,6 @@ use Rattle.histar_flat.specs.Classes.{Process, may_write}
 use Rattle.histar_flat.specs.FlatState.{Flat}
 use Rattle.histar_flat.specs.FlatCalls.{most_entries}
 use Rattle.histar_object.specs.State.{State}
-use Rattle.histar_syscall.specs.KernelModel.{state}
 use Rattle.histar_layout.specs.Listing.{is_directory}
 use Rattle.histar_readout.specs.declared.tree.TreeNode.{TreeNode}
 use Rattle.histar_readout.specs.TreeEntries.{node_bytes}
@@ -28,12 +27,12 @@ use Rattle.histar_secrecy.specs.Logins.{logged_in}
 use Rattle.histar_secrecy.specs.ShownRoles.{flat_class, has_shown_role, is_login_changer, is_login_reader, is_shown_changer, of_groups}
 use Rattle.histar_secrecy.specs.ShownRoles.{with_rights, with_user}
 use Rattle.histar_shell.specs.Machine.{MachineModel}
-use Rattle.histar_trust.specs.Findings.{AreMembers, ShowsReached, head_text, node_at}
+use Rattle.histar_trust.specs.Findings.{ShowsReached, head_text, node_at}
 use Rattle.histar_trust.specs.TrustText.{is_open_way}
 use Rattle.histar_leak.specs.declared.changes.Change.{Change}
 use Rattle.histar_leak.specs.declared.changes.Change.TheVariants as changes
 use Rattle.histar_leak.specs.LeakLines.{call_line, reply_line, some_text, titled, who_text}
-use Rattle.histar_leak.specs.ChangeCalls.{made_name, other_bytes}
+use Rattle.histar_leak.specs.ChangeCalls.{made_name}
 use Rattle.histar_leak.specs.LeakText.{leak_text, login_line}
 
 -- ---- calls that change something
@@ -71,22 +70,25 @@ abbrev pub way_change : Option TreeNode → List Path → Path → Name → Opti
 way_change (Some entry) entries d name = Some (changes.Rmtree entry.path)
 way_change None entries d name = if nat_lt (length entries) most_entries then make_in d name else entry_change entries d name
 
--- the call by what is above a path, of which this is the entry on the way: one by a directory, and none by a file
-abbrev pub change_in : List TreeNode → Option TreeNode → Path → Name → Option TreeNode → List (Option Change)
-change_in tree entry d name None = []
-change_in tree entry d name (Some node) =
-    (if is_directory node.target then way_change entry (entries_of d tree) node.path name else None) ∷ []
+-- the call by what is above a path, of which this is the entry on the way, if it is a directory
+abbrev pub change_in : List TreeNode → TreeNode → Option TreeNode → Name → Option Change
+change_in tree node entry name = if is_directory node.target then way_change entry (entries_of node.path tree) node.path name else None
+
+-- the same, if something is there
+abbrev pub changes_in : List TreeNode → Option TreeNode → Option TreeNode → Name → List (Option Change)
+changes_in tree None entry name = []
+changes_in tree (Some node) entry name = change_in tree node entry name ∷ []
 
 -- the calls by the directories above a path, from the lowest on
 abbrev pub changes_above : List TreeNode → Path → List (Option Change)
 changes_above tree [] = []
-changes_above tree (name ∷ d) = change_in tree (node_at (name ∷ d) tree) d name (node_at d tree) ++ changes_above tree d
+changes_above tree (name ∷ d) = changes_in tree (node_at d tree) (node_at (name ∷ d) tree) name ++ changes_above tree d
 
 -- the call that changes what is at a path, if something is
-abbrev pub change_there : List TreeNode → Path → Option TreeNode → List ℕ → List (Option Change)
-change_there tree path None bytes = []
-change_there tree path (Some node) bytes =
-    (if is_directory node.target then entry_change (entries_of path tree) node.path made_name else Some (other_write node.path bytes)) ∷ []
+abbrev pub change_there : List TreeNode → Option TreeNode → List ℕ → List (Option Change)
+change_there tree None bytes = []
+change_there tree (Some node) bytes =
+    (if is_directory node.target then entry_change (entries_of node.path tree) node.path made_name else Some (other_write node.path bytes)) ∷ []
 
 -- the bytes of what is there
 abbrev pub bytes_there : State → Option TreeNode → List ℕ
@@ -95,7 +97,7 @@ bytes_there s (Some node) = node_bytes s node
 
 -- the calls by what is at a path and by each directory above it
 abbrev pub changes_to : List TreeNode → Path → List ℕ → List (Option Change)
-changes_to tree path bytes = change_there tree path (node_at path tree) bytes ++ changes_above tree path
+changes_to tree path bytes = change_there tree (node_at path tree) bytes ++ changes_above tree path
 
 -- the process may write what is of the class, and read what is of each behind it
 abbrev pub changes_here : List Group → Process → FileClass → List FileClass → Bool
@@ -157,8 +159,8 @@ abbrev pub rights_of : Member → Process
 rights_of m = with_rights m.user m.jobs.items m.held.items
 
 -- the paragraph of a trusted process and these listeners
-abbrev pub teller_text : Path → List ℕ → Member → List (ProcName × Name) → List ℕ
-teller_text path bytes m whom =
+abbrev pub trusted_paragraph : Path → List ℕ → Member → List (ProcName × Name) → List ℕ
+trusted_paragraph path bytes m whom =
     titled (codes "trusted " ++ who_text (with_user m) ++ codes " tells " ++ some_text whom) (of_first whom (asking_text m.name path bytes))
 
 -- a process that logs in as the user may read all of the way
@@ -172,20 +174,20 @@ has_some (p ∷ more) = true
 
 module _ (groups : List Group) (classes : List FileClass) where
   -- the process is an outsider
-  abbrev pub is_shown_stranger : Member → Bool
-  is_shown_stranger m = has_shown_role groups classes Outside m
+  abbrev pub is_shown_outsider : Member → Bool
+  is_shown_outsider m = has_shown_role groups classes Outside m
 
   -- the outsiders
-  abbrev pub shown_strangers : List Member → List (ProcName × Name)
-  shown_strangers members = map with_user (filter is_shown_stranger members)
+  abbrev pub shown_outsiders : List Member → List (ProcName × Name)
+  shown_outsiders members = map with_user (filter is_shown_outsider members)
 
   -- the outsiders in no job
-  abbrev pub shown_free_strangers : List Member → List (ProcName × Name)
-  shown_free_strangers members = map with_user (filter (λ m. is_shown_stranger m && is_jobless m) members)
+  abbrev pub shown_free_outsiders : List Member → List (ProcName × Name)
+  shown_free_outsiders members = map with_user (filter (λ m. is_shown_outsider m && is_jobless m) members)
 
   -- the outsiders that know each job of the process
   abbrev pub shown_listeners : List Member → Member → List (ProcName × Name)
-  shown_listeners members me = map with_user (filter (λ m. is_shown_stranger m && knows_jobs_of m me) members)
+  shown_listeners members me = map with_user (filter (λ m. is_shown_outsider m && knows_jobs_of m me) members)
 
   -- the processes in no job that are no changers
   abbrev pub shown_others : List Member → List (ProcName × Name)
@@ -198,7 +200,7 @@ module _ (groups : List Group) (classes : List FileClass) where
   module _ (path : Path) (bytes : List ℕ) where
     -- the paragraph of a process, if it is trusted
     abbrev pub shown_trusted : List Member → Member → List ℕ
-    shown_trusted members m = if has_shown_role groups classes Trusted m then teller_text path bytes m (shown_listeners members m) else []
+    shown_trusted members m = if has_shown_role groups classes Trusted m then trusted_paragraph path bytes m (shown_listeners members m) else []
 
     -- the paragraph of a user as whom these outsiders could log in
     abbrev pub shown_login : List (ProcName × Name) → User → List ℕ
@@ -211,7 +213,7 @@ module _ (groups : List Group) (classes : List FileClass) where
     abbrev pub shown_readers : List User → List Member → List ℕ
     shown_readers users members =
         if is_open_way (map flat_class classes) then codes "\n# everyone\n" else
-        flat_map (shown_trusted members) members ++ flat_map (shown_login (shown_free_strangers members)) users
+        flat_map (shown_trusted members) members ++ flat_map (shown_login (shown_free_outsiders members)) users
 
   module _ (calls : List (Option Change)) where
     -- the paragraph of a process, if it is a changer

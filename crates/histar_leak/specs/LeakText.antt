@@ -1,6 +1,6 @@
 -- How each process that is trusted with a file tells what is in it, and to whom; how each login reads it; and how each changer changes
 -- what is at a path: the text of a flat state.
-use Rattle.std.specs.Prelude.{ℕ, Bool, true, false, not, ◌&&◌, ◌||◌, List, [], ◌∷◌, ◌++◌, Option, None, Some, codes, if◌then◌else◌}
+use Rattle.std.specs.Prelude.{ℕ, Bool, false, not, ◌&&◌, ◌||◌, List, [], ◌∷◌, ◌++◌, Option, None, Some, codes, if◌then◌else◌}
 use Rattle.std.specs.List.{flat_map}
 use Rattle.histar_flat.specs.declared.calls.User.{User}
 use Rattle.histar_flat.specs.declared.calls.UnixCall.{UnixCall}
@@ -35,8 +35,8 @@ module _ (accounts : Accounts) (f : Flat) (path : Path) where
   -- ---- the readers of a file
 
   -- the process of this name is an outsider of the file
-  abbrev pub is_stranger : ProcName → Bool
-  is_stranger me = is_outsider accounts (way_to f path) f me
+  abbrev pub is_outside : ProcName → Bool
+  is_outside me = is_outsider accounts (way_to f path) f me
 
   -- the process of this name knows each job of the other
   abbrev pub knows_all_of : ProcName → ProcName → Bool
@@ -48,7 +48,7 @@ module _ (accounts : Accounts) (f : Flat) (path : Path) where
 
   -- the running outsiders that know each job of the process
   abbrev pub listeners : ProcName → List (ProcName × Name)
-  listeners me = running_where accounts f (λ other. is_stranger other && knows_all_of other me)
+  listeners me = running_where accounts f (λ other. is_outside other && knows_all_of other me)
 
   -- A trusted process reads the file; the first listener asks whether it runs; then it exits with 1, and the listener asks again.
   abbrev pub trusted_text : Named → List ℕ
@@ -59,15 +59,15 @@ module _ (accounts : Accounts) (f : Flat) (path : Path) where
       else []
 
   -- the running outsiders in no job
-  abbrev pub strangers_in_no_job : List (ProcName × Name)
-  strangers_in_no_job = running_where accounts f (λ other. is_stranger other && is_in_no_job other)
+  abbrev pub free_outsiders : List (ProcName × Name)
+  free_outsiders = running_where accounts f (λ other. is_outside other && is_in_no_job other)
 
   -- The first of them logs in as a user who reaches the file, and reads it.
   abbrev pub login_text : User → List ℕ
   login_text user =
       if reaches accounts f (logged_in user.name) path then
-      paragraph accounts f (codes "login " ++ user.name ++ codes " by " ++ some_text strangers_in_no_job)
-      (by_first strangers_in_no_job (λ me. login_line me user ∷ (me, Read path) ∷ []))
+      paragraph accounts f (codes "login " ++ user.name ++ codes " by " ++ some_text free_outsiders)
+      (by_first free_outsiders (λ me. login_line me user ∷ (me, Read path) ∷ []))
       else []
 
   -- `everyone` if every process reaches the file, or else a paragraph for each trusted process and each login

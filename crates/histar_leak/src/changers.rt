@@ -13,11 +13,12 @@ use histar_flat::{Group, Name, ProcName, User};
 use histar_secrecy::{FileClass, Member, writes_one};
 use std::alloc::{AllocError, Global};
 
-/// What is at a path, for its changers: the groups of the machine, the classes of what is there and of each
-/// directory above it, and the call that changes something by each of these.
+/// What is at a path and who may change it: the groups and the running processes of the machine, the classes of
+/// what is there and of each directory above it, and the call that changes something by each of these.
 #[derive(Drop)]
 pub struct Place<'a> {
     pub groups: &'a [Group],
+    pub members: &'a [Member],
     pub classes: &'a [FileClass],
     pub changes: &'a [Option<Change>],
 }
@@ -29,28 +30,23 @@ pub fn push_changers(
     text: &mut Vec<u8>,
     place: &Place,
     users: &[User],
-    members: &[Member],
 ) -> Result<(), AllocError>
     ensures { OnOk result (text.new.items ≡ text.old.items
         ++ shown_changers place.now.groups.now place.now.classes.now place.now.changes.now users.now
-        members.now) }
+        place.now.members.now) }
 {
-    push_each_changer(text, place, members)?;
-    let whom = others(alloc, place, members)?;
+    push_each_changer(text, place)?;
+    let whom = others(alloc, place)?;
     push_changer_logins(alloc, text, place, whom.as_slice(), users)
 }
 
 /// Adds a paragraph for each changer.
-fn push_each_changer(
-    text: &mut Vec<u8>,
-    place: &Place,
-    members: &[Member],
-) -> Result<(), AllocError>
+fn push_each_changer(text: &mut Vec<u8>, place: &Place) -> Result<(), AllocError>
     ensures { OnOk result (text.new.items ≡ text.old.items
         ++ flat_map (shown_changer place.now.groups.now place.now.classes.now
-        place.now.changes.now) members.now) }
+        place.now.changes.now) place.now.members.now) }
 {
-    for member in members {
+    for member in place.members {
         push_changer(text, place, member)?;
     }
     Ok(())
@@ -87,15 +83,12 @@ fn is_changer(place: &Place, member: &Member) -> bool
 }
 
 /// Returns the processes in no job that are no changers, each with its user.
-fn others(
-    alloc: Global,
-    place: &Place,
-    members: &[Member],
-) -> Result<Vec<(ProcName, Name)>, AllocError>
+fn others(alloc: Global, place: &Place) -> Result<Vec<(ProcName, Name)>, AllocError>
     ensures { IfOk result (λ v. v.items
-        ≡ shown_others place.now.groups.now place.now.classes.now members.now) }
+        ≡ shown_others place.now.groups.now place.now.classes.now place.now.members.now) }
 {
-    members
+    place
+        .members
         .iter()
         .filter(|member| !is_changer(place, member) && is_jobless(member))
         .map(|member| (member.name, member.user))

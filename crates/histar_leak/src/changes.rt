@@ -48,21 +48,20 @@ pub fn push_changes(
     ensures { OnOk result (changes.new.items
         ≡ changes.old.items ++ changes_to tree.now names.now bytes.now) }
 {
-    push_change_there(alloc, tree, names, node_at(tree, names), bytes, changes)?;
+    push_change_there(alloc, tree, node_at(tree, names), bytes, changes)?;
     push_changes_above(alloc, tree, names, changes)
 }
 
-/// Adds the call that changes what is at the path of these names, if something is there.
+/// Adds the call that changes what is at a path, if something is there.
 fn push_change_there(
     alloc: Global,
     tree: &[TreeNode],
-    names: &[Name],
     there: Option<&TreeNode>,
     bytes: &[u8],
     changes: &mut Vec<Option<Change>>,
 ) -> Result<(), AllocError>
     ensures { OnOk result (changes.new.items ≡ changes.old.items
-        ++ change_there tree.now names.now (option_copied there.entry) bytes.now) }
+        ++ change_there tree.now (option_copied there.entry) bytes.now) }
 {
     let Some(node) = there else {
         return Ok(());
@@ -70,7 +69,7 @@ fn push_change_there(
     if !node.stat().is_directory {
         return Ok(changes.push(Some(other_write(&node.path, bytes)))?);
     }
-    let entries = entries_of(alloc, tree, names)?;
+    let entries = entries_of(alloc, tree, &node.path)?;
     let change = entry_change(entries.as_slice(), &node.path, made_name());
     Ok(changes.push(change)?)
 }
@@ -87,37 +86,34 @@ fn push_changes_above(
     let [name, above @ ..] = names else {
         return Ok(());
     };
-    let entry = node_at(tree, names);
-    push_change_in(alloc, tree, entry, above, *name, changes)?;
+    if let Some(directory) = node_at(tree, above) {
+        let change = change_in(alloc, tree, directory, node_at(tree, names), *name)?;
+        changes.push(change)?;
+    }
     push_changes_above(alloc, tree, above, changes)
 }
 
-/// Adds the call by what is above a path: the directory of these names, of which `entry` is the entry on the
-/// way, or would be if it were there.
-fn push_change_in(
+/// Returns the call by a directory above a path, of which `entry` is the entry on the way, or would be if it
+/// were there.
+fn change_in(
     alloc: Global,
     tree: &[TreeNode],
+    directory: &TreeNode,
     entry: Option<&TreeNode>,
-    above: &[Name],
     name: Name,
-    changes: &mut Vec<Option<Change>>,
-) -> Result<(), AllocError>
-    ensures { OnOk result (changes.new.items ≡ changes.old.items
-        ++ change_in tree.now (option_copied entry.entry) above.now name (node_at above.now tree.now)) }
+) -> Result<Option<Change>, AllocError>
+    ensures { IfOk result (λ change. change
+        ≡ change_in tree.now directory.now (option_copied entry.entry) name) }
 {
-    let Some(directory) = node_at(tree, above) else {
-        return Ok(());
-    };
     if !directory.stat().is_directory {
-        return Ok(changes.push(None)?);
+        return Ok(None);
     }
-    let entries = entries_of(alloc, tree, above)?;
-    let change = way_change(entry, entries.as_slice(), &directory.path, name);
-    Ok(changes.push(change)?)
+    let entries = entries_of(alloc, tree, &directory.path)?;
+    Ok(way_change(entry, entries.as_slice(), &directory.path, name))
 }
 
-/// Returns the paths of the entries that a tree lists of the directory of these names.
-fn entries_of(alloc: Global, tree: &[TreeNode], directory: &[Name]) -> Result<Vec<Path>, AllocError>
+/// Returns the paths of the entries that a tree lists of a directory.
+fn entries_of(alloc: Global, tree: &[TreeNode], directory: &Path) -> Result<Vec<Path>, AllocError>
     ensures { IfOk result (λ entries. entries.items ≡ entries_of directory.now tree.now) }
 {
     tree.iter()
@@ -126,13 +122,13 @@ fn entries_of(alloc: Global, tree: &[TreeNode], directory: &[Name]) -> Result<Ve
         .collect(alloc)
 }
 
-/// Checks whether a node is an entry of the directory of these names.
-fn is_entry_of(node: &TreeNode, directory: &[Name]) -> bool
+/// Checks whether a node is an entry of a directory.
+fn is_entry_of(node: &TreeNode, directory: &Path) -> bool
     ensures { result ≡ is_entry_of directory.now node.now }
 {
     match node.path.names() {
         [] => false,
-        [_, above @ ..] => directory == above,
+        [_, above @ ..] => directory.names() == above,
     }
 }
 

@@ -3,7 +3,7 @@ ghost use Rattle.std.specs.Prelude.{◌≡◌, ◌++◌, codes, IfOk, OnOk, if�
 ghost use Rattle.std.specs.Option.{option_copied};
 ghost use Rattle.histar_syscall.specs.KernelModel.{state};
 ghost use Rattle.histar_shell.specs.Ending.{IsTreeIn};
-ghost use Rattle.histar_trust.specs.Findings.{AreMembers, node_at};
+ghost use Rattle.histar_trust.specs.Findings.{node_at};
 ghost use Rattle.histar_leak.specs.Findings.{bytes_there, HasStateOf, is_below_shown_file, is_file_there, ShowsLeak};
 ghost use Rattle.histar_leak.specs.Findings.{shown_changes, shown_found, shown_leak, shown_roles};
 
@@ -61,27 +61,11 @@ fn lines_in<S: LabelStore + Drop>(
 {
     let processes = processes(alloc, machine)?;
     let members = members_among(alloc, processes.as_slice())?;
-    lines_among(alloc, machine, accounts, path, tree, members.as_slice())
-}
-
-/// Returns the text on what is at a path of the tree of a machine, by the processes that run.
-fn lines_among<S: LabelStore + Drop>(
-    alloc: Global,
-    machine: &Machine<S>,
-    accounts: &Accounts,
-    path: &Path,
-    tree: &[TreeNode],
-    members: &[Member],
-) -> Result<Vec<u8>, AllocError>
-    requires tree { IsTreeIn machine.now tree.now }
-    requires members { AreMembers machine.now members.now }
-    ensures { IfOk result (λ text. ShowsLeak accounts.now machine.now path.now text.items) }
-{
     let mut classes = Vec::new(alloc);
     push_classes(alloc, tree, path.names(), &mut classes)?;
     let scene = Scene {
         accounts,
-        members,
+        members: members.as_slice(),
         path,
         classes: classes.as_slice(),
         bytes: bytes_there(machine, node_at(tree, path.names())),
@@ -147,11 +131,12 @@ fn push_roles(
     }
     let secret = Secret {
         groups: scene.accounts.groups(),
+        members: scene.members,
         classes: scene.classes,
         path: scene.path,
         bytes: scene.bytes,
     };
-    push_readers(alloc, text, &secret, scene.accounts.users(), scene.members)
+    push_readers(alloc, text, &secret, scene.accounts.users())
 }
 
 /// Adds the paragraphs of the changers of what is at a path, and nothing below a file.
@@ -171,10 +156,11 @@ fn push_changes_of(
     push_changes(alloc, tree, scene.path.names(), scene.bytes, &mut changes)?;
     let place = Place {
         groups: scene.accounts.groups(),
+        members: scene.members,
         classes: scene.classes,
         changes: changes.as_slice(),
     };
-    push_changers(alloc, text, &place, scene.accounts.users(), scene.members)
+    push_changers(alloc, text, &place, scene.accounts.users())
 }
 
 /// Checks whether a file is above the path of these names.

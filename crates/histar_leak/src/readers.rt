@@ -3,9 +3,9 @@ ghost use Rattle.std.specs.Prelude.{◌≡◌, ◌&&◌, ◌++◌, codes, filter
 ghost use Rattle.std.specs.List.{flat_map};
 ghost use Rattle.histar_secrecy.specs.declared.role.Role.TheVariants.{Trusted};
 ghost use Rattle.histar_secrecy.specs.ShownRoles.{flat_class, has_shown_role, is_login_reader, with_user};
-ghost use Rattle.histar_leak.specs.Findings.{asking_text, is_jobless, is_shown_stranger, knows_jobs_of, of_first, reading_text, reads_way};
-ghost use Rattle.histar_leak.specs.Findings.{shown_free_strangers, shown_listeners, shown_login, shown_readers};
-ghost use Rattle.histar_leak.specs.Findings.{shown_strangers, shown_trusted, teller_text};
+ghost use Rattle.histar_leak.specs.Findings.{asking_text, is_jobless, is_shown_outsider, knows_jobs_of, of_first, reading_text, reads_way};
+ghost use Rattle.histar_leak.specs.Findings.{shown_free_outsiders, shown_listeners, shown_login, shown_readers};
+ghost use Rattle.histar_leak.specs.Findings.{shown_outsiders, shown_trusted, trusted_paragraph};
 
 use crate::lines::{push_asking, push_reading, push_some, push_who};
 use histar_flat::{Group, Name, Path, ProcName, User};
@@ -13,10 +13,12 @@ use histar_secrecy::{FileClass, Member, Role, has_role, knows_all, reads_all};
 use histar_trust::is_open_way;
 use std::alloc::{AllocError, Global};
 
-/// A file: the groups of the machine, the classes on the way to the file, its path, and its bytes.
+/// A file and who may reach it: the groups and the running processes of the machine, the classes on the way to
+/// the file, its path, and its bytes.
 #[derive(Drop)]
 pub struct Secret<'a> {
     pub groups: &'a [Group],
+    pub members: &'a [Member],
     pub classes: &'a [FileClass],
     pub path: &'a Path,
     pub bytes: &'a [u8],
@@ -29,36 +31,30 @@ pub fn push_readers(
     text: &mut Vec<u8>,
     secret: &Secret,
     users: &[User],
-    members: &[Member],
 ) -> Result<(), AllocError>
     ensures { OnOk result (text.new.items ≡ text.old.items
         ++ shown_readers secret.now.groups.now secret.now.classes.now secret.now.path.now
-        secret.now.bytes.now users.now members.now) }
+        secret.now.bytes.now users.now secret.now.members.now) }
 {
     if is_open_way(secret.classes) {
         return text.extend_from_slice(b"\n# everyone\n");
     }
-    push_each_trusted(alloc, text, secret, members)?;
-    let whom = free_strangers(alloc, secret, members)?;
+    push_each_trusted(alloc, text, secret)?;
+    let whom = free_outsiders(alloc, secret)?;
     push_logins(text, secret, whom.as_slice(), users)
 }
 
 /// Adds a paragraph for each process that is trusted with a file.
 ///
 /// Those that a process in no job can tell are all outsiders, and are listed once.
-fn push_each_trusted(
-    alloc: Global,
-    text: &mut Vec<u8>,
-    secret: &Secret,
-    members: &[Member],
-) -> Result<(), AllocError>
+fn push_each_trusted(alloc: Global, text: &mut Vec<u8>, secret: &Secret) -> Result<(), AllocError>
     ensures { OnOk result (text.new.items ≡ text.old.items
         ++ flat_map (shown_trusted secret.now.groups.now secret.now.classes.now secret.now.path.now
-        secret.now.bytes.now members.now) members.now) }
+        secret.now.bytes.now secret.now.members.now) secret.now.members.now) }
 {
-    let strangers = strangers(alloc, secret, members)?;
-    for member in members {
-        push_trusted(alloc, text, secret, members, strangers.as_slice(), member)?;
+    let outsiders = outsiders(alloc, secret)?;
+    for member in secret.members {
+        push_trusted(alloc, text, secret, outsiders.as_slice(), member)?;
     }
     Ok(())
 }
@@ -68,19 +64,18 @@ fn push_trusted(
     alloc: Global,
     text: &mut Vec<u8>,
     secret: &Secret,
-    members: &[Member],
-    strangers: &[(ProcName, Name)],
+    outsiders: &[(ProcName, Name)],
     member: &Member,
 ) -> Result<(), AllocError>
-    requires { strangers.now ≡ shown_strangers secret.now.groups.now secret.now.classes.now members.now }
+    requires { outsiders.now ≡ shown_outsiders secret.now.groups.now secret.now.classes.now secret.now.members.now }
     ensures { OnOk result (text.new.items ≡ text.old.items
         ++ shown_trusted secret.now.groups.now secret.now.classes.now secret.now.path.now
-        secret.now.bytes.now members.now member.now) }
+        secret.now.bytes.now secret.now.members.now member.now) }
 {
     if !has_role(secret.groups, secret.classes, Role::Trusted, member) {
         return Ok(());
     }
-    push_listening(alloc, text, secret, members, strangers, member)
+    push_listening(alloc, text, secret, outsiders, member)
 }
 
 /// Adds the paragraph of a trusted process, where these are the outsiders: a process in no job can tell each.
@@ -88,31 +83,30 @@ fn push_listening(
     alloc: Global,
     text: &mut Vec<u8>,
     secret: &Secret,
-    members: &[Member],
-    strangers: &[(ProcName, Name)],
+    outsiders: &[(ProcName, Name)],
     member: &Member,
 ) -> Result<(), AllocError>
-    requires { strangers.now ≡ shown_strangers secret.now.groups.now secret.now.classes.now members.now }
+    requires { outsiders.now ≡ shown_outsiders secret.now.groups.now secret.now.classes.now secret.now.members.now }
     ensures { OnOk result (text.new.items ≡ text.old.items
-        ++ teller_text secret.now.path.now secret.now.bytes.now member.now
-        (shown_listeners secret.now.groups.now secret.now.classes.now members.now member.now)) }
+        ++ trusted_paragraph secret.now.path.now secret.now.bytes.now member.now
+        (shown_listeners secret.now.groups.now secret.now.classes.now secret.now.members.now member.now)) }
 {
     if is_jobless(member) {
-        return push_teller(text, secret, member, strangers);
+        return push_trusted_paragraph(text, secret, member, outsiders);
     }
-    let listeners = listeners(alloc, secret, members, member)?;
-    push_teller(text, secret, member, listeners.as_slice())
+    let listeners = listeners(alloc, secret, member)?;
+    push_trusted_paragraph(text, secret, member, listeners.as_slice())
 }
 
 /// Adds the paragraph of a trusted process, which can tell these.
-fn push_teller(
+fn push_trusted_paragraph(
     text: &mut Vec<u8>,
     secret: &Secret,
     member: &Member,
     whom: &[(ProcName, Name)],
 ) -> Result<(), AllocError>
     ensures { OnOk result (text.new.items ≡ text.old.items
-        ++ teller_text secret.now.path.now secret.now.bytes.now member.now whom.now) }
+        ++ trusted_paragraph secret.now.path.now secret.now.bytes.now member.now whom.now) }
 {
     text.extend_from_slice(b"\n# trusted ")?;
     push_who(text, &member.name, member.user)?;
@@ -142,54 +136,48 @@ fn push_asking_first(
 fn listeners(
     alloc: Global,
     secret: &Secret,
-    members: &[Member],
     me: &Member,
 ) -> Result<Vec<(ProcName, Name)>, AllocError>
     ensures { IfOk result (λ v. v.items
-        ≡ shown_listeners secret.now.groups.now secret.now.classes.now members.now me.now) }
+        ≡ shown_listeners secret.now.groups.now secret.now.classes.now secret.now.members.now me.now) }
 {
-    members
+    secret
+        .members
         .iter()
-        .filter(|member| is_stranger(secret, member) && knows_jobs_of(member, me))
+        .filter(|member| is_outsider(secret, member) && knows_jobs_of(member, me))
         .map(|member| (member.name, member.user))
         .collect(alloc)
 }
 
 /// Returns the outsiders in no job, each with its user.
-fn free_strangers(
-    alloc: Global,
-    secret: &Secret,
-    members: &[Member],
-) -> Result<Vec<(ProcName, Name)>, AllocError>
+fn free_outsiders(alloc: Global, secret: &Secret) -> Result<Vec<(ProcName, Name)>, AllocError>
     ensures { IfOk result (λ v. v.items
-        ≡ shown_free_strangers secret.now.groups.now secret.now.classes.now members.now) }
+        ≡ shown_free_outsiders secret.now.groups.now secret.now.classes.now secret.now.members.now) }
 {
-    members
+    secret
+        .members
         .iter()
-        .filter(|member| is_stranger(secret, member) && is_jobless(member))
+        .filter(|member| is_outsider(secret, member) && is_jobless(member))
         .map(|member| (member.name, member.user))
         .collect(alloc)
 }
 
 /// Returns the outsiders, each with its user.
-fn strangers(
-    alloc: Global,
-    secret: &Secret,
-    members: &[Member],
-) -> Result<Vec<(ProcName, Name)>, AllocError>
+fn outsiders(alloc: Global, secret: &Secret) -> Result<Vec<(ProcName, Name)>, AllocError>
     ensures { IfOk result (λ v. v.items
-        ≡ shown_strangers secret.now.groups.now secret.now.classes.now members.now) }
+        ≡ shown_outsiders secret.now.groups.now secret.now.classes.now secret.now.members.now) }
 {
-    members
+    secret
+        .members
         .iter()
-        .filter(|member| is_stranger(secret, member))
+        .filter(|member| is_outsider(secret, member))
         .map(|member| (member.name, member.user))
         .collect(alloc)
 }
 
 /// Checks whether a process is an outsider of a file.
-fn is_stranger(secret: &Secret, member: &Member) -> bool
-    ensures { result ≡ is_shown_stranger secret.now.groups.now secret.now.classes.now member.now }
+fn is_outsider(secret: &Secret, member: &Member) -> bool
+    ensures { result ≡ is_shown_outsider secret.now.groups.now secret.now.classes.now member.now }
 {
     has_role(secret.groups, secret.classes, Role::Outside, member)
 }
