@@ -86,13 +86,35 @@ module _ (d : Path) where
       ]
 
 -- the entry of this name is listed exactly if it is there
-entry_is : (f : Flat) (d : Path) (n : Name) → find by_bytes n (entries_in f d) ≡ option_map is_dir (get f.files (n ∷ d))
+pub entry_is : (f : Flat) (d : Path) (n : Name) → find by_bytes n (entries_in f d) ≡ option_map is_dir (get f.files (n ∷ d))
 entry_is f d n = find_listed d n f.files.entries
 
 -- where the entries are the same, the same are there
 same_entry : (f g : Flat) (d : Path) (n : Name) → entries_in g d ≡ entries_in f d
     → option_map is_dir (get g.files (n ∷ d)) ≡ option_map is_dir (get f.files (n ∷ d))
 same_entry f g d n e = sym (entry_is g d n) ∙ ap (find by_bytes n) e ∙ entry_is f d n
+
+-- the first entry is there
+pub first_is_there : (f : Flat) (d : Path) (x : Entry) (es : List Entry) → entries_in f d ≡ x ∷ es → is_there f (x.0 ∷ d) ≡ true
+first_is_there f d x es e = some (get f.files (x.0 ∷ d))
+    (sym (entry_is f d x.0) ∙ ap (find by_bytes x.0) e ∙ find_first nat_list_cmp_total antisymmetric x.0 x.1 es)
+  where
+    some : (o : Option Node) → option_map is_dir o ≡ Some x.1 → is_some_and o (λ n. true) ≡ true
+    some None h = absurd (cc)
+    some (Some y) h = refl
+
+-- where there is no entry, no name is there
+pub none_is_there : (f : Flat) (d : Path) (n : Name) → entries_in f d ≡ [] → is_there f (n ∷ d) ≡ false
+none_is_there f d n e = none (get f.files (n ∷ d)) (sym (entry_is f d n) ∙ ap (find by_bytes n) e)
+  where
+    none : (o : Option Node) → option_map is_dir o ≡ None → is_some_and o (λ n. true) ≡ false
+    none None h = refl
+    none (Some y) h = absurd (cc)
+
+-- what is there and is no directory is a file
+pub no_directory : (o : Option Node) → is_some_and o (λ n. true) ≡ true → is_some_and o is_dir ≡ false → is_some_and o (λ n. not (is_dir n)) ≡ true
+no_directory None h e = absurd (true≢false (sym h))
+no_directory (Some x) h e = ap not e
 
 -- ---- where a process may change something
 
@@ -116,7 +138,7 @@ some_or_none (Some n) = inl (n, refl)
 module _ (accounts : Accounts) (f : Flat) (tree : IsTree f) (me : ProcName) (p : Process) (runs : running f me ≡ Some p) where
   -- a call that is not refused
   module _ (call : UnixCall) (passes : refused accounts f me p call ≡ None) where
-    answered : reply_to accounts f me call ≡ answer f me p call
+    pub answered : reply_to accounts f me call ≡ answer f me p call
     answered = ap (λ o. reply_by accounts f me o call) runs ∙ ap (λ e. reply_or e (answer f me p call)) passes
 
     done : flat_after accounts f me call ≡ changed accounts f me p call
@@ -146,7 +168,7 @@ module _ (accounts : Accounts) (f : Flat) (tree : IsTree f) (me : ProcName) (p :
   -- ---- an entry is removed
 
   module _ (n : Name) (d : Path) (there : is_there f (n ∷ d) ≡ true) (change : changes_at accounts f p d ≡ true) where
-    removes : refused accounts f me p (Rmtree (n ∷ d)) ≡ None
+    pub removes : refused accounts f me p (Rmtree (n ∷ d)) ≡ None
     removes =
         let in_it = enters d (tree.below n d there) change in
         λ i. (in_it.0 i orelse unless (there i) ENOENT) orelse unless (in_it.1 i) EACCES
@@ -185,57 +207,56 @@ module _ (accounts : Accounts) (f : Flat) (tree : IsTree f) (me : ProcName) (p :
 
   -- ---- an entry is made
 
+  -- a directory is made where there is none of the name, and room for it
+  pub makes : (n : Name) (d : Path) → is_dir_at f d ≡ true → changes_at accounts f p d ≡ true → is_there f (n ∷ d) ≡ false
+      → nat_lt (length (entries_in f d)) most_entries ≡ true → refused accounts f me p (Mkdir (n ∷ d) modes.Open) ≡ None
+  makes n d dir change absent room =
+      let in_it = enters d dir change in
+      λ i. (in_it.0 i orelse unless (not (absent i)) EEXIST orelse unless (room i) ENOSPC orelse unless (in_it.1 i) EACCES)
+      orelse unless (can_make (is_free p) refl i) EPERM
+    where
+      can_make : (b : Bool) → (is_free p ≡ b) → is_some (class_made accounts p modes.Open) ≡ true
+      can_make true e = ap (λ b. is_some (let o : Option Class = cond b (Some Open) (Some (Scratch p.user p.chain)) in o)) e
+      can_make false e = ap (λ b. is_some (let o : Option Class = cond b (Some Open) (Some (Scratch p.user p.chain)) in o)) e
+
   abbrev made_name : Name
   made_name = codes "a"
 
   by_making : (d : Path) → is_dir_at f d ≡ true → changes_at accounts f p d ≡ true → entries_in f d ≡ [] → HasChange accounts f d me
   by_making d dir change empty = record {
     call = Mkdir (made_name ∷ d) modes.Open;
-    done = answered (Mkdir (made_name ∷ d) modes.Open) makes;
+    done = answered (Mkdir (made_name ∷ d) modes.Open) passes;
     differs = λ same_there.
         let was = same_entry f (flat_after accounts f me (Mkdir (made_name ∷ d) modes.Open)) d made_name same_there.1 in
-        let made = ap (λ s. get s.files (made_name ∷ d)) (done (Mkdir (made_name ∷ d) modes.Open) makes)
+        let made = ap (λ s. get s.files (made_name ∷ d)) (done (Mkdir (made_name ∷ d) modes.Open) passes)
         ∙ get_new f.files (made_name ∷ d) (record { class = class_or_open (class_made accounts p modes.Open); content = Dir }) in
         let no : Some true ≡ None = sym (ap (option_map is_dir) made) ∙ was ∙ sym (entry_is f d made_name) ∙ ap (find by_bytes made_name) empty in
         cc;
   }
     where
-      absent : (o : Option Node) → option_map is_dir o ≡ None → not (is_some_and o (λ n. true)) ≡ true
-      absent None e = refl
-      absent (Some x) e = absurd (cc)
-
-      can_make : (b : Bool) → (is_free p ≡ b) → is_some (class_made accounts p modes.Open) ≡ true
-      can_make true e = ap (λ b. is_some (let o : Option Class = cond b (Some Open) (Some (Scratch p.user p.chain)) in o)) e
-      can_make false e = ap (λ b. is_some (let o : Option Class = cond b (Some Open) (Some (Scratch p.user p.chain)) in o)) e
-
-      makes : refused accounts f me p (Mkdir (made_name ∷ d) modes.Open) ≡ None
-      makes =
-          let in_it = enters d dir change in
-          let nothing = absent (get f.files (made_name ∷ d)) (sym (entry_is f d made_name) ∙ ap (find by_bytes made_name) empty) in
-          λ i. (in_it.0 i orelse unless (nothing i) EEXIST orelse unless (nat_lt (length (empty i)) most_entries) ENOSPC
-          orelse unless (in_it.1 i) EACCES)
-          orelse unless (can_make (is_free p) refl i) EPERM
+      passes : refused accounts f me p (Mkdir (made_name ∷ d) modes.Open) ≡ None
+      passes = makes made_name d dir change (none_is_there f d made_name empty) (ap (λ es. nat_lt (length es) most_entries) empty)
 
   -- ---- a file is written
 
   module _ (n : Name) (d : Path) (file : is_file_at f (n ∷ d) ≡ true) (change : changes_at accounts f p (n ∷ d) ≡ true) where
+    pub writes_it : (bytes : List ℕ) → nat_le (length bytes) most_bytes ≡ true → refused accounts f me p (Write (n ∷ d) bytes) ≡ None
+    writes_it bytes fits =
+        let parts = and_parts (writes accounts f p (n ∷ d)) (reaches accounts f p d) change in
+        let there = file_is_some (get f.files (n ∷ d)) file in
+        let walked = gets_into accounts f tree p d (tree.below n d there) parts.1 in
+        λ i. (walked i orelse unless (there i) ENOENT orelse unless (file i) EISDIR) orelse unless (parts.0 i) EACCES orelse unless (fits i) EFBIG
+
     by_writing_these : (bytes : List ℕ) → nat_le (length bytes) most_bytes ≡ true
         → bytes ≢ bytes_at f (n ∷ d) → HasChange accounts f (n ∷ d) me
     by_writing_these bytes fits other = record {
       call = Write (n ∷ d) bytes;
-      done = answered (Write (n ∷ d) bytes) writes_it;
+      done = answered (Write (n ∷ d) bytes) (writes_it bytes fits);
       differs = λ same_there. other
-          (sym (ap bytes_of (ap (λ s. get s.files (n ∷ d)) (done (Write (n ∷ d) bytes) writes_it)
+          (sym (ap bytes_of (ap (λ s. get s.files (n ∷ d)) (done (Write (n ∷ d) bytes) (writes_it bytes fits))
           ∙ get_new f.files (n ∷ d) (record { class = class_of (get f.files (n ∷ d)); content = File bytes })))
           ∙ ap bytes_of same_there.0);
     }
-      where
-        writes_it : refused accounts f me p (Write (n ∷ d) bytes) ≡ None
-        writes_it =
-            let parts = and_parts (writes accounts f p (n ∷ d)) (reaches accounts f p d) change in
-            let there = file_is_some (get f.files (n ∷ d)) file in
-            let walked = gets_into accounts f tree p d (tree.below n d there) parts.1 in
-            λ i. (walked i orelse unless (there i) ENOENT orelse unless (file i) EISDIR) orelse unless (parts.0 i) EACCES orelse unless (fits i) EFBIG
 
     by_writing : HasChange accounts f (n ∷ d) me
     by_writing = by (bytes_at f (n ∷ d)) refl
@@ -255,23 +276,11 @@ module _ (accounts : Accounts) (f : Flat) (tree : IsTree f) (me : ProcName) (p :
       by_entries : (path : Path) → is_dir_at f path ≡ true → changes_at accounts f p path ≡ true → (es : List Entry) → entries_in f path ≡ es
           → HasChange accounts f path me
       by_entries path dir change [] e = by_making path dir change e
-      by_entries path dir change (x ∷ es) e = by_removing_entry x.0 path listed_there change
-        where
-          listed_there : is_there f (x.0 ∷ path) ≡ true
-          listed_there = some (get f.files (x.0 ∷ path))
-              (sym (entry_is f path x.0) ∙ ap (find by_bytes x.0) e ∙ find_first nat_list_cmp_total antisymmetric x.0 x.1 es)
-            where
-              some : (o : Option Node) → option_map is_dir o ≡ Some x.1 → is_some_and o (λ n. true) ≡ true
-              some None h = absurd (cc)
-              some (Some y) h = refl
+      by_entries path dir change (x ∷ es) e = by_removing_entry x.0 path (first_is_there f path x es e) change
 
       by_file : (path : Path) → is_there f path ≡ true → is_dir_at f path ≡ false → changes_at accounts f p path ≡ true → HasChange accounts f path me
       by_file [] there file change = absurd (true≢false (sym tree.root ∙ file))
-      by_file (n ∷ d) there file change = by_writing n d (no_dir (get f.files (n ∷ d)) there file) change
-        where
-          no_dir : (o : Option Node) → is_some_and o (λ n. true) ≡ true → is_some_and o is_dir ≡ false → is_some_and o (λ n. not (is_dir n)) ≡ true
-          no_dir None h e = absurd (true≢false (sym h))
-          no_dir (Some x) h e = ap not e
+      by_file (n ∷ d) there file change = by_writing n d (no_directory (get f.files (n ∷ d)) there file) change
 
   has_change : (path : Path) → is_there f path ≡ true → may_change accounts f p path ≡ true → HasChange accounts f path me
   has_change path there h = elim (changes_where accounts f p path h) [

@@ -85,7 +85,8 @@ module _ (number : ProcName → ℕ) (one : AreNumbered number) where
       by [] = refl
       by (k ∷ ks) = refl
 
-  knows_by_number : (p : Process) (jobs : List ProcName) → list_all (knows (named p)) (jobs_by_number number jobs) ≡ list_all (knows p) jobs
+  -- a process knows the same jobs by numbers
+  pub knows_by_number : (p : Process) (jobs : List ProcName) → list_all (knows (named p)) (jobs_by_number number jobs) ≡ list_all (knows p) jobs
   knows_by_number p jobs = all_numbers jobs (knows (named p)) (knows p) (λ job i. has_named p.chain job i || has_named p.held job i)
 
   -- The rights of a process are the same by numbers.

@@ -39,7 +39,7 @@ by_tests reads bound trusted confined t c h =
 
 module _ (number : ProcName → ℕ) (one : AreNumbered number) (accounts : Accounts) (f : Flat) where
   -- the process that is shown is the one that runs, with its jobs known by their numbers
-  shown_is : {m : Member} {p : Process} → IsShownProcess number f m p → with_rights m.user m.jobs.items m.held.items ≡ named number one p
+  pub shown_is : {m : Member} {p : Process} → IsShownProcess number f m p → with_rights m.user m.jobs.items m.held.items ≡ named number one p
   shown_is {m} {p} is = sym (λ i. record {
     user = is.user i;
     chain = (sym (in_two_steps number p.chain) ∙ ap (map job_numbered) is.jobs) i;
@@ -62,7 +62,7 @@ module _ (number : ProcName → ℕ) (one : AreNumbered number) (accounts : Acco
   reads_root p (Some n) = ap (λ b. b && true) (reads_by_number number one accounts p n.class)
 
   -- a process reaches a path exactly if it may read the classes on the way
-  each_is : (p : Process) (path : Path)
+  pub each_is : (p : Process) (path : Path)
       → reads_all (of_groups accounts.groups) (classes_on number f path) (named number one p) ≡ reaches accounts f p path
   each_is p [] = reads_root p (get f.files [])
   each_is p (n ∷ d) =

@@ -47,7 +47,7 @@ pub fn login_changers(
 }
 
 /// Checks whether a process may write what is of one of these classes, and read what is of each behind it.
-fn writes_one(
+pub fn writes_one(
     groups: &[Group],
     user: Name,
     jobs: &[u64],

@@ -7,7 +7,7 @@ mod rights;
 mod role;
 pub mod secrecy_laws;
 
-pub use changers::{changers_of, login_changers};
+pub use changers::{changers_of, login_changers, writes_one};
 pub use file_class::FileClass;
-pub use rights::{may_read, may_write};
-pub use role::{Member, Role, login_readers, with_role};
+pub use rights::{knows_all, may_read, may_write};
+pub use role::{Member, Role, has_role, login_readers, reads_all, with_role};

@@ -54,7 +54,7 @@ fn has_all(jobs: &[u64], others: &[u64]) -> bool
 }
 
 /// Checks whether a process that is in some jobs and holds some knows each of the jobs `of`.
-fn knows_all(jobs: &[u64], held: &[u64], of: &[u64]) -> bool
+pub fn knows_all(jobs: &[u64], held: &[u64], of: &[u64]) -> bool
     ensures { result ≡ list_all
         (λ job. list_any (nat_eq job) jobs.now || list_any (nat_eq job) held.now) of.now }
 {

@@ -31,7 +31,7 @@ pub struct Member {
 
 /// Checks whether a process of this user, which is in some jobs and holds some, may read what is of each of
 /// these classes.
-pub(crate) fn reads_all(
+pub fn reads_all(
     groups: &[Group],
     user: Name,
     jobs: &[u64],
@@ -119,7 +119,7 @@ fn those_with(
 }
 
 /// Checks whether a process has this role.
-fn has_role(groups: &[Group], classes: &[FileClass], role: Role, member: &Member) -> bool
+pub fn has_role(groups: &[Group], classes: &[FileClass], role: Role, member: &Member) -> bool
     ensures { result ≡ has_shown_role groups.now classes.now role member.now }
 {
     is_same(role, role_of(groups, classes, member))

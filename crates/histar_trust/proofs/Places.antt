@@ -9,7 +9,7 @@ use Rattle.histar_flat.specs.Files.{get}
 use Rattle.histar_flat.specs.Classes.{Class as FlatClass}
 use Rattle.histar_flat.specs.Classes.Class.{Private as FlatPrivate, Readable as FlatReadable, Open as FlatOpen, Scratch as FlatScratch}
 use Rattle.histar_flat.specs.Classes.Class.{Grouped as FlatGrouped}
-use Rattle.histar_flat.specs.FlatState.{Flat, Node, class_of, is_dir}
+use Rattle.histar_flat.specs.FlatState.{Flat, Node, bytes_of, class_of, is_dir}
 use Rattle.histar_flat.proofs.FileLemmas.{same_path_found, ties}
 use Rattle.histar_object.specs.State.{State}
 use Rattle.histar_layout.specs.Listing.{is_directory}
@@ -21,7 +21,7 @@ use Rattle.histar_secrecy.specs.declared.file_class.FileClass.{FileClass}
 use Rattle.histar_secrecy.specs.ShownRoles.{class_by_number, class_on, classes_on, flat_class}
 use Rattle.histar_secrecy.proofs.NumberedJobs.{in_two_steps}
 use Rattle.histar_readout.specs.declared.tree.TreeNode.{TreeNode}
-use Rattle.histar_readout.specs.TreeEntries.{TreeEntry, flat_entry, tree_entry}
+use Rattle.histar_readout.specs.TreeEntries.{TreeEntry, flat_entry, node_bytes, tree_entry}
 use Rattle.histar_readout.specs.TreeLines.{TreeLine, flat_line, line_at, node_stat}
 use Rattle.histar_trust.specs.Findings.{are_for_everyone, class_flat, class_there, classes_to, node_at}
 use Rattle.histar_trust.specs.TrustText.{is_for_everyone, is_open_way}
@@ -82,6 +82,7 @@ module _ (s : State) (category : Categories) where
     pub class : node.class ≡ numbered_class category there.class
     pub kind : is_directory node.target ≡ is_dir there
     pub stat : node_stat node ≡ (flat_line (q, there)).stat
+    pub bytes : node_bytes s node ≡ bytes_of (Some there)
 
   -- both have a node at the path, or neither has
   abbrev pub AreAlike : Path → Option TreeNode → Option Node → Type 0
@@ -101,6 +102,7 @@ module _ (s : State) (category : Categories) where
           class = ap (λ (x : TreeEntry). x.class) entry;
           kind = ap (λ (x : TreeEntry). x.is_directory) entry;
           stat = ap (λ (x : TreeLine). x.stat) line;
+          bytes = ap (λ (x : TreeLine). x.bytes) line;
         })
         | inr t ↦ subst (λ b. AreAlike q (if b then Some node else found) (cond b (Some e.1) rest)) (sym t.0) alike
       ])

@@ -240,6 +240,7 @@ module _ {accounts : Accounts} {m : MachineModel} {f : Flat} (r : ShowsReached a
     class = ap (λ (x : TreeEntry). x.class) entry;
     kind = ap (λ (x : TreeEntry). x.is_directory) entry;
     stat = ap (λ (x : TreeLine). x.stat) line;
+    bytes = ap (λ (x : TreeLine). x.bytes) line;
   }
 
   -- the lines of files are those of the flat state, where the way to a path is known, and the first node is next to it

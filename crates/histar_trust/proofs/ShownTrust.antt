@@ -148,7 +148,7 @@ module _ {accounts : Accounts} {m : MachineModel} {f : Flat} (r : ShowsReached a
         found_members.runners ∙ ap (filter_map running_node) same_processes ∙ sym (filter_map_map running_line process_line own.processes)
         ∙ ap (filter_map running_line) own.lines ∙ runners_listed f l.category (levels_at []) []
 
-    all_run : AllOf (Runs f l.category) (running_in f)
+    pub all_run : AllOf (Runs f l.category) (running_in f)
     unfolding running_in
     all_run = each_runs f l.category (levels_at []) []
 
@@ -157,7 +157,7 @@ module _ {accounts : Accounts} {m : MachineModel} {f : Flat} (r : ShowsReached a
       name_is : member.name ≡ c.0
       name_is = λ i. (same i).name
 
-      shown : IsShownProcess number f member c.1
+      pub shown : IsShownProcess number f member c.1
       shown = record {
         runs = ap (λ (name : ProcName). running f name) name_is ∙ runs;
         user = λ i. (sym same i).user;
@@ -186,14 +186,14 @@ module _ {accounts : Accounts} {m : MachineModel} {f : Flat} (r : ShowsReached a
             (reads_all accounts (way_to f path) c.1) (is_bound accounts (way_to f path) c.1) by_tests.trusted by_tests.confined
             ∙ ap (is_confined accounts (way_to f path) f) name_is
 
-        outside_same : has_role accounts.groups (classes_on number f path) Outside member ≡ is_outsider accounts (way_to f path) f c.0
+        pub outside_same : has_role accounts.groups (classes_on number f path) Outside member ≡ is_outsider accounts (way_to f path) f c.0
         outside_same =
             ap (is_same_role Outside) role_is
             ∙ outside_is (is_trusted accounts (way_to f path) f member.name) (is_confined accounts (way_to f path) f member.name)
             ∙ ap (is_outsider accounts (way_to f path) f) name_is
 
       -- a member is a changer exactly if the process is one in the flat state
-      changer_same : (path : Path) (classes : List FileClass) → map flat_class classes ≡ classes_on number f path
+      pub changer_same : (path : Path) (classes : List FileClass) → map flat_class classes ≡ classes_on number f path
           → is_shown_changer accounts.groups classes member ≡ is_changer accounts f path c.0
       changer_same path classes to = is_so.changer path classes to member c.1 shown ∙ ap (is_changer accounts f path) name_is
 
@@ -229,7 +229,7 @@ module _ {accounts : Accounts} {m : MachineModel} {f : Flat} (r : ShowsReached a
           (λ member c same runs. changer_same member c same runs path classes to) i)
           ++ user_lines (codes "changer-login") (filter (λ user. is_so.changer_login path classes to user i) (same_names accounts.users i))
 
-      head_is : (node : TreeNode) (there : Node) → IsAt s l.category path node there
+      pub head_is : (node : TreeNode) (there : Node) → IsAt s l.category path node there
           → head_text node ≡ access_line_text (line_of accounts f [] (path, there))
       head_is node there is = λ i. access_line_text (record { path = is.path i; stat = is.stat i; cells = [] })
 

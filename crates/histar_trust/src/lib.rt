@@ -11,4 +11,7 @@ mod session;
 pub mod trust_laws;
 mod way;
 
+pub use members::members_among;
+pub use output::{is_open_way, push_head};
 pub use session::{flows, secrets, trust};
+pub use way::{node_at, push_classes};

@@ -112,7 +112,7 @@ fn push_found(
 }
 
 /// Adds the line of a file or a directory: its path, its kind, its owner and its mode.
-fn push_head(text: &mut Vec<u8>, node: &TreeNode) -> Result<(), AllocError>
+pub fn push_head(text: &mut Vec<u8>, node: &TreeNode) -> Result<(), AllocError>
     ensures { OnOk result (text.new.items ≡ text.old.items ++ head_text node.now) }
 {
     push_path(text, &node.path)?;
@@ -145,7 +145,7 @@ fn push_roles(
 }
 
 /// Checks whether every process may read what is of each of these classes.
-pub(crate) fn is_open_way(classes: &[FileClass]) -> bool
+pub fn is_open_way(classes: &[FileClass]) -> bool
     ensures { result ≡ is_open_way (map flat_class classes.now) }
 {
     are_for_everyone(classes)

@@ -1,0 +1,8 @@
+-- The invariants and measures of `push_each_trusted` of src/readers.rt.
+use Rattle.std.proofs.Common.{◌≡◌, ◌++◌, take}
+use Rattle.std.specs.List.{flat_map}
+use Rattle.histar_leak.specs.Findings.{shown_trusted}
+use Rattle.histar_leak.proofs.readers.push_each_trusted.Given as goal
+
+abbrev pub invariant-loop-member : goal.invariant-loop-member
+invariant-loop-member l = l.text.items ≡ l.fn.text.items ++ flat_map (shown_trusted l.secret.groups.now l.secret.classes.now l.secret.path.now l.secret.bytes.now l.secret.members.now) (take l.member-index l.secret.members.now)

@@ -1,0 +1,6 @@
+-- The definitions of this crate that contracts cite.
+pub mod LeakLines
+pub mod ChangeCalls
+pub mod LeakText
+pub mod Findings
+pub mod Session
