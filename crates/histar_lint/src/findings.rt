@@ -105,7 +105,7 @@ fn kind_sentence(
 }
 
 /// Returns the sentence of the first rule for words that a line breaks.
-fn words_sentence(
+fn printable_sentence(
     alloc: Global,
     text: &[u8],
     accounts: &Accounts,
@@ -144,7 +144,7 @@ fn said_sentence(
     if is_comment(line) {
         return Ok(None);
     }
-    words_sentence(alloc, text, accounts, calls, line)
+    printable_sentence(alloc, text, accounts, calls, line)
 }
 
 /// Returns the sentence of the first rule that a line of a text breaks, given the accounts and calls of the

@@ -1,10 +1,10 @@
--- Proves the goals of `words_sentence` of src/findings.rt that the search leaves open.
+-- Proves the goals of `printable_sentence` of src/findings.rt that the search leaves open.
 use Rattle.std.proofs.Common.{◌∙◌}
 use Rattle.histar_script.specs.Lines.{lines_of}
 use Rattle.histar_lint.specs.FreeParts.{word_rules}
 use Rattle.histar_lint.specs.Rules.{kind_rules, read_so_far}
 use Rattle.histar_lint.proofs.Sayings.{behind_says, front_says}
-use Rattle.histar_lint.proofs.findings.words_sentence.Goals as goal
+use Rattle.histar_lint.proofs.findings.printable_sentence.Goals as goal
 
 pub returns-in-Some : goal.returns-in-Some
 returns-in-Some c =
