@@ -114,7 +114,9 @@ pub(crate) fn check<'a>() -> Form<'a>
 prints
   same
 
---why adds what each run prints there; the run with the job comes first:
+--why adds the `rmdir` or `wrap` that released what the job made, and what each run prints where they
+differ; the run with the job comes first:
+  released by line 13
   line 14: ok j/ | ok
 
 With --all the one word is FILE, and each job that the script starts has a line:
