@@ -209,8 +209,8 @@ module _ (accounts : Accounts) (f : Flat) where
       where
         by : (b : Bool) → option_map call_of (let o : Option Change = if b then entry_change (map (below path) (entries_in f path)) path made_name
             else Some (other_write path (bytes_at f path)) in o)
-            ≡ (let o : Option UnixCall = if b then entry_call (entries_in f path) path made_name else Some (Write path (other_bytes (bytes_at f path)))
-            in o)
+            ≡ (let o : Option UnixCall = if b then entry_call (entries_in f path) path made_name
+            else Some (Write path (other_bytes (bytes_at f path))) in o)
         by true = entry_is (entries_in f path) path made_name
         by false = ap (λ (c : UnixCall). Some c) (write_is path (bytes_at f path))
 
@@ -225,7 +225,8 @@ module _ (accounts : Accounts) (f : Flat) where
       first = first_by accounts.groups q
 
       -- where these are the calls by what is above a directory, and the process reaches that or not
-      module _ (rest : List FlatClass) (calls : List (Option Change)) (reads : Bool) (all : reads_all (of_groups accounts.groups) rest q ≡ reads) where
+      module _ (rest : List FlatClass) (calls : List (Option Change)) (reads : Bool)
+          (all : reads_all (of_groups accounts.groups) rest q ≡ reads) where
         -- the first call by the directory, of which a name is the entry on the way, and by what is above
         step : (n : Name) (d : Path) → length d < most_names → (t : Option TreeNode) (o : Option Node) → AreAlike s category d t o
             → option_map call_of (first (class_on number o ++ rest) (changes_in tree t (node_at (n ∷ d) tree) n ++ calls))
@@ -263,9 +264,11 @@ module _ (accounts : Accounts) (f : Flat) where
       above_is : (n : Name) (d : Path) → length d < most_names
           → option_map call_of (first (classes_on number f d) (changes_above tree (n ∷ d))) ≡ call_above accounts f p (n ∷ d)
       above_is n [] short =
-          ap (λ (l : List FlatClass). option_map call_of (first l (changes_above tree (n ∷ [])))) (sym (append-nil (class_on number (get f.files []))))
+          ap (λ (l : List FlatClass). option_map call_of (first l (changes_above tree (n ∷ []))))
+          (sym (append-nil (class_on number (get f.files []))))
           ∙ step [] [] true refl n [] short (node_at [] tree) (get f.files []) (alike [])
-          ∙ ap (λ b. (let c : Option UnixCall = if b && is_dir_at f [] then way_call accounts f n [] else None in c)) (and_true (writes accounts f p []))
+          ∙ ap (λ b. (let c : Option UnixCall = if b && is_dir_at f [] then way_call accounts f n [] else None in c))
+          (and_true (writes accounts f p []))
       above_is n (k ∷ d) short =
           step (classes_on number f d) (changes_above tree (k ∷ d)) (reaches accounts f p d) (each_is number one accounts f p d) n (k ∷ d) short
           (node_at (k ∷ d) tree) (get f.files (k ∷ d)) (alike (k ∷ d))
@@ -276,7 +279,8 @@ module _ (accounts : Accounts) (f : Flat) where
       pub change_is : (path : Path) → length path ≤ most_names
           → option_map call_of (first (classes_on number f path) (changes_to tree path (bytes_at f path))) ≡ change_call accounts f path p
       change_is [] short =
-          ap (λ (l : List FlatClass). option_map call_of (first l (changes_to tree [] (bytes_at f [])))) (sym (append-nil (class_on number (get f.files []))))
+          ap (λ (l : List FlatClass). option_map call_of (first l (changes_to tree [] (bytes_at f []))))
+          (sym (append-nil (class_on number (get f.files []))))
           ∙ top [] [] true refl [] (node_at [] tree) (get f.files []) (alike []) refl
           ∙ ap (λ b. (let c : Option UnixCall = if b && is_some (own_call accounts f []) then own_call accounts f [] else None in c))
           (and_true (writes accounts f p []))

@@ -36,7 +36,8 @@ exited_line =
     let line : List ℕ = if nat_le (length text) most_line_bytes then text ++ codes "\n" else [] in line)) (decimal_digit 1 (omega arith))
 
 -- the lines of calls have the replies to these
-pub lines_replied : (accounts : Accounts) (f : Flat) (calls : List Line) → lines_text accounts f calls ≡ replied_text calls (replies_from accounts f calls)
+pub lines_replied : (accounts : Accounts) (f : Flat) (calls : List Line)
+    → lines_text accounts f calls ≡ replied_text calls (replies_from accounts f calls)
 lines_replied accounts f [] = refl
 lines_replied accounts f (c ∷ calls) =
     ap (λ t. call_line c ++ reply_line (reply_to accounts f c.0 c.1) ++ t) (lines_replied accounts (flat_after accounts f c.0 c.1) calls)

@@ -33,7 +33,8 @@ use Rattle.histar_trust.specs.Findings.{AreMembers, ShowsReached, classes_to, no
 use Rattle.histar_trust.specs.TrustText.{is_open_way}
 use Rattle.histar_trust.proofs.Places.{AreAlike, classes_are, number_of, open_by_number}
 use Rattle.histar_trust.proofs.Runners.{AllOf, Runs}
-use Rattle.histar_trust.proofs.ShownTrust.{all_run, changer_same, chosen, each, head_is, is_so, members_are, one_number, outside_same, own_tree, same_tree}
+use Rattle.histar_trust.proofs.ShownTrust.{all_run, changer_same, chosen, each, head_is, is_so, members_are, one_number, outside_same, own_tree}
+use Rattle.histar_trust.proofs.ShownTrust.{same_tree}
 use Rattle.histar_trust.proofs.ShownTrust.{trusted_same}
 use Rattle.histar_leak.specs.declared.changes.Change.{Change}
 use Rattle.histar_leak.specs.LeakLines.{by_first, paragraph, some_text, titled, who_text}
@@ -42,7 +43,8 @@ use Rattle.histar_leak.specs.LeakText.{change_lines, changer_login_text, changer
 use Rattle.histar_leak.specs.LeakText.{is_outside, knows_all_of, leak_text, listeners, login_by, login_line, login_text, others_in_no_job, readers_of}
 use Rattle.histar_leak.specs.LeakText.{readers_part, free_outsiders, trusted_text}
 use Rattle.histar_leak.specs.Findings.{asking_text, bytes_there, call_of, change_text, changes_to, changing_text, entries_of, first_change}
-use Rattle.histar_leak.specs.Findings.{is_below_shown_file, is_file_there, is_jobless, is_shown_outsider, knows_jobs_of, login_change_text, of_first, reading_text, replied}
+use Rattle.histar_leak.specs.Findings.{is_below_shown_file, is_file_there, is_jobless, is_shown_outsider, knows_jobs_of, login_change_text, of_first}
+use Rattle.histar_leak.specs.Findings.{reading_text, replied}
 use Rattle.histar_leak.specs.Findings.{reads_way, rights_of, shown_changer, shown_changer_login, shown_changes, shown_found}
 use Rattle.histar_leak.specs.Findings.{shown_free_outsiders, shown_leak, shown_listeners, shown_login, shown_others, shown_readers, shown_roles}
 use Rattle.histar_leak.specs.Findings.{shown_trusted}
@@ -87,7 +89,8 @@ module _ {accounts : Accounts} {m : MachineModel} {f : Flat} (r : ShowsReached a
   passwords : AllOf Knows accounts.users
   passwords = own_passwords accounts r.shows.declared.users.distinct
 
-  module _ (members : List Member) (found : AreMembers m members) (classes : List FileClass) (to : map flat_class classes ≡ classes_on number f path) where
+  module _ (members : List Member) (found : AreMembers m members) (classes : List FileClass)
+      (to : map flat_class classes ≡ classes_on number f path) where
     -- ---- processes
 
     outsider_same : (member : Member) (c : Named) → Is r path members found member c → Runs f category c

@@ -1,5 +1,6 @@
--- What is computed from a machine and the users of its script: the same text, with jobs by the numbers of their categories.
-use Rattle.std.specs.Prelude.{◌≡◌, ℕ, Bool, true, false, not, nat_lt, nat_eq, ◌&&◌, ◌||◌, List, [], ◌∷◌, ◌++◌, length, Option, None, Some, is_some}
+-- What is computed from a machine and the users of its script: the same text, with jobs by the numbers of categories.
+use Rattle.std.specs.Prelude.{◌≡◌, ℕ, Bool, true, false, not, nat_lt, nat_eq, ◌&&◌, ◌||◌, List, [], ◌∷◌, ◌++◌, length}
+use Rattle.std.specs.Prelude.{Option, None, Some, is_some}
 use Rattle.std.specs.Prelude.{codes, filter, map, if◌then◌else◌}
 use Rattle.std.specs.List.{flat_map, list_all, list_any}
 use Rattle.histar_base.specs.Paths.{same, same_path}
@@ -24,7 +25,8 @@ use Rattle.histar_secrecy.specs.declared.role.Role.TheVariants.{Outside, Trusted
 use Rattle.histar_secrecy.specs.Leaks.{Line, asking}
 use Rattle.histar_secrecy.specs.Ways.{reads_all}
 use Rattle.histar_secrecy.specs.Logins.{logged_in}
-use Rattle.histar_secrecy.specs.ShownRoles.{flat_class, has_shown_role, is_login_changer, is_login_reader, is_shown_changer, of_groups}
+use Rattle.histar_secrecy.specs.ShownRoles.{flat_class, has_shown_role, is_login_changer, is_login_reader}
+use Rattle.histar_secrecy.specs.ShownRoles.{is_shown_changer, of_groups}
 use Rattle.histar_secrecy.specs.ShownRoles.{with_rights, with_user}
 use Rattle.histar_shell.specs.Machine.{MachineModel}
 use Rattle.histar_trust.specs.Findings.{ShowsReached, head_text, node_at}
@@ -68,11 +70,13 @@ other_write q bytes = if same bytes (codes "0") then changes.WriteOne q else cha
 -- the call that changes whether the directory has the entry on the way, or another entry of these
 abbrev pub way_change : Option TreeNode → List Path → Path → Name → Option Change
 way_change (Some entry) entries d name = Some (changes.Rmtree entry.path)
-way_change None entries d name = if nat_lt (length entries) most_entries then make_in d name else entry_change entries d name
+way_change None entries d name =
+    if nat_lt (length entries) most_entries then make_in d name else entry_change entries d name
 
 -- the call by what is above a path, of which this is the entry on the way, if it is a directory
 abbrev pub change_in : List TreeNode → TreeNode → Option TreeNode → Name → Option Change
-change_in tree node entry name = if is_directory node.target then way_change entry (entries_of node.path tree) node.path name else None
+change_in tree node entry name =
+    if is_directory node.target then way_change entry (entries_of node.path tree) node.path name else None
 
 -- the same, if something is there
 abbrev pub changes_in : List TreeNode → Option TreeNode → Option TreeNode → Name → List (Option Change)
@@ -88,7 +92,8 @@ changes_above tree (name ∷ d) = changes_in tree (node_at d tree) (node_at (nam
 abbrev pub change_there : List TreeNode → Option TreeNode → List ℕ → List (Option Change)
 change_there tree None bytes = []
 change_there tree (Some node) bytes =
-    (if is_directory node.target then entry_change (entries_of node.path tree) node.path made_name else Some (other_write node.path bytes)) ∷ []
+    (if is_directory node.target then entry_change (entries_of node.path tree) node.path made_name
+    else Some (other_write node.path bytes)) ∷ []
 
 -- the bytes of what is there
 abbrev pub bytes_there : State → Option TreeNode → List ℕ
@@ -101,7 +106,8 @@ changes_to tree path bytes = change_there tree (node_at path tree) bytes ++ chan
 
 -- the process may write what is of the class, and read what is of each behind it
 abbrev pub changes_here : List Group → Process → FileClass → List FileClass → Bool
-changes_here groups p class above = may_write (of_groups groups) p (flat_class class) && reads_all (of_groups groups) (map flat_class above) p
+changes_here groups p class above =
+    may_write (of_groups groups) p (flat_class class) && reads_all (of_groups groups) (map flat_class above) p
 
 -- the first of the calls, one by each class, by what the process may change
 abbrev pub first_change : List Group → Process → List FileClass → List (Option Change) → Option Change
@@ -152,7 +158,8 @@ is_jobless m = elim m.jobs.items [ [] ↦ true | job ∷ jobs ↦ false ]
 
 -- the first process knows each job of the second
 abbrev pub knows_jobs_of : Member → Member → Bool
-knows_jobs_of other m = list_all (λ job. list_any (nat_eq job) other.jobs.items || list_any (nat_eq job) other.held.items) m.jobs.items
+knows_jobs_of other m =
+    list_all (λ job. list_any (nat_eq job) other.jobs.items || list_any (nat_eq job) other.held.items) m.jobs.items
 
 -- a member's rights
 abbrev pub rights_of : Member → Process
@@ -161,7 +168,8 @@ rights_of m = with_rights m.user m.jobs.items m.held.items
 -- the paragraph of a trusted process and these listeners
 abbrev pub trusted_paragraph : Path → List ℕ → Member → List (ProcName × Name) → List ℕ
 trusted_paragraph path bytes m whom =
-    titled (codes "trusted " ++ who_text (with_user m) ++ codes " tells " ++ some_text whom) (of_first whom (asking_text m.name path bytes))
+    titled (codes "trusted " ++ who_text (with_user m) ++ codes " tells " ++ some_text whom)
+    (of_first whom (asking_text m.name path bytes))
 
 -- a process that logs in as the user may read all of the way
 unfoldable pub reads_way : List Group → List FileClass → Name → Bool
@@ -200,13 +208,16 @@ module _ (groups : List Group) (classes : List FileClass) where
   module _ (path : Path) (bytes : List ℕ) where
     -- the paragraph of a process, if it is trusted
     abbrev pub shown_trusted : List Member → Member → List ℕ
-    shown_trusted members m = if has_shown_role groups classes Trusted m then trusted_paragraph path bytes m (shown_listeners members m) else []
+    shown_trusted members m =
+        if has_shown_role groups classes Trusted m then trusted_paragraph path bytes m (shown_listeners members m)
+        else []
 
     -- the paragraph of a user as whom these outsiders could log in
     abbrev pub shown_login : List (ProcName × Name) → User → List ℕ
     shown_login whom user =
         if reads_way groups classes user.name then
-        titled (codes "login " ++ user.name ++ codes " by " ++ some_text whom) (of_first whom (reading_text user path bytes))
+        titled (codes "login " ++ user.name ++ codes " by " ++ some_text whom)
+        (of_first whom (reading_text user path bytes))
         else []
 
     -- `everyone`, or the paragraphs of the readers
@@ -220,12 +231,14 @@ module _ (groups : List Group) (classes : List FileClass) where
     abbrev pub shown_changer : Member → List ℕ
     shown_changer m =
         if is_shown_changer groups classes m then
-        titled (codes "changer " ++ who_text (with_user m)) (change_text m.name (first_change groups (rights_of m) classes calls))
+        titled (codes "changer " ++ who_text (with_user m))
+        (change_text m.name (first_change groups (rights_of m) classes calls))
         else []
 
     -- the lines of the first of these processes, which logs in as a user and changes something
     unfoldable pub login_change_text : List (ProcName × Name) → User → List ℕ
-    login_change_text whom user = of_first whom (changing_text user (first_change groups (logged_in user.name) classes calls))
+    login_change_text whom user =
+        of_first whom (changing_text user (first_change groups (logged_in user.name) classes calls))
 
     -- the paragraph of these processes
     abbrev pub changer_login_text : List (ProcName × Name) → User → List ℕ
@@ -238,7 +251,8 @@ module _ (groups : List Group) (classes : List FileClass) where
 
     -- the paragraphs of the changers
     abbrev pub shown_changers : List User → List Member → List ℕ
-    shown_changers users members = flat_map shown_changer members ++ flat_map (shown_changer_login (shown_others members)) users
+    shown_changers users members =
+        flat_map shown_changer members ++ flat_map (shown_changer_login (shown_others members)) users
 
 -- ---- what is at a path
 

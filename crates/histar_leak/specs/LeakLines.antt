@@ -59,7 +59,8 @@ some_text (a ∷ []) = who_text a
 some_text (a ∷ b ∷ []) = who_text a ++ codes ", " ++ who_text b
 some_text (a ∷ b ∷ c ∷ []) = who_text a ++ codes ", " ++ who_text b ++ codes ", " ++ who_text c
 some_text (a ∷ b ∷ c ∷ more) =
-    who_text a ++ codes ", " ++ who_text b ++ codes ", " ++ who_text c ++ codes " and " ++ decimal (length more) ++ codes " more"
+    who_text a ++ codes ", " ++ who_text b ++ codes ", " ++ who_text c
+    ++ codes " and " ++ decimal (length more) ++ codes " more"
 
 -- the calls that the first of these makes
 abbrev pub by_first : List (ProcName × Name) → (ProcName → List Line) → List Line

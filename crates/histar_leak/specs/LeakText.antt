@@ -1,6 +1,7 @@
--- How each process that is trusted with a file tells what is in it, and to whom; how each login reads it; and how each changer changes
--- what is at a path: the text of a flat state.
-use Rattle.std.specs.Prelude.{ℕ, Bool, false, not, ◌&&◌, ◌||◌, List, [], ◌∷◌, ◌++◌, Option, None, Some, codes, if◌then◌else◌}
+-- How each process that is trusted with a file tells what is in it, and to whom; how each login reads it; and how each
+-- changer changes what is at a path: the text of a flat state.
+use Rattle.std.specs.Prelude.{ℕ, Bool, false, not, ◌&&◌, ◌||◌, List, [], ◌∷◌, ◌++◌, Option, None, Some, codes}
+use Rattle.std.specs.Prelude.{if◌then◌else◌}
 use Rattle.std.specs.List.{flat_map}
 use Rattle.histar_flat.specs.declared.calls.User.{User}
 use Rattle.histar_flat.specs.declared.calls.UnixCall.{UnixCall}
@@ -50,11 +51,12 @@ module _ (accounts : Accounts) (f : Flat) (path : Path) where
   abbrev pub listeners : ProcName → List (ProcName × Name)
   listeners me = running_where accounts f (λ other. is_outside other && knows_all_of other me)
 
-  -- A trusted process reads the file; the first listener asks whether it runs; then it exits with 1, and the listener asks again.
+  -- A trusted process reads the file; the first listener asks if it runs; it exits with 1; the listener asks again.
   abbrev pub trusted_text : Named → List ℕ
   trusted_text c =
       if is_trusted accounts (way_to f path) f c.0 then
-      paragraph accounts f (codes "trusted " ++ who_text (c.0, c.1.user) ++ codes " tells " ++ some_text (listeners c.0))
+      paragraph accounts f
+      (codes "trusted " ++ who_text (c.0, c.1.user) ++ codes " tells " ++ some_text (listeners c.0))
       (by_first (listeners c.0) (λ other. asking c.0 other path 1))
       else []
 
@@ -86,7 +88,8 @@ module _ (accounts : Accounts) (f : Flat) (path : Path) where
   abbrev pub changer_text : Named → List ℕ
   changer_text c =
       if is_changer accounts f path c.0 then
-      paragraph accounts f (codes "changer " ++ who_text (c.0, c.1.user)) (change_lines c.0 (change_call accounts f path c.1))
+      paragraph accounts f (codes "changer " ++ who_text (c.0, c.1.user))
+      (change_lines c.0 (change_call accounts f path c.1))
       else []
 
   -- the running processes in no job that are no changers
@@ -114,7 +117,8 @@ module _ (accounts : Accounts) (f : Flat) (path : Path) where
   -- a paragraph for each changer and each login of one
   abbrev pub changers_part : List ℕ
   changers_part =
-      if is_below_file path then [] else flat_map changer_text (running_in f) ++ flat_map changer_login_text accounts.users
+      if is_below_file path then [] else
+      flat_map changer_text (running_in f) ++ flat_map changer_login_text accounts.users
 
   -- ---- the whole
 

@@ -20,6 +20,7 @@ LeakOf at path = WritesOf (leak_before at path)
 
 -- The text of a script is returned, unless memory ran out.
 abbrev pub MakesText : Option ℕ → Path → List ℕ → Result (Vec ℕ) Fault → Type 0
-MakesText at path text (Ok lines) = (script : ScriptModel) → script_of text ≡ Ok script → lines.items ≡ leak_before at path script
+MakesText at path text (Ok lines) =
+    (script : ScriptModel) → script_of text ≡ Ok script → lines.items ≡ leak_before at path script
 MakesText at path text (Err OutOfMemory) = Unit {0}
 MakesText at path text (Err fault) = ⊥

@@ -3,7 +3,9 @@ ghost use Rattle.std.specs.Prelude.{◌≡◌, ◌&&◌, ◌++◌, codes, filter
 ghost use Rattle.std.specs.List.{flat_map};
 ghost use Rattle.histar_secrecy.specs.Logins.{logged_in};
 ghost use Rattle.histar_secrecy.specs.ShownRoles.{is_shown_changer};
-ghost use Rattle.histar_leak.specs.Findings.{changer_login_text, changing_text, first_change, is_changing_login, is_jobless, login_change_text, of_first, shown_changer, shown_changer_login};
+ghost use Rattle.histar_leak.specs.Findings.{changer_login_text, changing_text, first_change};
+ghost use Rattle.histar_leak.specs.Findings.{is_changing_login, is_jobless, login_change_text};
+ghost use Rattle.histar_leak.specs.Findings.{of_first, shown_changer, shown_changer_login};
 ghost use Rattle.histar_leak.specs.Findings.{shown_changers, shown_others};
 
 use crate::changes::{Change, first_change};
@@ -13,8 +15,9 @@ use histar_flat::{Group, Name, ProcName, User};
 use histar_secrecy::{FileClass, Member, writes_one};
 use std::alloc::{AllocError, Global};
 
-/// What is at a path and who may change it: the groups and the running processes of the machine, the classes of
-/// what is there and of each directory above it, and the call that changes something by each of these.
+/// What is at a path and who may change it: the groups and the running processes of the machine,
+/// the classes of what is there and of each directory above it, and the call that changes something
+/// by each of these.
 #[derive(Drop)]
 pub struct Place<'a> {
     pub groups: &'a [Group],
@@ -23,8 +26,8 @@ pub struct Place<'a> {
     pub changes: &'a [Option<Change>],
 }
 
-/// Adds a paragraph for each changer of what is at a path, and for each user as whom another process could log
-/// in to change it.
+/// Adds a paragraph for each changer of what is at a path, and for each user as whom another
+/// process could log in to change it.
 pub fn push_changers(
     alloc: Global,
     text: &mut Vec<u8>,
@@ -95,7 +98,8 @@ fn others(alloc: Global, place: &Place) -> Result<Vec<(ProcName, Name)>, AllocEr
         .collect(alloc)
 }
 
-/// Adds a paragraph for each user as whom the first of these processes could log in to change what is at a path.
+/// Adds a paragraph for each user as whom the first of these processes could log in to change what
+/// is at a path.
 fn push_changer_logins(
     alloc: Global,
     text: &mut Vec<u8>,
@@ -113,7 +117,8 @@ fn push_changer_logins(
     Ok(())
 }
 
-/// Adds the paragraph of a user as whom these processes could log in, if it could then change what is at a path.
+/// Adds the paragraph of a user as whom these processes could log in, if it could then change what
+/// is at a path.
 fn push_changer_login(
     alloc: Global,
     text: &mut Vec<u8>,
@@ -168,7 +173,8 @@ fn push_login_change(
     push_changing_first(text, user, change, whom)
 }
 
-/// Checks whether there are such processes, and one that logs in as a user could change what is at a path.
+/// Checks whether there are such processes, and one that logs in as a user could change what is at
+/// a path.
 fn is_changing_login(place: &Place, whom: &[(ProcName, Name)], user: Name) -> bool
     ensures { result ≡ is_changing_login place.now.groups.now place.now.classes.now whom.now user }
 {
@@ -212,7 +218,8 @@ fn push_changing(
     change: Option<Change>,
     me: &ProcName,
 ) -> Result<(), AllocError>
-    ensures { OnOk result (text.new.items ≡ text.old.items ++ changing_text user.now change me.now) }
+    ensures { OnOk result (text.new.items
+        ≡ text.old.items ++ changing_text user.now change me.now) }
 {
     push_login(text, me, user)?;
     push_change(text, me, change)

@@ -4,8 +4,10 @@ ghost use Rattle.std.specs.Option.{option_copied};
 ghost use Rattle.histar_base.specs.Paths.{same};
 ghost use Rattle.histar_trust.specs.Findings.{node_at};
 ghost use Rattle.histar_leak.specs.ChangeCalls.{made_name};
-ghost use Rattle.histar_leak.specs.Findings.{change_in, change_there, changes_above, changes_here, changes_to, entries_of};
-ghost use Rattle.histar_leak.specs.Findings.{entry_change, first_change, is_entry_of, make_in, other_write, rights_of};
+ghost use Rattle.histar_leak.specs.Findings.{change_in, change_there, changes_above, changes_here};
+ghost use Rattle.histar_leak.specs.Findings.{changes_to, entries_of};
+ghost use Rattle.histar_leak.specs.Findings.{entry_change, first_change, is_entry_of, make_in};
+ghost use Rattle.histar_leak.specs.Findings.{other_write, rights_of};
 ghost use Rattle.histar_leak.specs.Findings.{way_change};
 
 use histar_flat::{Group, Name, Path, read_name};
@@ -33,9 +35,9 @@ pub enum Change {
     WriteOne(Path),
 }
 
-/// Adds the call that changes what a tree has at the path of these names, if it has something there, and then
-/// for each directory above it the call that changes which entry it has on the way. The bytes are those of a
-/// file that is there.
+/// Adds the call that changes what a tree has at the path of these names, if it has something
+/// there, and then for each directory above it the call that changes which entry it has on the way.
+/// The bytes are those of a file that is there.
 ///
 /// It goes over the tree a few times for each of the names, of which there are at most eight.
 pub fn push_changes(
@@ -81,7 +83,8 @@ fn push_changes_above(
     names: &[Name],
     changes: &mut Vec<Option<Change>>,
 ) -> Result<(), AllocError>
-    ensures { OnOk result (changes.new.items ≡ changes.old.items ++ changes_above tree.now names.now) }
+    ensures { OnOk result (changes.new.items
+        ≡ changes.old.items ++ changes_above tree.now names.now) }
 {
     let [name, above @ ..] = names else {
         return Ok(());
@@ -93,8 +96,8 @@ fn push_changes_above(
     push_changes_above(alloc, tree, above, changes)
 }
 
-/// Returns the call by a directory above a path, of which `entry` is the entry on the way, or would be if it
-/// were there.
+/// Returns the call by a directory above a path, of which `entry` is the entry on the way, or would
+/// be if it were there.
 fn change_in(
     alloc: Global,
     tree: &[TreeNode],
@@ -132,8 +135,8 @@ fn is_entry_of(node: &TreeNode, directory: &Path) -> bool
     }
 }
 
-/// Returns the call that changes whether a directory has the entry on the way, or, where it has not and is
-/// full, the one that removes another entry.
+/// Returns the call that changes whether a directory has the entry on the way, or, where it has not
+/// and is full, the one that removes another entry.
 fn way_change(
     entry: Option<&TreeNode>,
     entries: &[Path],
@@ -149,7 +152,8 @@ fn way_change(
     }
 }
 
-/// Returns the call that removes the first of these entries of a directory, or makes one of this name.
+/// Returns the call that removes the first of these entries of a directory, or makes one of this
+/// name.
 fn entry_change(entries: &[Path], directory: &Path, name: Name) -> Option<Change>
     ensures { result ≡ entry_change entries.now directory.now name }
 {

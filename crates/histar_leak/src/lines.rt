@@ -4,9 +4,11 @@ ghost use Rattle.std.specs.Fmt.{decimal};
 ghost use Rattle.histar_flat.specs.declared.calls.UnixCall.TheVariants.{Exit, Login, Read, Status};
 ghost use Rattle.histar_flat.specs.declared.replies.Reply.TheVariants.{Data, Done, Exited, Running};
 ghost use Rattle.histar_flat.specs.Texts.{path_text};
-ghost use Rattle.histar_leak.specs.LeakLines.{call_line, call_text, reply_line, some_text, who_text};
+ghost use Rattle.histar_leak.specs.LeakLines.{call_line, call_text, reply_line, some_text};
+ghost use Rattle.histar_leak.specs.LeakLines.{who_text};
 ghost use Rattle.histar_leak.specs.LeakText.{login_line};
-ghost use Rattle.histar_leak.specs.Findings.{asking_text, call_of, change_text, reading_text, replied};
+ghost use Rattle.histar_leak.specs.Findings.{asking_text, call_of, change_text, reading_text};
+ghost use Rattle.histar_leak.specs.Findings.{replied};
 
 use crate::changes::Change;
 use histar_flat::{Name, Path, ProcName, User};
@@ -20,8 +22,8 @@ const MOST_LINE_BYTES: usize = 1_024;
 /// How many bytes a reply with the bytes of a file has before these.
 const DATA_MARK_BYTES: usize = 5;
 
-/// Adds the lines of a process that reads a file and exits with 1, and of another one that asks before and
-/// after that whether it runs.
+/// Adds the lines of a process that reads a file and exits with 1, and of another one that asks
+/// before and after that whether it runs.
 pub fn push_asking(
     text: &mut Vec<u8>,
     me: &ProcName,
@@ -108,7 +110,8 @@ fn push_running(text: &mut Vec<u8>, me: &ProcName, other: &ProcName) -> Result<(
     text.extend_from_slice(b"#= ok running\n")
 }
 
-/// Adds the line of a process that asks whether another one runs, and the reply that this has exited with 1.
+/// Adds the line of a process that asks whether another one runs, and the reply that this has
+/// exited with 1.
 fn push_exited(text: &mut Vec<u8>, me: &ProcName, other: &ProcName) -> Result<(), AllocError>
     ensures { OnOk result (text.new.items
         ≡ text.old.items ++ replied (me.now, Status other.now) (Exited 1)) }
@@ -138,7 +141,8 @@ pub fn push_login(text: &mut Vec<u8>, me: &ProcName, user: &User) -> Result<(), 
     text.extend_from_slice(b"\n#= ok\n")
 }
 
-/// Adds the line of a process and its call that changes something, and the reply, if there is such a call.
+/// Adds the line of a process and its call that changes something, and the reply, if there is such
+/// a call.
 pub fn push_change(
     text: &mut Vec<u8>,
     me: &ProcName,

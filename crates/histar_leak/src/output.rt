@@ -4,7 +4,8 @@ ghost use Rattle.std.specs.Option.{option_copied};
 ghost use Rattle.histar_syscall.specs.KernelModel.{state};
 ghost use Rattle.histar_shell.specs.Ending.{IsTreeIn};
 ghost use Rattle.histar_trust.specs.Findings.{node_at};
-ghost use Rattle.histar_leak.specs.Findings.{bytes_there, HasStateOf, is_below_shown_file, is_file_there, ShowsLeak};
+ghost use Rattle.histar_leak.specs.Findings.{bytes_there, HasStateOf, is_below_shown_file};
+ghost use Rattle.histar_leak.specs.Findings.{is_file_there, ShowsLeak};
 ghost use Rattle.histar_leak.specs.Findings.{shown_changes, shown_found, shown_leak, shown_roles};
 
 use crate::changers::{Place, push_changers};
@@ -19,8 +20,8 @@ use histar_shell::Machine;
 use histar_trust::{members_among, node_at, push_classes, push_head};
 use std::alloc::{AllocError, Global};
 
-/// What is found on a machine: its users and groups, its running processes, a path, the classes of what is
-/// there and of each directory above it, and the bytes of a file that is there.
+/// What is found on a machine: its users and groups, its running processes, a path, the classes of
+/// what is there and of each directory above it, and the bytes of a file that is there.
 #[derive(Drop)]
 struct Scene<'a> {
     accounts: &'a Accounts,
@@ -32,8 +33,8 @@ struct Scene<'a> {
 
 /// Returns the text on what is at a path of a machine with these users and groups.
 ///
-/// It reads the tree and the processes once, and goes over the tree a few times for each directory on the way
-/// to the path, of which there are at most eight.
+/// It reads the tree and the processes once, and goes over the tree a few times for each directory
+/// on the way to the path, of which there are at most eight.
 pub fn leak_lines<S: LabelStore + Drop>(
     alloc: Global,
     machine: &Machine<S>,
@@ -89,7 +90,8 @@ fn bytes_there<'a, S: LabelStore + Drop>(
 /// Returns the text on what was found.
 fn scene_lines(alloc: Global, scene: &Scene, tree: &[TreeNode]) -> Result<Vec<u8>, AllocError>
     ensures { IfOk result (λ text. text.items ≡ shown_leak scene.now.accounts.now
-        scene.now.members.now scene.now.classes.now scene.now.path.now scene.now.bytes.now tree.now) }
+        scene.now.members.now scene.now.classes.now scene.now.path.now scene.now.bytes.now
+        tree.now) }
 {
     let mut text = Vec::new(alloc);
     text.extend_from_slice(b"# ")?;
@@ -98,7 +100,8 @@ fn scene_lines(alloc: Global, scene: &Scene, tree: &[TreeNode]) -> Result<Vec<u8
     Ok(text)
 }
 
-/// Adds the line of what is at a path, and the paragraphs of its readers; or `no entry` if nothing is there.
+/// Adds the line of what is at a path, and the paragraphs of its readers; or `no entry` if nothing
+/// is there.
 fn push_found(
     alloc: Global,
     text: &mut Vec<u8>,
@@ -124,7 +127,8 @@ fn push_roles(
     node: &TreeNode,
 ) -> Result<(), AllocError>
     ensures { OnOk result (text.new.items ≡ text.old.items ++ shown_roles scene.now.accounts.now
-        scene.now.members.now scene.now.classes.now scene.now.path.now scene.now.bytes.now node.now) }
+        scene.now.members.now scene.now.classes.now scene.now.path.now scene.now.bytes.now
+        node.now) }
 {
     if node.stat().is_directory {
         return Ok(());
@@ -147,7 +151,8 @@ fn push_changes_of(
     tree: &[TreeNode],
 ) -> Result<(), AllocError>
     ensures { OnOk result (text.new.items ≡ text.old.items ++ shown_changes scene.now.accounts.now
-        scene.now.members.now scene.now.classes.now scene.now.path.now scene.now.bytes.now tree.now) }
+        scene.now.members.now scene.now.classes.now scene.now.path.now scene.now.bytes.now
+        tree.now) }
 {
     if is_below_file(tree, scene.path.names()) {
         return Ok(());

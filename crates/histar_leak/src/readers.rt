@@ -2,9 +2,12 @@
 ghost use Rattle.std.specs.Prelude.{◌≡◌, ◌&&◌, ◌++◌, codes, filter, IfOk, map, OnOk};
 ghost use Rattle.std.specs.List.{flat_map};
 ghost use Rattle.histar_secrecy.specs.declared.role.Role.TheVariants.{Trusted};
-ghost use Rattle.histar_secrecy.specs.ShownRoles.{flat_class, has_shown_role, is_login_reader, with_user};
-ghost use Rattle.histar_leak.specs.Findings.{asking_text, is_jobless, is_shown_outsider, knows_jobs_of, of_first, reading_text, reads_way};
-ghost use Rattle.histar_leak.specs.Findings.{shown_free_outsiders, shown_listeners, shown_login, shown_readers};
+ghost use Rattle.histar_secrecy.specs.ShownRoles.{flat_class, has_shown_role, is_login_reader};
+ghost use Rattle.histar_secrecy.specs.ShownRoles.{with_user};
+ghost use Rattle.histar_leak.specs.Findings.{asking_text, is_jobless, is_shown_outsider};
+ghost use Rattle.histar_leak.specs.Findings.{knows_jobs_of, of_first, reading_text, reads_way};
+ghost use Rattle.histar_leak.specs.Findings.{shown_free_outsiders, shown_listeners, shown_login};
+ghost use Rattle.histar_leak.specs.Findings.{shown_readers};
 ghost use Rattle.histar_leak.specs.Findings.{shown_outsiders, shown_trusted, trusted_paragraph};
 
 use crate::lines::{push_asking, push_reading, push_some, push_who};
@@ -13,8 +16,8 @@ use histar_secrecy::{FileClass, Member, Role, has_role, knows_all, reads_all};
 use histar_trust::is_open_way;
 use std::alloc::{AllocError, Global};
 
-/// A file and who may reach it: the groups and the running processes of the machine, the classes on the way to
-/// the file, its path, and its bytes.
+/// A file and who may reach it: the groups and the running processes of the machine, the classes on
+/// the way to the file, its path, and its bytes.
 #[derive(Drop)]
 pub struct Secret<'a> {
     pub groups: &'a [Group],
@@ -24,8 +27,8 @@ pub struct Secret<'a> {
     pub bytes: &'a [u8],
 }
 
-/// Adds a paragraph for each process that is trusted with a file, and for each user as whom a process could log
-/// in to read it, or a single line if every process reaches it.
+/// Adds a paragraph for each process that is trusted with a file, and for each user as whom a
+/// process could log in to read it, or a single line if every process reaches it.
 pub fn push_readers(
     alloc: Global,
     text: &mut Vec<u8>,
@@ -67,7 +70,8 @@ fn push_trusted(
     outsiders: &[(ProcName, Name)],
     member: &Member,
 ) -> Result<(), AllocError>
-    requires { outsiders.now ≡ shown_outsiders secret.now.groups.now secret.now.classes.now secret.now.members.now }
+    requires { outsiders.now ≡ shown_outsiders secret.now.groups.now secret.now.classes.now
+        secret.now.members.now }
     ensures { OnOk result (text.new.items ≡ text.old.items
         ++ shown_trusted secret.now.groups.now secret.now.classes.now secret.now.path.now
         secret.now.bytes.now secret.now.members.now member.now) }
@@ -78,7 +82,8 @@ fn push_trusted(
     push_listening(alloc, text, secret, outsiders, member)
 }
 
-/// Adds the paragraph of a trusted process, where these are the outsiders: a process in no job can tell each.
+/// Adds the paragraph of a trusted process, where these are the outsiders: a process in no job can
+/// tell each.
 fn push_listening(
     alloc: Global,
     text: &mut Vec<u8>,
@@ -86,10 +91,12 @@ fn push_listening(
     outsiders: &[(ProcName, Name)],
     member: &Member,
 ) -> Result<(), AllocError>
-    requires { outsiders.now ≡ shown_outsiders secret.now.groups.now secret.now.classes.now secret.now.members.now }
+    requires { outsiders.now ≡ shown_outsiders secret.now.groups.now secret.now.classes.now
+        secret.now.members.now }
     ensures { OnOk result (text.new.items ≡ text.old.items
         ++ trusted_paragraph secret.now.path.now secret.now.bytes.now member.now
-        (shown_listeners secret.now.groups.now secret.now.classes.now secret.now.members.now member.now)) }
+        (shown_listeners secret.now.groups.now secret.now.classes.now secret.now.members.now
+        member.now)) }
 {
     if is_jobless(member) {
         return push_trusted_paragraph(text, secret, member, outsiders);
@@ -139,7 +146,8 @@ fn listeners(
     me: &Member,
 ) -> Result<Vec<(ProcName, Name)>, AllocError>
     ensures { IfOk result (λ v. v.items
-        ≡ shown_listeners secret.now.groups.now secret.now.classes.now secret.now.members.now me.now) }
+        ≡ shown_listeners secret.now.groups.now secret.now.classes.now
+        secret.now.members.now me.now) }
 {
     secret
         .members
@@ -152,7 +160,8 @@ fn listeners(
 /// Returns the outsiders in no job, each with its user.
 fn free_outsiders(alloc: Global, secret: &Secret) -> Result<Vec<(ProcName, Name)>, AllocError>
     ensures { IfOk result (λ v. v.items
-        ≡ shown_free_outsiders secret.now.groups.now secret.now.classes.now secret.now.members.now) }
+        ≡ shown_free_outsiders secret.now.groups.now secret.now.classes.now
+        secret.now.members.now) }
 {
     secret
         .members

@@ -15,10 +15,10 @@ use histar_script::{Fault, read_script};
 use histar_shell::Machine;
 use std::alloc::Global;
 
-/// Reads a script, runs it on a machine of its own, and writes how each process that is trusted with the file at
-/// a path tells what is in it, how each login reads it, and how each changer changes what is at the path: lines
-/// of a script, each with the reply that is expected of it. With a line number it runs the calls on the lines
-/// before that one, and else all.
+/// Reads a script, runs it on a machine of its own, and writes how each process that is trusted
+/// with the file at a path tells what is in it, how each login reads it, and how each changer
+/// changes what is at the path: lines of a script, each with the reply that is expected of it. With
+/// a line number it runs the calls on the lines before that one, and else all.
 ///
 /// The whole script is read and checked before the first call. It doesn't flush the sink.
 pub fn leak<R: Source, W: Sink>(
@@ -37,8 +37,8 @@ pub fn leak<R: Source, W: Sink>(
     ensures writes { CountsFailure (W.failures writer.old) (W.failures writer.new)
         (is_write_failed result) }
 
-    // Some bytes of the source were read, to its end but never more than 1,048,577: the fault of their script
-    // is returned, or exactly the text of the flat state after its calls is written.
+    // Some bytes of the source were read, to its end but never more than 1,048,577: the fault of
+    // their script is returned, or exactly the text of the flat state after its calls is written.
     ensures runs { RunsInput (LeakOf at path.now) (R.left reader.old) (R.left reader.new)
         (W.written writer.old) (W.written writer.new) result }
 
@@ -95,8 +95,8 @@ fn leak_text<W: Sink>(
     Ok(())
 }
 
-/// Returns the text on what is at a path of the machine of a script, which is read once more for the passwords
-/// of its users.
+/// Returns the text on what is at a path of the machine of a script, which is read once more for
+/// the passwords of its users.
 fn script_lines<S: LabelStore + Drop>(
     alloc: Global,
     machine: &Machine<S>,

@@ -5,4 +5,5 @@ use Rattle.histar_leak.specs.Findings.{shown_changer}
 use Rattle.histar_leak.proofs.changers.push_each_changer.Given as goal
 
 abbrev pub invariant-loop-member : goal.invariant-loop-member
-invariant-loop-member l = l.text.items ≡ l.fn.text.items ++ flat_map (shown_changer l.place.groups.now l.place.classes.now l.place.changes.now) (take l.member-index l.place.members.now)
+invariant-loop-member l = l.text.items ≡ l.fn.text.items
+    ++ flat_map (shown_changer l.place.groups.now l.place.classes.now l.place.changes.now) (take l.member-index l.place.members.now)

@@ -5,4 +5,8 @@ use Rattle.histar_leak.specs.Findings.{shown_trusted}
 use Rattle.histar_leak.proofs.readers.push_each_trusted.Given as goal
 
 abbrev pub invariant-loop-member : goal.invariant-loop-member
-invariant-loop-member l = l.text.items ≡ l.fn.text.items ++ flat_map (shown_trusted l.secret.groups.now l.secret.classes.now l.secret.path.now l.secret.bytes.now l.secret.members.now) (take l.member-index l.secret.members.now)
+invariant-loop-member l =
+    let secret = l.secret in
+    l.text.items ≡ l.fn.text.items
+    ++ flat_map (shown_trusted secret.groups.now secret.classes.now secret.path.now secret.bytes.now secret.members.now)
+    (take l.member-index secret.members.now)

@@ -10,4 +10,5 @@ returns-then-is_jobless c =
     let whom = c.requires
     ∙ free_listeners secret.groups.now secret.classes.now secret.members.now c.args.member.now (sym c.is_jobless.ensures ∙ c.if-is_jobless.true) in
     ok_so c.push_trusted_paragraph.result
-    (λ e. e ∙ ap (λ w. c.args.text.now.items ++ trusted_paragraph secret.path.now secret.bytes.now c.args.member.now w) whom) c.push_trusted_paragraph.ensures
+    (λ e. e
+    ∙ ap (λ w. c.args.text.now.items ++ trusted_paragraph secret.path.now secret.bytes.now c.args.member.now w) whom) c.push_trusted_paragraph.ensures
