@@ -4,7 +4,7 @@
 mod tasks;
 
 use crate::tasks::{
-    access_file, check_each_job, check_file, diff_files, flows_file, leak_file, lint_file,
+    access_file, check_each_job, check_file, diff_files, flows_file, leak_file, lint_files,
     report_file, run_file, run_raw_file, test_files, trust_file, try_file,
 };
 use histar_command_line::{CheckFlags, Task, read_words};
@@ -151,7 +151,7 @@ fn perform<R: Files + Input + Print>(rt: &R, alloc: Global, task: &Task<'_>) -> 
         Task::Trust(path, file, line) => trust_at(rt, alloc, path, file, *line),
         Task::Leak(path, file, line) => leak_at(rt, alloc, path, file, *line),
         Task::Flows(path, line) => flows_at(rt, alloc, path, *line),
-        Task::Lint(path, is_raw) => Ok(lint_file(rt, alloc, path, *is_raw)),
+        Task::Lint(files, is_raw) => Ok(lint_files(rt, alloc, files.as_slice(), *is_raw)),
         Task::Report(path) => Ok(report_file(rt, alloc, path)),
         Task::Test(files) => Ok(test_files(rt, alloc, files.as_slice())),
     }

@@ -242,13 +242,30 @@ pub fn try_file<R: Files + Input + Print>(
     finish(done, writer)
 }
 
-/// Prints why the script in a file is bad, if it is, or the same of the raw session in it.
-pub fn lint_file<R: Files + Input + Print>(
+/// Prints why the scripts in files are bad, if they are, or the same of the raw sessions in them.
+pub fn lint_files<R: Files + Input + Print>(
+    rt: &R,
+    alloc: Global,
+    paths: &[&str],
+    is_raw: bool,
+) -> Result<Outcome, Fault> {
+    let mut outcome = Outcome::Done;
+    for path in paths {
+        if !is_right_file(rt, alloc, path, is_raw)? {
+            outcome = Outcome::BadScript;
+        }
+    }
+    Ok(outcome)
+}
+
+/// Prints why the script in a file is bad, if it is, or the same of the raw session in it, and returns whether it
+/// is right.
+fn is_right_file<R: Files + Input + Print>(
     rt: &R,
     alloc: Global,
     path: &str,
     is_raw: bool,
-) -> Result<Outcome, Fault> {
+) -> Result<bool, Fault> {
     let mut reader = open(rt, path)?;
     let mut writer = output(rt, alloc)?;
     let done = if is_raw {
@@ -256,16 +273,7 @@ pub fn lint_file<R: Files + Input + Print>(
     } else {
         lint(alloc, path.as_bytes(), &mut reader, &mut writer)
     };
-    finish(
-        done.map(|is_right| {
-            if is_right {
-                Outcome::Done
-            } else {
-                Outcome::BadScript
-            }
-        }),
-        writer,
-    )
+    finish(done, writer)
 }
 
 /// Prints the session of the script in a file as a page.

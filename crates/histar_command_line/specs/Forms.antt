@@ -89,9 +89,9 @@ leak_app = subcommand_app (codes "leak") (option_rule (codes "LINE") (codes "at"
 abbrev pub flows_app : App
 flows_app = subcommand_app (codes "flows") (option_rule (codes "LINE") (codes "at") ∷ word_rule (codes "FILE") ∷ [])
 
--- `lint [--raw] FILE`
+-- `lint [--raw] FILE..`
 abbrev pub lint_app : App
-lint_app = subcommand_app (codes "lint") (flag_rule (codes "raw") ∷ word_rule (codes "FILE") ∷ [])
+lint_app = subcommand_app (codes "lint") (flag_rule (codes "raw") ∷ words_rule (codes "FILE") ∷ [])
 
 -- `test FILE..`
 abbrev pub test_app : App

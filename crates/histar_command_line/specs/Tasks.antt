@@ -27,7 +27,7 @@ subcommand (Diff old new at) = codes "diff"
 subcommand (Trust path file at) = codes "trust"
 subcommand (Leak path file at) = codes "leak"
 subcommand (Flows file at) = codes "flows"
-subcommand (Lint file is_raw) = codes "lint"
+subcommand (Lint files is_raw) = codes "lint"
 subcommand (Report file) = codes "report"
 subcommand (Test files) = codes "test"
 
@@ -78,8 +78,8 @@ HasArguments (Leak path file at) rows =
 HasArguments (Flows file at) rows =
     (first_of (codes "FILE") rows ≡ Some file.now)
     × (option_map (λ line. line.now) at ≡ first_of (codes "LINE") rows)
-HasArguments (Lint file is_raw) rows =
-    (first_of (codes "FILE") rows ≡ Some file.now)
+HasArguments (Lint files is_raw) rows =
+    (all_of (codes "FILE") rows ≡ Some (map (λ file. file.now) files.items))
     × (is_raw ≡ is_set (codes "raw") rows)
 HasArguments (Report file) rows = first_of (codes "FILE") rows ≡ Some file.now
 HasArguments (Test files) rows = all_of (codes "FILE") rows ≡ Some (map (λ file. file.now) files.items)

@@ -270,16 +270,16 @@ prints
     }
 }
 
-/// Returns `lint [--raw] FILE`.
+/// Returns `lint [--raw] FILE..`.
 pub(crate) fn lint<'a>() -> Form<'a>
     ensures { form_app result ≡ lint_app }
 {
     Form {
         name: "lint",
-        about: "Print why a script is bad: its first bad line, and the rule that this breaks",
+        about: "Print why scripts are bad: the first bad line of each, and the rule that it breaks",
         after_help: "Nothing is printed of a right script. Of a bad one it is FILE, the number of its first bad line, and a sentence.
 
-Exit status: 0 where the script is right, 1 where it is bad
+Exit status: 0 where all scripts are right, 1 where one is bad
 
 Example:
   histar lint examples/lint/no_mode.histar
@@ -287,7 +287,7 @@ prints
   examples/lint/no_mode.histar:4: the call is `PROC create PATH MODE`",
         arguments: &[
             Argument::Flag("raw", "FILE is a session of raw calls"),
-            Argument::Word("FILE", "The script, or the session of raw calls"),
+            Argument::Words("FILE", "The scripts, or the sessions of raw calls"),
         ],
     }
 }

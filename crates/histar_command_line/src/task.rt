@@ -57,8 +57,8 @@ pub enum Task<'a> {
     /// Print which process can pass on what it knows to which others after the script in this file, or before
     /// the line of this number.
     Flows(&'a str, Option<&'a str>),
-    /// Print why the script in this file is bad, if it is; or the same of the raw session in it.
-    Lint(&'a str, bool),
+    /// Print why the scripts in these files are bad, if they are; or the same of the raw sessions in them.
+    Lint(Vec<&'a str>, bool),
     /// Print the session of the script in this file as a page.
     Report(&'a str),
     /// Compare the replies to the scripts in these files with those that they expect.
@@ -158,21 +158,31 @@ fn secret_task_of<'a>(matches: &ArgMatches<'a>) -> Option<Task<'a>>
         let at = flows.get_str("LINE");
         return Some(Task::Flows(file, at));
     }
-    text_task_of(matches)
+    report_task_of(matches)
 }
 
-/// Returns the task of a matched subcommand that checks a text, or shows the whole session of a script.
-fn text_task_of<'a>(matches: &ArgMatches<'a>) -> Option<Task<'a>>
+/// Returns the task of a matched subcommand that shows the whole session of a script.
+fn report_task_of<'a>(matches: &ArgMatches<'a>) -> Option<Task<'a>>
     ensures { IfSome result (λ task. IsTaskOf task (subcommand_rows_of matches.now)) }
 {
-    if let Some(report) = matches.subcommand_matches("report") {
-        let file = report.get_str("FILE")?;
-        return Some(Task::Report(file));
-    }
-    let lint = matches.subcommand_matches("lint")?;
-    let file = lint.get_str("FILE")?;
+    let report = matches.subcommand_matches("report")?;
+    let file = report.get_str("FILE")?;
+    Some(Task::Report(file))
+}
+
+/// Returns the task of `lint`, if it was matched.
+fn lint_task_of<'a>(alloc: Global, matches: &ArgMatches<'a>) -> Result<Option<Task<'a>>, AllocError>
+    ensures { IfOk result (λ found. IfSome found (λ task. IsTaskOf task (subcommand_rows_of matches.now))) }
+{
+    let Some(lint) = matches.subcommand_matches("lint") else {
+        return Ok(None);
+    };
+    let Some(files) = lint.get_strs("FILE") else {
+        return Ok(None);
+    };
     let raw = is_set(lint, "raw");
-    Some(Task::Lint(file, raw))
+    let files = Vec::from_slice(alloc, files)?;
+    Ok(Some(Task::Lint(files, raw)))
 }
 
 /// Returns the task of `test`, if it was matched.
@@ -212,6 +222,9 @@ fn matched_task<'a>(alloc: Global, matches: &ArgMatches<'a>) -> Result<Option<Ta
         return Ok(Some(task));
     }
     if let Some(task) = try_task_of(alloc, matches)? {
+        return Ok(Some(task));
+    }
+    if let Some(task) = lint_task_of(alloc, matches)? {
         return Ok(Some(task));
     }
     Ok(task_of(matches))

@@ -8,4 +8,5 @@ use Rattle.histar_run_explain.specs.Run.{ExplainsText}
 -- where a text is run, and run and explained, whatever else is asked for and wherever it is written, both have one trace
 abbrev pub ExplainsTheTrace : Type 0
 ExplainsTheTrace = (running explaining : Options) (text : List ℕ) (old new before after : Option (List ℕ)) (trace : List TraceEntry)
-    → RunsText running text old new (Ok trace) → (explained : ExplainsText explaining text before after (Ok tt)) → explained.writes.explained.trace ≡ trace
+    → RunsText running text old new (Ok trace) → (explained : ExplainsText explaining text before after (Ok tt))
+    → explained.writes.explained.trace ≡ trace

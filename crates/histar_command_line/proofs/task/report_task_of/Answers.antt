@@ -1,0 +1,15 @@
+-- Proves the goals of `report_task_of` of src/task.rt that the search leaves open.
+use Rattle.std.proofs.Common.{refl, sym, ◌∙◌, codes}
+use Rattle.clap.specs.Words.{rows_of, found_of}
+use Rattle.clap.proofs.WalkLemmas.{first_value-rows}
+use Rattle.histar_command_line.proofs.Matches.{matched}
+use Rattle.histar_command_line.proofs.task.report_task_of.Goals as goal
+
+pub returns : goal.returns
+returns c =
+    let m = c.in_ok-report in
+    let found = found_of m.report.now in (
+      rows_of found,
+      matched c.args.matches.now (codes "report") (rows_of found) (m.ensures.found.0 refl) m.ensures.rows,
+      sym (c.in_ok-file.ensures ∙ first_value-rows found (codes "FILE")),
+    )
