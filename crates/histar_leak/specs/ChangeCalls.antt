@@ -1,5 +1,5 @@
--- The call by which a process changes what is at a path: by what is there, or else by the lowest directory above that it
--- may change.
+-- The call by which a process changes what is at a path: by what is there, or else by the lowest directory above that
+-- it may change.
 use Rattle.std.specs.Prelude.{ℕ, nat_lt, ◌&&◌, List, [], ◌∷◌, length, Option, None, Some, is_some, codes, if◌then◌else◌}
 use Rattle.histar_base.specs.Paths.{same}
 use Rattle.histar_flat.specs.declared.calls.Mode.TheVariants as modes
