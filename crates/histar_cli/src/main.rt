@@ -1,8 +1,10 @@
 //! The program: `histar run FILE` runs a script and prints the replies; `histar --help` lists subcommands.
 #![tactic(auto)]
 
+mod hints;
 mod tasks;
 
+use crate::hints::say_why;
 use crate::tasks::{
     access_file, check_each_job, check_file, diff_files, flows_file, leak_file, lint_files,
     report_file, run_file, run_raw_file, test_files, trust_file, try_file,
@@ -13,9 +15,10 @@ use histar_flat::{ProcName, read_path, read_process};
 use histar_script::Fault;
 use histar_transcript::Tried;
 use std::alloc::Global;
+use std::io::{self, IsTerminal};
 use std::process::ExitCode;
 use std::rt::{Env, Files};
-use std::{io, str};
+use std::str;
 
 /// A word of the command line that can't be read.
 #[derive(Drop)]
@@ -187,20 +190,41 @@ fn explain<R: Print + Eprint>(rt: &R, error: &clap::Error) -> u8 {
     error.exit_code() as u8
 }
 
+/// Reports a fault of a task, to a person at a terminal with the reason why a script is bad, and returns the
+/// status.
+fn report_fault<R: Files + Input + Eprint>(
+    rt: &R,
+    alloc: Global,
+    task: &Task<'_>,
+    fault: &Fault,
+    is_terminal: bool,
+) -> u8 {
+    let status = report(rt, fault);
+    if is_terminal && matches!(fault, Fault::BadScript(_)) {
+        say_why(rt, alloc, task);
+    }
+    status
+}
+
 /// Does what the words ask for, and returns the status.
-fn obey<R: Files + Input + Print + Eprint>(rt: &R, alloc: Global, words: &[&str]) -> u8 {
+fn obey<R: Files + Input + Print + Eprint>(
+    rt: &R,
+    alloc: Global,
+    words: &[&str],
+    is_terminal: bool,
+) -> u8 {
     match read_words(alloc, words) {
         Err(error) => explain(rt, &error),
         Ok(task) => match perform(rt, alloc, &task) {
             Err(word) => refuse_word(rt, &word),
             Ok(Ok(outcome)) => outcome_status(outcome),
-            Ok(Err(fault)) => report(rt, &fault),
+            Ok(Err(fault)) => report_fault(rt, alloc, &task, &fault, is_terminal),
         },
     }
 }
 
 /// Reads the command line and obeys it. A command line that can't be read is refused.
-fn start<R: Env + Files + Input + Print + Eprint + AllocGlobal>(rt: &R) -> u8 {
+fn start<R: Env + Files + Input + Print + Eprint + AllocGlobal>(rt: &R, is_terminal: bool) -> u8 {
     let alloc = rt.alloc();
     let owned = match command_line(rt) {
         Ok(owned) => owned,
@@ -208,11 +232,11 @@ fn start<R: Env + Files + Input + Print + Eprint + AllocGlobal>(rt: &R) -> u8 {
     };
     let words = owned.iter().map(|word| word.as_str());
     match words.collect::<Vec<&str>>(alloc) {
-        Ok(words) => obey(rt, alloc, words.as_slice()),
+        Ok(words) => obey(rt, alloc, words.as_slice(), is_terminal),
         Err(error) => refuse(rt, &io::Error::from(error)),
     }
 }
 
 fn main(rt: HostRuntime) -> ExitCode {
-    ExitCode::from(start(&rt))
+    ExitCode::from(start(&rt, rt.stderr().is_terminal()))
 }
