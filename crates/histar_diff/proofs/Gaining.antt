@@ -1,5 +1,6 @@
 -- Gains: which pairs are listed as gains, and what it means that there is none.
-use Rattle.std.specs.Prelude.{◌≡◌, ◌↔◌, Bool, true, false, not, ◌&&◌, ◌||◌, is_some, cond, if◌then◌else◌, T, List, [], ◌∷◌, Option, None, Some, option_map, refl}
+use Rattle.std.specs.Prelude.{◌≡◌, ◌↔◌, Bool, true, false, not, ◌&&◌, ◌||◌, is_some, cond, if◌then◌else◌, T, List, [], ◌∷◌}
+use Rattle.std.specs.Prelude.{Option, None, Some, option_map, refl}
 use Rattle.std.proofs.Common.{ap, sym, ◌∙◌}
 use Rattle.std.proofs.lemmas.Bool.{true≢false}
 use Rattle.std.proofs.lemmas.Option.{none-some}
@@ -71,7 +72,8 @@ no_more a b e =
 
 gives_none : (a b : Rights) → GiveNoMore a b → gives_more a b ≡ false
 gives_none a b h = λ i.
-    not_gained a.stat b.stat h.stat i || not_gained a.read b.read h.read i || not_gained a.write b.write h.write i || not_gained a.remove b.remove h.remove i
+    not_gained a.stat b.stat h.stat i || not_gained a.read b.read h.read i || not_gained a.write b.write h.write i
+    || not_gained a.remove b.remove h.remove i
 
 -- ---- gains that are found
 
