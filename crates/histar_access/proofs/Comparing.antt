@@ -24,7 +24,8 @@ use Rattle.histar_diff.proofs.Changes.{differences_are_changes}
 use Rattle.histar_diff.proofs.ShownTables.{shown_tables_rise}
 use Rattle.histar_access.specs.Diff.{AreChangesOf, BeginsChanges, ChangesAtFault, ComparesInputs, ComparesTaken, ComparesTexts}
 use Rattle.histar_access.specs.Diff.{CountsOneFailure, Inputs, IsFaultOf, IsTableOf, Scripts, StopsAtInput, both_read, scripts_of}
-use Rattle.histar_access.specs.Diff.{WritesChanges}
+use Rattle.histar_access.specs.Diff.{WritesChanges, shown}
+use Rattle.histar_access.specs.declared.changes.DiffOptions.{DiffOptions}
 use Rattle.histar_prefix.specs.Prefix.{calls_before}
 use Rattle.histar_command.proofs.KnownInputs.{same_script}
 
@@ -39,11 +40,12 @@ module _ (at : Option ℕ) where
   pub table_rises : (text : List ℕ) (t : Table) → IsTableOf at text t → IsTable t
   table_rises text t is = shown_tables_rise is.script.accounts (calls_before at is.script.calls) t is.shows
 
+module _ (options : DiffOptions) where
   -- ---- a text that is no script
 
   module _ (a b : List ℕ) (w : Option (List ℕ)) where
     -- the contract if memory runs out before anything was written
-    pub no_memory : ComparesTexts at a b w w (Err OutOfMemory)
+    pub no_memory : ComparesTexts options a b w w (Err OutOfMemory)
     no_memory = record { faults = tt; writes = inl (Keeps-refl w) }
 
   -- ---- two tables
@@ -52,38 +54,39 @@ module _ (at : Option ℕ) where
   pub record AreCompared (a b : List ℕ) (ds : List Difference) : Type 0 where
     pub before : Table
     pub after : Table
-    pub is_before : IsTableOf at a before
-    pub is_after : IsTableOf at b after
+    pub is_before : IsTableOf options.at a before
+    pub is_after : IsTableOf options.at b after
     pub exact : AreDifferences before after ds
 
   both_are : {a b : List ℕ} {ds : List Difference} → (c : AreCompared a b ds) → scripts_of a b ≡ Ok (c.is_before.script, c.is_after.script)
   both_are c = λ i. both_read (c.is_before.is_read i) (c.is_after.is_read i)
 
-  are_changes : {a b : List ℕ} {ds : List Difference} → (c : AreCompared a b ds) → AreChangesOf at (c.is_before.script, c.is_after.script) ds
+  are_changes : {a b : List ℕ} {ds : List Difference} → (c : AreCompared a b ds) → AreChangesOf options.at (c.is_before.script, c.is_after.script) ds
   are_changes {ds = ds} c =
       let old = c.is_before.script in
       let new = c.is_after.script in
-      differences_are_changes old.accounts new.accounts (calls_before at old.calls) (calls_before at new.calls) c.before c.after ds c.is_before.shows
-      c.is_after.shows c.exact
+      differences_are_changes old.accounts new.accounts (calls_before options.at old.calls) (calls_before options.at new.calls) c.before c.after ds
+      c.is_before.shows c.is_after.shows c.exact
 
-  -- the lines of the differences were written
-  pub changes_written : {a b : List ℕ} {ds : List Difference} {old new : Option (List ℕ)} → AreCompared a b ds → (none : Bool)
-      → (none ≡ true) ↔ (ds ≡ [])
-      → Appends old new (differences_text ds) → ComparesTexts at a b old new (Ok none)
-  changes_written {ds = ds} c none answered written = record {
+  -- the lines of the differences to be shown were written
+  pub changes_written : {a b : List ℕ} {ds lines : List Difference} {old new : Option (List ℕ)} → AreCompared a b ds
+      → lines ≡ shown options.more ds → (none : Bool) → (none ≡ true) ↔ (lines ≡ [])
+      → Appends old new (differences_text lines) → ComparesTexts options a b old new (Ok none)
+  changes_written {ds = ds} {old = old} {new = new} c are none answered written = record {
     faults = ap is_ok (both_are c);
     writes = record {
       scripts = (c.is_before.script, c.is_after.script);
       are_read = both_are c;
       changes = ds;
       are_changes = are_changes c;
-      written = written;
-      answered = answered;
+      written = subst (λ cs. Appends old new (differences_text cs)) are written;
+      answered = subst (λ cs. (none ≡ true) ↔ (cs ≡ [])) are answered;
     };
   }
 
-  begins : {a b : List ℕ} {ds : List Difference} {old new : Option (List ℕ)} → AreCompared a b ds → AppendsFront old new (differences_text ds)
-      → BeginsChanges at old new (scripts_of a b)
+  begins : {a b : List ℕ} {ds : List Difference} {old new : Option (List ℕ)} → AreCompared a b ds
+      → AppendsFront old new (differences_text (shown options.more ds))
+      → BeginsChanges options old new (scripts_of a b)
   begins {ds = ds} c front = record {
     scripts = (c.is_before.script, c.is_after.script);
     are_read = both_are c;
@@ -93,34 +96,39 @@ module _ (at : Option ℕ) where
   }
 
   -- a beginning of the lines was written
-  pub changes_begun : {a b : List ℕ} {ds : List Difference} {old new : Option (List ℕ)} → AreCompared a b ds → (f : Fault) → IsOutputFault f
-      → AppendsFront old new (differences_text ds) → ComparesTexts at a b old new (Err f)
-  changes_begun c (BadScript n) h front = absurd h
-  changes_begun c TooLong h front = absurd h
-  changes_begun c OutOfMemory h front = record { faults = tt; writes = inr (begins c front) }
-  changes_begun c ReadFailed h front = absurd h
-  changes_begun c WriteFailed h front = record { faults = ap is_ok (both_are c); writes = begins c front }
+  pub changes_begun : {a b : List ℕ} {ds lines : List Difference} {old new : Option (List ℕ)} → AreCompared a b ds
+      → lines ≡ shown options.more ds → (f : Fault) → IsOutputFault f
+      → AppendsFront old new (differences_text lines) → ComparesTexts options a b old new (Err f)
+  changes_begun {a = a} {b = b} {old = old} {new = new} c are f h front =
+      by f h (begins c (subst (λ cs. AppendsFront old new (differences_text cs)) are front))
+    where
+      by : (f : Fault) → IsOutputFault f → BeginsChanges options old new (scripts_of a b) → ComparesTexts options a b old new (Err f)
+      by (BadScript n) h begun = absurd h
+      by TooLong h begun = absurd h
+      by OutOfMemory h begun = record { faults = tt; writes = inr begun }
+      by ReadFailed h begun = absurd h
+      by WriteFailed h begun = record { faults = ap is_ok (both_are c); writes = begun }
 
   -- ---- inputs that are taken
 
   -- an error of the old input stops the reading
   pub stops_at_old : (e : InputError) (left rest later w : Option (List ℕ)) → TakesSome left rest
-      → ComparesInputs at (left, later) (rest, later) w w (Err (input_fault e))
+      → ComparesInputs options (left, later) (rest, later) w w (Err (input_fault e))
   stops_at_old input.OutOfMemory left rest later w takes = inl (inl (record { takes_old = takes; keeps_new = refl }), Keeps-refl w)
   stops_at_old input.ReadFailed left rest later w takes = (inl (record { takes_old = takes; keeps_new = refl }), Keeps-refl w)
 
   -- an error of the new input stops the reading
   pub stops_at_new : (e : InputError) (left rest : Inputs) (v : Option (List ℕ)) (taken : List ℕ) → TakesAll left.0 rest.0 taken
       → TakesSome left.1 rest.1
-      → ComparesInputs at left rest v v (Err (input_fault e))
+      → ComparesInputs options left rest v v (Err (input_fault e))
   stops_at_new input.OutOfMemory left rest v taken all some = inl
       (inr (record { old_taken = taken; takes_old = all; takes_new = some }), Keeps-refl v)
   stops_at_new input.ReadFailed left rest v taken all some = (inr (record { old_taken = taken; takes_old = all; takes_new = some }), Keeps-refl v)
 
   -- what was taken was compared
-  pub compares_taken : (left rest : Inputs) (old new : Option (List ℕ)) (result : Answer) → ComparesTaken at left rest old new result
+  pub compares_taken : (left rest : Inputs) (old new : Option (List ℕ)) (result : Answer) → ComparesTaken options left rest old new result
       → is_read_failed result ≡ false
-      → ComparesInputs at left rest old new result
+      → ComparesInputs options left rest old new result
   compares_taken left rest old new (Ok none) h reads = h
   compares_taken left rest old new (Err (BadScript n)) h reads = h
   compares_taken left rest old new (Err TooLong) h reads = h
@@ -130,15 +138,16 @@ module _ (at : Option ℕ) where
 
   -- the texts of the whole inputs compare as what was taken of them
   same_texts : {c d : List ℕ} → (a b : List ℕ) (old new : Option (List ℕ)) (result : Answer) → scripts_of c d ≡ scripts_of a b
-      → ComparesTexts at c d old new result → ComparesTexts at a b old new result
+      → ComparesTexts options c d old new result → ComparesTexts options a b old new result
   same_texts a b old new result same compares = record {
     faults = subst (λ (read : Result Scripts Fault). MatchResult result (λ _. IsOk read) (IsFaultOf read)) same compares.faults;
-    writes = subst (λ (read : Result Scripts Fault). MatchResult result (WritesChanges at old new read)
-        (ChangesAtFault at old new read)) same compares.writes;
+    writes = subst (λ (read : Result Scripts Fault). MatchResult result (WritesChanges options old new read)
+        (ChangesAtFault options old new read)) same compares.writes;
   }
 
-  taken_known : (a b : Option (List ℕ)) (rest : Inputs) (old new : Option (List ℕ)) (result : Answer) → ComparesTaken at (a, b) rest old new result
-      → IfSome a (λ x. IfSome b (λ y. ComparesTexts at x y old new result))
+  taken_known : (a b : Option (List ℕ)) (rest : Inputs) (old new : Option (List ℕ)) (result : Answer)
+      → ComparesTaken options (a, b) rest old new result
+      → IfSome a (λ x. IfSome b (λ y. ComparesTexts options x y old new result))
   taken_known None b rest old new result h = tt
   taken_known (Some x) None rest old new result h = tt
   taken_known (Some x) (Some y) rest old new result h =
@@ -146,16 +155,16 @@ module _ (at : Option ℕ) where
       (λ i. both_read (same_script x rest.0 h.old_taken h.takes_old i) (same_script y rest.1 h.new_taken h.takes_new i)) h.compares
 
   stopped_known : {rest : Inputs} → (a b old new : Option (List ℕ)) (result : Answer)
-      → ((x y : List ℕ) → Keeps old new → ComparesTexts at x y old new result)
-      → StopsAtInput (a, b) rest old new → IfSome a (λ x. IfSome b (λ y. ComparesTexts at x y old new result))
+      → ((x y : List ℕ) → Keeps old new → ComparesTexts options x y old new result)
+      → StopsAtInput (a, b) rest old new → IfSome a (λ x. IfSome b (λ y. ComparesTexts options x y old new result))
   stopped_known None b old new result runs h = tt
   stopped_known (Some x) None old new result runs h = tt
   stopped_known (Some x) (Some y) old new result runs h = runs x y h.1
 
   -- if the inputs are known, they were compared
   pub inputs_known : (a b : Option (List ℕ)) (rest : Inputs) (old new : Option (List ℕ)) (result : Answer)
-      → ComparesInputs at (a, b) rest old new result
-      → IfSome a (λ x. IfSome b (λ y. ComparesTexts at x y old new result))
+      → ComparesInputs options (a, b) rest old new result
+      → IfSome a (λ x. IfSome b (λ y. ComparesTexts options x y old new result))
   inputs_known a b rest old new (Ok none) h = taken_known a b rest old new (Ok none) h
   inputs_known a b rest old new (Err (BadScript n)) h = taken_known a b rest old new (Err (BadScript n)) h
   inputs_known a b rest old new (Err TooLong) h = taken_known a b rest old new (Err TooLong) h

@@ -1,5 +1,5 @@
 -- The result of `diff` and what it writes, by the inputs from which the two scripts are read.
-use Rattle.std.specs.Prelude.{◌≡◌, ◌↔◌, ℕ, ◌⊎◌, Bool, true, not, ◌&&◌, List, [], Option, Result, Ok, Err, IsOk, MatchResult}
+use Rattle.std.specs.Prelude.{◌≡◌, ◌↔◌, ℕ, ◌⊎◌, Bool, true, not, ◌&&◌, List, [], Option, Result, Ok, Err, IsOk, MatchResult, if◌then◌else◌}
 use Rattle.std.specs.Io.KnownBytes.{Appends, Keeps}
 use Rattle.histar_io.specs.Device.{CountsFailure}
 use Rattle.histar_io.specs.Input.{TakesAll, TakesSome}
@@ -12,9 +12,11 @@ use Rattle.histar_script.specs.declared.fault.Fault.TheVariants.{OutOfMemory, Re
 use Rattle.histar_diff.specs.declared.differences.Difference.{Difference}
 use Rattle.histar_diff.specs.declared.table.Table.{Table}
 use Rattle.histar_diff.specs.Changes.{AreChanges}
+use Rattle.histar_diff.specs.Gains.{gains}
 use Rattle.histar_diff.specs.Shown.{ShowsRights}
 use Rattle.histar_diff.specs.Texts.{differences_text}
 use Rattle.histar_prefix.specs.Prefix.{state_before}
+use Rattle.histar_access.specs.declared.changes.DiffOptions.{DiffOptions}
 
 -- ---- two scripts
 
@@ -36,30 +38,34 @@ scripts_of old new = both_read (script_of old) (script_of new)
 abbrev pub AreChangesOf : Option ℕ → Scripts → List Difference → Type 0
 AreChangesOf at scripts cs = AreChanges scripts.0.accounts (state_before at scripts.0) scripts.1.accounts (state_before at scripts.1) cs
 
+-- the changes that are written: all, or only those that give a letter that wasn't there
+abbrev pub shown : Bool → List Difference → List Difference
+shown more cs = if more then gains cs else cs
+
 -- ---- what is written
 
--- both are scripts, the lines of exactly the changes were written, and the result is true exactly if there is none
-pub record WritesChanges (at : Option ℕ) (old new : Option (List ℕ)) (read : Result Scripts Fault) (none : Bool) : Type 0 where
+-- both are scripts, the lines of exactly the changes to be shown were written, and the result is true exactly if there is none
+pub record WritesChanges (options : DiffOptions) (old new : Option (List ℕ)) (read : Result Scripts Fault) (none : Bool) : Type 0 where
   pub scripts : Scripts
   pub are_read : read ≡ Ok scripts
   pub changes : List Difference
-  pub are_changes : AreChangesOf at scripts changes
-  pub written : Appends old new (differences_text changes)
-  pub answered : (none ≡ true) ↔ (changes ≡ [])
+  pub are_changes : AreChangesOf options.at scripts changes
+  pub written : Appends old new (differences_text (shown options.more changes))
+  pub answered : (none ≡ true) ↔ (shown options.more changes ≡ [])
 
--- both are scripts, and a beginning of the lines of the changes was written
-pub record BeginsChanges (at : Option ℕ) (old new : Option (List ℕ)) (read : Result Scripts Fault) : Type 0 where
+-- both are scripts, and a beginning of those lines was written
+pub record BeginsChanges (options : DiffOptions) (old new : Option (List ℕ)) (read : Result Scripts Fault) : Type 0 where
   pub scripts : Scripts
   pub are_read : read ≡ Ok scripts
   pub changes : List Difference
-  pub are_changes : AreChangesOf at scripts changes
-  pub written : AppendsFront old new (differences_text changes)
+  pub are_changes : AreChangesOf options.at scripts changes
+  pub written : AppendsFront old new (differences_text (shown options.more changes))
 
 -- At a failed write a beginning of the lines was written, if memory runs out that or nothing, at other faults nothing.
-abbrev pub ChangesAtFault : Option ℕ → Option (List ℕ) → Option (List ℕ) → Result Scripts Fault → Fault → Type 0
-ChangesAtFault at old new read OutOfMemory = Keeps old new ⊎ BeginsChanges at old new read
-ChangesAtFault at old new read WriteFailed = BeginsChanges at old new read
-ChangesAtFault at old new read fault = Keeps old new
+abbrev pub ChangesAtFault : DiffOptions → Option (List ℕ) → Option (List ℕ) → Result Scripts Fault → Fault → Type 0
+ChangesAtFault options old new read OutOfMemory = Keeps old new ⊎ BeginsChanges options old new read
+ChangesAtFault options old new read WriteFailed = BeginsChanges options old new read
+ChangesAtFault options old new read fault = Keeps old new
 
 -- The fault of a script is returned as it is. The others are no faults of a script, and a write fails only after two right ones.
 abbrev pub IsFaultOf : Result Scripts Fault → Fault → Type 0
@@ -69,9 +75,9 @@ IsFaultOf read WriteFailed = IsOk read
 IsFaultOf read fault = read ≡ Err fault
 
 -- The texts were read as scripts: the first fault of the two is returned, or exactly the lines of the changes between them were written.
-pub record ComparesTexts (at : Option ℕ) (a b : List ℕ) (old new : Option (List ℕ)) (result : Result Bool Fault) : Type 0 where
+pub record ComparesTexts (options : DiffOptions) (a b : List ℕ) (old new : Option (List ℕ)) (result : Result Bool Fault) : Type 0 where
   pub faults : MatchResult result (λ _. IsOk (scripts_of a b)) (IsFaultOf (scripts_of a b))
-  pub writes : MatchResult result (WritesChanges at old new (scripts_of a b)) (ChangesAtFault at old new (scripts_of a b))
+  pub writes : MatchResult result (WritesChanges options old new (scripts_of a b)) (ChangesAtFault options old new (scripts_of a b))
 
 -- ---- what is taken
 
@@ -80,12 +86,12 @@ abbrev pub Inputs : Type 0
 Inputs = Option (List ℕ) × Option (List ℕ)
 
 -- Both inputs were taken, the old one and then the new one, and their texts were compared.
-pub record ComparesTaken (at : Option ℕ) (left rest : Inputs) (old new : Option (List ℕ)) (result : Result Bool Fault) : Type 0 where
+pub record ComparesTaken (options : DiffOptions) (left rest : Inputs) (old new : Option (List ℕ)) (result : Result Bool Fault) : Type 0 where
   pub old_taken : List ℕ
   pub takes_old : TakesAll left.0 rest.0 old_taken
   pub new_taken : List ℕ
   pub takes_new : TakesAll left.1 rest.1 new_taken
-  pub compares : ComparesTexts at old_taken new_taken old new result
+  pub compares : ComparesTexts options old_taken new_taken old new result
 
 -- some bytes of the old input were taken and none of the new one
 pub record StopsAtOld (left rest : Inputs) : Type 0 where
@@ -103,10 +109,11 @@ abbrev pub StopsAtInput : Inputs → Inputs → Option (List ℕ) → Option (Li
 StopsAtInput left rest old new = (StopsAtOld left rest ⊎ StopsAtNew left rest) × Keeps old new
 
 -- Both inputs are taken and compared, but reading stops at a failed read, and may have stopped if memory runs out.
-abbrev pub ComparesInputs : Option ℕ → Inputs → Inputs → Option (List ℕ) → Option (List ℕ) → Result Bool Fault → Type 0
-ComparesInputs at left rest old new (Err OutOfMemory) = StopsAtInput left rest old new ⊎ ComparesTaken at left rest old new (Err OutOfMemory)
-ComparesInputs at left rest old new (Err ReadFailed) = StopsAtInput left rest old new
-ComparesInputs at left rest old new result = ComparesTaken at left rest old new result
+abbrev pub ComparesInputs : DiffOptions → Inputs → Inputs → Option (List ℕ) → Option (List ℕ) → Result Bool Fault → Type 0
+ComparesInputs options left rest old new (Err OutOfMemory) =
+    StopsAtInput left rest old new ⊎ ComparesTaken options left rest old new (Err OutOfMemory)
+ComparesInputs options left rest old new (Err ReadFailed) = StopsAtInput left rest old new
+ComparesInputs options left rest old new result = ComparesTaken options left rest old new result
 
 -- If a read failed, the old source counted one more failed call, or else the new one did; if none failed, neither did.
 abbrev pub CountsOneFailure : ℕ → ℕ → ℕ → ℕ → Bool → Type 0

@@ -6,17 +6,27 @@ ghost use Rattle.histar_io.specs.Writing.{AppendsFront};
 ghost use Rattle.histar_script.specs.Runs.{IsOutputFault, LeavesSink, is_read_failed, is_write_failed};
 ghost use Rattle.histar_diff.specs.Texts.{differences_text};
 ghost use Rattle.histar_access.specs.Diff.{ComparesInputs, ComparesTexts, CountsOneFailure, ReadsTable};
+ghost use Rattle.histar_access.specs.Diff.{shown as shown_changes};
 
 use crate::rights_table::table_of;
-use histar_diff::{Difference, Table, differences_between, push_difference};
+use histar_diff::{Difference, Table, differences_between, keep_gains, push_difference};
 use histar_io::{Sink, Source, read_input, write_bytes};
 use histar_prefix::{discard, machine_before};
 use histar_script::Fault;
 use std::alloc::Global;
 
+/// What `diff` compares and writes.
+#[derive(Clone, Copy)]
+pub struct DiffOptions {
+    /// The line before which the calls of each script are run, or `None` for all.
+    pub at: Option<u32>,
+    /// Whether it writes only the lines where the new script gives a letter that the old one doesn't.
+    pub more: bool,
+}
+
 /// Reads two scripts, runs each on a machine of its own, and writes what changed from the old one to the new
-/// one: a line for each path and process whose rights differ. It returns whether nothing changed. With a line
-/// number it runs the calls of each on the lines before that one, and else all.
+/// one: a line for each path and process whose rights differ, or only those that the options ask for. It
+/// returns whether no line was to be written.
 ///
 /// Both scripts are read whole before the first call of either, and both tables are computed before the first
 /// line is written. It doesn't flush the sink.
@@ -25,7 +35,7 @@ pub fn diff<R: Source, Q: Source, W: Sink>(
     old_script: &mut R,
     new_script: &mut Q,
     writer: &mut W,
-    at: Option<u32>,
+    options: DiffOptions,
 ) -> Result<bool, Fault>
     // After a bad script, one that is too long or a failed read, the sink is as it was.
     ensures nothing { IfErr result (LeavesSink writer.old writer.new) }
@@ -36,18 +46,19 @@ pub fn diff<R: Source, Q: Source, W: Sink>(
     ensures writes { CountsFailure (W.failures writer.old) (W.failures writer.new) (is_write_failed result) }
 
     // Some bytes of each source were read, to its end but never more than 1,048,577: the first fault of their
-    // scripts is returned, or exactly the lines of the changes between their flat states are written.
-    ensures runs { ComparesInputs at
+    // scripts is returned, or exactly the lines of the changes between their flat states that the options ask for
+    // are written.
+    ensures runs { ComparesInputs options
         (R.left old_script.old, Q.left new_script.old) (R.left old_script.new, Q.left new_script.new)
         (W.written writer.old) (W.written writer.new) result }
 
     // If both inputs are known, these are the changes from the script of the old one to that of the new one.
     ensures known { IfSome (R.left old_script.old) (λ a. IfSome (Q.left new_script.old) (λ b.
-        ComparesTexts at a b (W.written writer.old) (W.written writer.new) result)) }
+        ComparesTexts options a b (W.written writer.old) (W.written writer.new) result)) }
 {
     let old = read_input(alloc, old_script)?;
     let new = read_input(alloc, new_script)?;
-    compare_texts(alloc, old.as_slice(), new.as_slice(), writer, at)
+    compare_texts(alloc, old.as_slice(), new.as_slice(), writer, options)
 }
 
 /// Writes what changed between the scripts in two texts.
@@ -56,20 +67,31 @@ fn compare_texts<W: Sink>(
     old: &[u8],
     new: &[u8],
     writer: &mut W,
-    at: Option<u32>,
+    options: DiffOptions,
 ) -> Result<bool, Fault>
     ensures nothing { IfErr result (LeavesSink writer.old writer.new) }
     ensures reads { is_read_failed result ≡ false }
     ensures writes { CountsFailure (W.failures writer.old) (W.failures writer.new) (is_write_failed result) }
-    ensures runs { ComparesTexts at old.now new.now
+    ensures runs { ComparesTexts options old.now new.now
         (W.written writer.old) (W.written writer.new) result }
 {
-    let before = table_before(alloc, old, at)?;
-    let after = table_before(alloc, new, at)?;
+    let before = table_before(alloc, old, options.at)?;
+    let after = table_before(alloc, new, options.at)?;
     let differences = differences_between(alloc, &before, &after)?;
+    let differences = shown(differences, options.more);
     let lines = differences.as_slice();
     write_differences(alloc, lines, writer)?;
     Ok(lines.is_empty())
+}
+
+/// Returns these differences, or only those that give more.
+fn shown(mut differences: Vec<Difference>, more: bool) -> Vec<Difference>
+    ensures { result.items ≡ shown_changes more differences.items }
+{
+    if more {
+        keep_gains(&mut differences);
+    }
+    differences
 }
 
 /// Returns the table of the script in a text, before a line if one is given.

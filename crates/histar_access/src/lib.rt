@@ -8,5 +8,5 @@ mod rights_table;
 mod session;
 mod table;
 
-pub use changes::diff;
+pub use changes::{DiffOptions, diff};
 pub use session::access;

@@ -81,7 +81,7 @@ differences_are_changes accounts later calls more old new ds a b are = record {
 }
 
 -- a process that doesn't run has no rights
-none_runs : (q : Path) (p : ProcName) (accounts : Accounts) (f : Flat) (node : Option Node) → rights_if accounts f q p node None ≡ no_rights
+pub none_runs : (q : Path) (p : ProcName) (accounts : Accounts) (f : Flat) (node : Option Node) → rights_if accounts f q p node None ≡ no_rights
 none_runs q p accounts f None = refl
 none_runs q p accounts f (Some node) = refl
 

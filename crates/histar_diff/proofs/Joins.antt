@@ -44,7 +44,7 @@ module _ {K : Type 0} (R : K → K → Ordering) (total : IsTotalOrder R) (exact
   turned x y e = total.antisymm y x ∙ ap ordering_reverse e
 
   -- a key is not found if one that ties with it is less than all
-  missed : {X : Type 0} (q k : K) (es : List (K × X)) → eq_by_cmp R q k ≡ true → IsBelow k es → find R q es ≡ None
+  pub missed : {X : Type 0} (q k : K) (es : List (K × X)) → eq_by_cmp R q k ≡ true → IsBelow k es → find R q es ≡ None
   missed q k es t h = find_below total exact q es (subst (λ z. IsBelow z es) (sym (exact q k (equal (R q k) t))) h)
 
   module _ (A B : Type 0) where

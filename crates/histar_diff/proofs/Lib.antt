@@ -4,3 +4,4 @@ pub mod Joins
 pub mod Listing
 pub mod ShownTables
 pub mod Changes
+pub mod Gaining

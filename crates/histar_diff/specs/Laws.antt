@@ -11,6 +11,7 @@ use Rattle.histar_diff.specs.declared.differences.Difference.{Difference}
 use Rattle.histar_diff.specs.Differences.{AreDifferences, by_pair, pair_cmp}
 use Rattle.histar_diff.specs.Shown.{ShowsRights, rights_of}
 use Rattle.histar_diff.specs.Changes.{AreChanges, IsAnsweredAlike}
+use Rattle.histar_diff.specs.Gains.{GiveNoMore, IsAnsweredNoMore, gains, gives_more}
 use Rattle.histar_diff.specs.Tables.{IsTable, rights_in}
 
 -- a pair of a path and a process is listed exactly if its rights differ
@@ -72,3 +73,36 @@ NobodyIsAnsweredOtherwise =
     (accounts later : Accounts) (calls more : List CallLine)
     → AreChanges accounts (flat_end accounts (boot accounts) calls) later (flat_end later (boot later) more) []
     → (me : ProcName) (q : Path) → IsAnsweredAlike accounts calls later more me q
+
+-- a pair of a path and a process is a gain of a table exactly if the new rights have a letter that the old ones lack
+abbrev pub GainsOfTablesAreListed : Type 0
+GainsOfTablesAreListed =
+    (old new : Table) (ds : List Difference) → AreDifferences old new ds
+    → (q : Path) (p : ProcName) → (is_some (find pair_cmp (q, p) (by_pair (gains ds))) ≡ true)
+    ↔ (gives_more (rights_in old q p) (rights_in new q p) ≡ true)
+
+-- two tables have no gain exactly if each letter of each pair of a path and a process in the new table is one in the old table
+abbrev pub NoGainOfTablesIsNoMore : Type 0
+NoGainOfTablesIsNoMore =
+    (old new : Table) (ds : List Difference) → AreDifferences old new ds
+    → (gains ds ≡ []) ↔ ((q : Path) (p : ProcName) → GiveNoMore (rights_in old q p) (rights_in new q p))
+
+-- a pair of a path and a process is a gain exactly if the new rights have a letter that the old ones lack
+abbrev pub GainsAreListed : Type 0
+GainsAreListed =
+    (accounts : Accounts) (f : Flat) (later : Accounts) (g : Flat) (cs : List Difference) → AreChanges accounts f later g cs
+    → (q : Path) (p : ProcName) → (is_some (find pair_cmp (q, p) (by_pair (gains cs))) ≡ true)
+    ↔ (gives_more (rights_of accounts f q p) (rights_of later g q p) ≡ true)
+
+-- there is no gain exactly if each letter of each pair of a path and a process in the new state is one in the old state
+abbrev pub NoGainIsNoMore : Type 0
+NoGainIsNoMore =
+    (accounts : Accounts) (f : Flat) (later : Accounts) (g : Flat) (cs : List Difference) → AreChanges accounts f later g cs
+    → (gains cs ≡ []) ↔ ((q : Path) (p : ProcName) → GiveNoMore (rights_of accounts f q p) (rights_of later g q p))
+
+-- if there is no gain after the calls of two scripts, what a process is answered after the new one it is answered after the old one too
+abbrev pub NobodyIsAnsweredMore : Type 0
+NobodyIsAnsweredMore =
+    (accounts later : Accounts) (calls more : List CallLine) (cs : List Difference)
+    → AreChanges accounts (flat_end accounts (boot accounts) calls) later (flat_end later (boot later) more) cs → gains cs ≡ []
+    → (me : ProcName) (q : Path) → IsAnsweredNoMore accounts calls later more me q

@@ -7,4 +7,5 @@ pub mod Differences
 pub mod Texts
 pub mod Shown
 pub mod Changes
+pub mod Gains
 pub mod Laws

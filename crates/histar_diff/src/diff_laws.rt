@@ -1,7 +1,9 @@
 //! What differences mean. Each law is the contract of a function that does nothing.
 ghost use Rattle.histar_diff.specs.Laws.{DifferencesAreListed, DifferencesAreOneList};
 ghost use Rattle.histar_diff.specs.Laws.{ChangesAreListed, ChangesAreOneList, DifferencesAreChanges};
-ghost use Rattle.histar_diff.specs.Laws.{NobodyIsAnsweredOtherwise};
+ghost use Rattle.histar_diff.specs.Laws.{GainsAreListed, GainsOfTablesAreListed};
+ghost use Rattle.histar_diff.specs.Laws.{NobodyIsAnsweredMore, NobodyIsAnsweredOtherwise};
+ghost use Rattle.histar_diff.specs.Laws.{NoGainIsNoMore, NoGainOfTablesIsNoMore};
 ghost use Rattle.histar_diff.specs.Laws.{NoneIsTheSame, NothingHasChanged};
 ghost use Rattle.histar_diff.specs.Laws.{ShownTablesRise, TablesShowRights};
 
@@ -57,4 +59,34 @@ pub fn changes_are_one_list()
 /// every path, the same answer to each of the four questions in both.
 pub fn nobody_is_answered_otherwise()
     ensures { NobodyIsAnsweredOtherwise }
+{}
+
+/// Shows that a pair of a path and a process is a gain of a table exactly if the new table gives it a letter
+/// that the old one doesn't.
+pub fn gains_of_tables_are_listed()
+    ensures { GainsOfTablesAreListed }
+{}
+
+/// Shows that two tables have no gain exactly if each letter of the new one is one of the old one. A path or
+/// a process that a table lacks has no letter there.
+pub fn no_gain_of_tables_is_no_more()
+    ensures { NoGainOfTablesIsNoMore }
+{}
+
+/// Shows that a pair of a path and a process is a gain exactly if the new state gives it a letter that the
+/// old one doesn't.
+pub fn gains_are_listed()
+    ensures { GainsAreListed }
+{}
+
+/// Shows that there is no gain between two states exactly if each letter of the new one is one of the old
+/// one.
+pub fn no_gain_is_no_more()
+    ensures { NoGainIsNoMore }
+{}
+
+/// Shows that if there is no gain between the states after two scripts, every process has, at every path,
+/// each letter after the old script that it has after the new one, and so the answers that these stand for.
+pub fn nobody_is_answered_more()
+    ensures { NobodyIsAnsweredMore }
 {}

@@ -1,0 +1,9 @@
+-- Proves the goals of `keep_gains` of src/gains.rt that the search leaves open.
+use Rattle.std.proofs.Common.{rules}
+use Rattle.std.proofs.lemmas.Fn.{filter_same}
+use Rattle.histar_diff.specs.declared.differences.Difference.{Difference}
+use Rattle.histar_diff.specs.Gains.{gives_more}
+use Rattle.histar_diff.proofs.gains.keep_gains.Goals as goal
+
+pub returns : goal.returns
+returns c = filter_same _ (λ (d : Difference). gives_more d.before d.after) _ (λ x b f' k. search rules) _ _ c.retain.ensures.filtered
