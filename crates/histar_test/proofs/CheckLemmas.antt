@@ -46,10 +46,11 @@ tally_more t front more =
     λ i. record { count = counted i; are_met = met i }
 
 -- the checks of steps are that of the first, and then those of the others
-pub check_first : (accounts : Accounts) (f : Flat) (last : Option Made) (step : Step) (later : List Step)
-    → checks_from accounts f last (step ∷ later)
-    ≡ check_at accounts f last step ++ checks_from accounts (flat_at accounts f step) (last_at accounts f last step) later
-check_first accounts f last (Makes c said) later = refl
-check_first accounts f None (Expects text) later = refl
-check_first accounts f (Some made) (Expects text) later = refl
-check_first accounts f last (Asks q) later = refl
+pub check_first : (strict : Bool) (accounts : Accounts) (f : Flat) (last : Option Made) (step : Step) (later : List Step)
+    → checks_from strict accounts f last (step ∷ later)
+    ≡ check_at strict accounts f last step
+    ++ checks_from strict accounts (flat_at accounts f step) (last_at accounts f last step) later
+check_first strict accounts f last (Makes c said) later = refl
+check_first strict accounts f None (Expects text) later = refl
+check_first strict accounts f (Some made) (Expects text) later = refl
+check_first strict accounts f last (Asks q) later = refl

@@ -21,7 +21,7 @@ use Rattle.histar_test.specs.declared.session.NamedTest.{NamedTest}
 use Rattle.histar_test.specs.declared.session.TestFile.{TestFile}
 use Rattle.histar_test.specs.Checks.{checks_of, checks_text, is_met}
 use Rattle.histar_test.specs.Running.{tally_with}
-use Rattle.histar_test.specs.Session.{AreTests, Checked, IsChecked, IsTestOf, ReadsFiles, TestsFiles, are_met, check_count}
+use Rattle.histar_test.specs.Session.{AreTests, Checked, CountsAll, IsChecked, IsTestOf, ReadsFiles, TestsFiles, are_met, check_count}
 use Rattle.histar_test.specs.Session.{checked_of, expectations_in, files_text, plan_text, report_text}
 use Rattle.histar_test.specs.Steps.{Test, expectation_count, test_of}
 use Rattle.histar_test.proofs.StepLaws.{test_counted}
@@ -29,32 +29,33 @@ use Rattle.histar_test.proofs.StepLaws.{test_counted}
 -- ---- the files that are read
 
 -- files with these tests have their checks
-pub each_checked : (files : List TestFile) (tests : List NamedTest) → AllZip IsTestOf files tests → AllZip IsChecked files (map checked_of tests)
-each_checked [] [] each = tt
-each_checked [] (test ∷ tests) each = absurd each
-each_checked (file ∷ files) [] each = absurd each
-each_checked (file ∷ files) (test ∷ tests) each = (
+pub each_checked : (strict : Bool) (files : List TestFile) (tests : List NamedTest) → AllZip IsTestOf files tests
+    → AllZip (IsChecked strict) files (map (checked_of strict) tests)
+each_checked strict [] [] each = tt
+each_checked strict [] (test ∷ tests) each = absurd each
+each_checked strict (file ∷ files) [] each = absurd each
+each_checked strict (file ∷ files) (test ∷ tests) each = (
   (
     test.test,
     each.0.test,
-    ap (λ (name : List ℕ). let checked : Checked = record { name = name; checks = checks_of test.test } in checked) each.0.name,
+    ap (λ (name : List ℕ). let checked : Checked = record { name = name; checks = checks_of strict test.test } in checked) each.0.name,
   ),
-  each_checked files tests each.1,
+  each_checked strict files tests each.1,
 )
 
 -- tests have as many checks as expectations
 pub counted : (files : List TestFile) (tests : List NamedTest) → AllZip IsTestOf files tests
-    → expectations_in tests ≡ check_count (map checked_of tests)
+    → expectations_in tests ≡ check_count (map (checked_of false) tests)
 counted [] [] each = refl
 counted [] (test ∷ tests) each = absurd each
 counted (file ∷ files) [] each = absurd each
 counted (file ∷ files) (test ∷ tests) each =
-    let own : length (checks_of test.test) ≡ expectation_count test.test.steps = test_counted file.text.items test.test each.0.test in
-    let later : expectations_in tests ≡ check_count (map checked_of tests) = counted files tests each.1 in
+    let own : length (checks_of false test.test) ≡ expectation_count test.test.steps = test_counted file.text.items test.test each.0.test in
+    let later : expectations_in tests ≡ check_count (map (checked_of false) tests) = counted files tests each.1 in
     let one : expectations_in (test ∷ tests) ≡ expectation_count test.test.steps + expectations_in tests =
     sum_by-cons (λ (named : NamedTest). expectation_count named.test.steps) test tests in
-    let two : check_count (map checked_of (test ∷ tests)) ≡ length (checks_of test.test) + check_count (map checked_of tests) =
-    length-append (checks_of test.test) (flat_map (λ (c : Checked). c.checks) (map checked_of tests)) in
+    let two : check_count (map (checked_of false) (test ∷ tests)) ≡ length (checks_of false test.test) + check_count (map (checked_of false) tests) =
+    length-append (checks_of false test.test) (flat_map (λ (c : Checked). c.checks) (map (checked_of false) tests)) in
     omega (arith, own, later, one, two)
 
 -- one more file is read
@@ -83,8 +84,8 @@ first_fault (BadScript n) files i file tests parts each bad = record {
   file = file;
   after = drop (i + 1) files;
   parts = parts;
-  right = map checked_of tests;
-  each = each_checked (take i files) tests each;
+  right = map (checked_of false) tests;
+  each = each_checked false (take i files) tests each;
   bad = bad;
 }
 first_fault TooLong files i file tests parts each bad = record {
@@ -92,8 +93,8 @@ first_fault TooLong files i file tests parts each bad = record {
   file = file;
   after = drop (i + 1) files;
   parts = parts;
-  right = map checked_of tests;
-  each = each_checked (take i files) tests each;
+  right = map (checked_of false) tests;
+  each = each_checked false (take i files) tests each;
   bad = bad;
 }
 first_fault OutOfMemory files i file tests parts each bad = tt
@@ -145,25 +146,25 @@ met_push files file =
     by false = refl
 
 -- These tests were run: the lines of their checks were written, and they were counted.
-pub record AreRun (tests : List NamedTest) (tally : Tally) (before after : Option (List ℕ)) : Type 0 where
-  pub written : Appends before after (files_text 1 (map checked_of tests))
-  pub count : tally.count ≡ check_count (map checked_of tests)
-  pub met : tally.are_met ≡ are_met (map checked_of tests)
+pub record AreRun (strict : Bool) (tests : List NamedTest) (tally : Tally) (before after : Option (List ℕ)) : Type 0 where
+  pub written : Appends before after (files_text 1 (map (checked_of strict) tests))
+  pub count : tally.count ≡ check_count (map (checked_of strict) tests)
+  pub met : tally.are_met ≡ are_met (map (checked_of strict) tests)
 
 -- this holds before the first test
-pub none_run : (w : Option (List ℕ)) → AreRun [] (record { count = 0; are_met = true }) w w
-none_run w = record { written = Appends-nil w; count = refl; met = refl }
+pub none_run : (strict : Bool) (w : Option (List ℕ)) → AreRun strict [] (record { count = 0; are_met = true }) w w
+none_run strict w = record { written = Appends-nil w; count = refl; met = refl }
 
 -- one more test has been run
-pub more_run : {tests : List NamedTest} {tally : Tally} {a b : Option (List ℕ)} → (test : NamedTest) (after : Tally) (c : Option (List ℕ))
-    → AreRun tests tally a b → Appends b c (checks_text test.name (tally.count + 1) (checks_of test.test))
-    → after ≡ tally_with tally (checks_of test.test) → AreRun (tests ++ test ∷ []) after a c
-more_run {tests = tests} {tally = tally} {a = a} {b = b} test after c run more is =
-    let front = map checked_of tests in
-    let file = checked_of test in
-    let all : map checked_of (tests ++ test ∷ []) ≡ front ++ file ∷ [] = map-append checked_of tests (test ∷ []) in
+pub more_run : {strict : Bool} {tests : List NamedTest} {tally : Tally} {a b : Option (List ℕ)} → (test : NamedTest) (after : Tally) (c : Option (List ℕ))
+    → AreRun strict tests tally a b → Appends b c (checks_text test.name (tally.count + 1) (checks_of strict test.test))
+    → after ≡ tally_with tally (checks_of strict test.test) → AreRun strict (tests ++ test ∷ []) after a c
+more_run {strict = strict} {tests = tests} {tally = tally} {a = a} {b = b} test after c run more is =
+    let front = map (checked_of strict) tests in
+    let file = checked_of strict test in
+    let all : map (checked_of strict) (tests ++ test ∷ []) ≡ front ++ file ∷ [] = map-append (checked_of strict) tests (test ∷ []) in
     let k : 1 + check_count front ≡ tally.count + 1 = omega (arith, run.count) in
-    let text : files_text 1 (map checked_of (tests ++ test ∷ [])) ≡ files_text 1 front ++ checks_text file.name (tally.count + 1) file.checks =
+    let text : files_text 1 (map (checked_of strict) (tests ++ test ∷ [])) ≡ files_text 1 front ++ checks_text file.name (tally.count + 1) file.checks =
     ap (files_text 1) all ∙ files_text-push 1 front file
     ∙ ap (λ (n : ℕ). files_text 1 front ++ checks_text file.name n file.checks) k in
     record {
@@ -176,19 +177,19 @@ more_run {tests = tests} {tally = tally} {a = a} {b = b} test after c run more i
     }
 
 -- one more test has been begun
-pub begun_run : {tests : List NamedTest} {tally : Tally} {a b : Option (List ℕ)} → (all later : List NamedTest) (test : NamedTest)
-    (c : Option (List ℕ)) → all ≡ tests ++ test ∷ later → AreRun tests tally a b
-    → AppendsFront b c (checks_text test.name (tally.count + 1) (checks_of test.test)) → AppendsFront a c (files_text 1 (map checked_of all))
-begun_run {tests = tests} {tally = tally} {a = a} {b = b} all later test c parts run begun =
-    let front = map checked_of tests in
-    let file = checked_of test in
-    let rest = map checked_of later in
+pub begun_run : {strict : Bool} {tests : List NamedTest} {tally : Tally} {a b : Option (List ℕ)} → (all later : List NamedTest) (test : NamedTest)
+    (c : Option (List ℕ)) → all ≡ tests ++ test ∷ later → AreRun strict tests tally a b
+    → AppendsFront b c (checks_text test.name (tally.count + 1) (checks_of strict test.test)) → AppendsFront a c (files_text 1 (map (checked_of strict) all))
+begun_run {strict = strict} {tests = tests} {tally = tally} {a = a} {b = b} all later test c parts run begun =
+    let front = map (checked_of strict) tests in
+    let file = checked_of strict test in
+    let rest = map (checked_of strict) later in
     let own = checks_text file.name (tally.count + 1) file.checks in
     let k : 1 + check_count front ≡ tally.count + 1 = omega (arith, run.count) in
     let more = files_text ((tally.count + 1) + length file.checks) rest in
-    let text : files_text 1 (map checked_of all) ≡ files_text 1 front ++ (own ++ more) =
-    ap (λ (l : List NamedTest). files_text 1 (map checked_of l)) parts
-    ∙ ap (files_text 1) (map-append checked_of tests (test ∷ later)) ∙ files_text-append 1 front (file ∷ rest)
+    let text : files_text 1 (map (checked_of strict) all) ≡ files_text 1 front ++ (own ++ more) =
+    ap (λ (l : List NamedTest). files_text 1 (map (checked_of strict) l)) parts
+    ∙ ap (files_text 1) (map-append (checked_of strict) tests (test ∷ later)) ∙ files_text-append 1 front (file ∷ rest)
     ∙ ap (λ (n : ℕ). files_text 1 front ++ files_text n (file ∷ rest)) k in
     subst (AppendsFront a c) (sym text) (front_after a b c (files_text 1 front) own more run.written begun)
 
@@ -196,8 +197,13 @@ begun_run {tests = tests} {tally = tally} {a = a} {b = b} all later test c parts
 
 -- the plan is that of the files' checks
 pub planned : (tests slice : List NamedTest) (total : ℕ) → AreTests tests → slice ≡ tests → total ≡ expectations_in slice
-    → plan_text total ≡ plan_text (check_count (map checked_of tests))
+    → plan_text total ≡ plan_text (check_count (map (checked_of false) tests))
 planned tests slice total are same is = ap plan_text (is ∙ ap expectations_in same ∙ counted are.0 tests are.1)
+
+-- the tally of tests that were run
+pub all_counted : {strict : Bool} {tests : List NamedTest} {tally : Tally} {a b : Option (List ℕ)} → AreRun strict tests tally a b
+    → CountsAll tally (map (checked_of strict) tests)
+all_counted run = record { count = run.count; met = run.met }
 
 -- a beginning of the first text is a beginning of both
 pub front_first : (a b : Option (List ℕ)) (first second : List ℕ) → AppendsFront a b first → AppendsFront a b (first ++ second)
@@ -210,17 +216,9 @@ front_first a b first second begun = (
   },
 )
 
--- the first text was written, and then the second
-pub both_written : (a b c : Option (List ℕ)) (result : Result Bool Fault) (first second : List ℕ) → Appends a b first
-    → OnOk result (Appends b c second) → OnOk result (Appends a c (first ++ second))
-both_written a b c (Ok met) first second one two = Appends-trans a b c first second one two
-both_written a b c (Err f) first second one two = tt
-
 -- the first text was written, and then a beginning of the second
-pub both_begun : (a b c : Option (List ℕ)) (result : Result Bool Fault) (first second : List ℕ) → Appends a b first
-    → OnErr result (AppendsFront b c second) → OnErr result (AppendsFront a c (first ++ second))
-both_begun a b c (Ok met) first second one two = tt
-both_begun a b c (Err f) first second one two = (
+pub front_second : (a b c : Option (List ℕ)) (first second : List ℕ) → Appends a b first → AppendsFront b c second → AppendsFront a c (first ++ second)
+front_second a b c first second one two = (
   two.0,
   record {
     front = first ++ two.1.front;
@@ -232,33 +230,33 @@ both_begun a b c (Err f) first second one two = (
 -- ---- the result
 
 -- The tests were reported: their text was written, or a beginning of it, and the result is whether all are met.
-pub record AreReported (tests : List NamedTest) (old new : Option (List ℕ)) (result : Result Bool Fault) : Type 0 where
-  pub written : OnOk result (Appends old new (report_text (map checked_of tests)))
-  pub met : IfOk result (λ met. met ≡ are_met (map checked_of tests))
-  pub begun : OnErr result (AppendsFront old new (report_text (map checked_of tests)))
+pub record AreReported (strict : Bool) (tests : List NamedTest) (old new : Option (List ℕ)) (result : Result Bool Fault) : Type 0 where
+  pub written : OnOk result (Appends old new (report_text strict (map (checked_of strict) tests)))
+  pub met : IfOk result (λ met. met ≡ are_met (map (checked_of strict) tests))
+  pub begun : OnErr result (AppendsFront old new (report_text strict (map (checked_of strict) tests)))
   pub faults : IfErr result IsOutputFault
 
 -- the tests of all files were run
-pub files_tested : {old new : Option (List ℕ)} → (result : Result Bool Fault) (files : List TestFile) (tests : List NamedTest)
-    → AllZip IsTestOf files tests → AreReported tests old new result → TestsFiles files old new result
-files_tested (Ok met) files tests each are = record {
-  checked = map checked_of tests;
-  each = each_checked files tests each;
+pub files_tested : {old new : Option (List ℕ)} → (strict : Bool) (result : Result Bool Fault) (files : List TestFile) (tests : List NamedTest)
+    → AllZip IsTestOf files tests → AreReported strict tests old new result → TestsFiles strict files old new result
+files_tested strict (Ok met) files tests each are = record {
+  checked = map (checked_of strict) tests;
+  each = each_checked strict files tests each;
   appended = are.written;
   holds = are.met;
 }
-files_tested (Err (BadScript n)) files tests each are = absurd are.faults
-files_tested (Err TooLong) files tests each are = absurd are.faults
-files_tested (Err OutOfMemory) files tests each are = inr (record {
-  checked = map checked_of tests;
-  each = each_checked files tests each;
+files_tested strict (Err (BadScript n)) files tests each are = absurd are.faults
+files_tested strict (Err TooLong) files tests each are = absurd are.faults
+files_tested strict (Err OutOfMemory) files tests each are = inr (record {
+  checked = map (checked_of strict) tests;
+  each = each_checked strict files tests each;
   appended = are.begun;
   holds = tt;
 })
-files_tested (Err ReadFailed) files tests each are = absurd are.faults
-files_tested (Err WriteFailed) files tests each are = record {
-  checked = map checked_of tests;
-  each = each_checked files tests each;
+files_tested strict (Err ReadFailed) files tests each are = absurd are.faults
+files_tested strict (Err WriteFailed) files tests each are = record {
+  checked = map (checked_of strict) tests;
+  each = each_checked strict files tests each;
   appended = are.begun;
   holds = tt;
 }

@@ -142,7 +142,7 @@ module _ (script : ScriptModel) where
 
   -- the lines have their checks, after these calls
   abbrev AreOfLines : ℕ → List (List ℕ) → List CallLine → Option Made → List Step → Type 0
-  AreOfLines n lines done last steps = AllZip IsCheckOf (wanting_from n lines) (checks_from script.accounts (flat done) last steps)
+  AreOfLines n lines done last steps = AllZip IsCheckOf (wanting_from n lines) (checks_from false script.accounts (flat done) last steps)
 
   module _ (n : ℕ) (is_open opened : Bool) (line : List ℕ) (lines : List (List ℕ)) (done : List CallLine) (rest : List Step) where
     -- the same for the lines after a line, whatever calls come before them and whichever call is open there
@@ -160,12 +160,13 @@ module _ (script : ScriptModel) where
       expected text (Some made) is opens calls was has =
           let w = text_wanted n line (asked_of line) (expectation_of line) (call_in n (item_of line)) text is in
           let shut : false ≡ opened = same_Some false opened (ap (λ (b : Bool). open_after b (Expects text)) was ∙ opens) in
-          let check : Check = record { made = made; wanted = text } in
-          subst (λ (ls : List NumberedLine). AllZip IsCheckOf ls (check ∷ checks_from script.accounts (flat done) None rest))
+          let check : Check = record { made = made; wanted = Some text } in
+          subst (λ (ls : List NumberedLine). AllZip IsCheckOf ls (check ∷ checks_from false script.accounts (flat done) None rest))
           (sym (listed n line lines (λ i. is_some (w.0 i) || is_some (w.1 i)))) (
             (
-              subst (λ (o : Option (List ℕ)). MatchOption o (expectation_of line ≡ Some text)
-                  (λ asked. IsSomeAnd (question_of n asked) (λ (q : Question). text ≡ rights_text q.wanted))) (sym w.0) w.1,
+              subst (λ (o : Option (List ℕ)). MatchOption o (IsSomeAnd (expectation_of line) (λ t. Some text ≡ Some t))
+                  (λ asked. IsSomeAnd (question_of n asked) (λ (q : Question). Some text ≡ Some (rights_text q.wanted)))) (sym w.0)
+                  (subst (λ (o : Option (List ℕ)). IsSomeAnd o (λ t. Some text ≡ Some t)) (sym w.1) refl),
               subst (λ (o : Option (List ℕ)). MatchOption o (IsLastAnswer made (meaning script.accounts (calls_before (Some n) script.calls)))
                   (λ asked. IsSomeAnd (question_of n asked) (λ (q : Question). made ≡ asked_in script.accounts (state_before (Some n) script) q)))
                   (sym w.0)
@@ -180,12 +181,12 @@ module _ (script : ScriptModel) where
       asked_there q last is opens calls was has =
           let w = rights_wanted n line (asked_of line) (expectation_of line) (call_in n (item_of line)) q is in
           let check = question_check script.accounts (flat done) q in
-          subst (λ (ls : List NumberedLine). AllZip IsCheckOf ls (check ∷ checks_from script.accounts (flat done) last rest))
+          subst (λ (ls : List NumberedLine). AllZip IsCheckOf ls (check ∷ checks_from false script.accounts (flat done) last rest))
           (sym (listed n line lines (λ i. is_some (w.1 i) || is_some (expectation_of line)))) (
             (
-              subst (λ (o : Option (List ℕ)). MatchOption o (expectation_of line ≡ Some check.wanted)
-                  (λ asked. IsSomeAnd (question_of n asked) (λ (x : Question). check.wanted ≡ rights_text x.wanted))) (sym w.1)
-                  (subst (λ (o : Option Question). IsSomeAnd o (λ (x : Question). check.wanted ≡ rights_text x.wanted)) (sym w.2) refl),
+              subst (λ (o : Option (List ℕ)). MatchOption o (IsSomeAnd (expectation_of line) (λ t. check.wanted ≡ Some t))
+                  (λ asked. IsSomeAnd (question_of n asked) (λ (x : Question). check.wanted ≡ Some (rights_text x.wanted)))) (sym w.1)
+                  (subst (λ (o : Option Question). IsSomeAnd o (λ (x : Question). check.wanted ≡ Some (rights_text x.wanted))) (sym w.2) refl),
               subst (λ (o : Option (List ℕ)). MatchOption o (IsLastAnswer check.made (meaning script.accounts (calls_before (Some n) script.calls)))
                   (λ asked. IsSomeAnd (question_of n asked)
                   (λ (x : Question). check.made ≡ asked_in script.accounts (state_before (Some n) script) x)))
@@ -210,12 +211,12 @@ module _ (script : ScriptModel) where
             before = meaning script.accounts done;
             last = record { call = c; reply = reply_to script.accounts (flat done) c.process c.call };
             parts = replies_go_on script.accounts (boot script.accounts) done (c ∷ []);
-            is_answer = (refl, refl);
+            is_answer = (refl, refl, refl);
           } in
           subst (λ (ls : List NumberedLine). AllZip IsCheckOf ls
-          (checks_from script.accounts (flat_after script.accounts (flat done) c.process c.call) (Some made) rest))
+          (checks_from false script.accounts (flat_after script.accounts (flat done) c.process c.call) (Some made) rest))
           (sym (passed_over n line lines (λ i. is_some (w.0 i) || is_some (w.1 i))))
-          (subst (λ (f : Flat). AllZip IsCheckOf (wanting_from (n + 1) lines) (checks_from script.accounts f (Some made) rest)) on
+          (subst (λ (f : Flat). AllZip IsCheckOf (wanting_from (n + 1) lines) (checks_from false script.accounts f (Some made) rest)) on
           (later (done ++ c ∷ []) (Some made) (calls ∙ sym (append_assoc done (c ∷ []) (calls_in rest)))
           (before_more (n + 1) done c (before_next n done before) lt) (same_Some true opened opens) answered))
 
@@ -225,7 +226,7 @@ module _ (script : ScriptModel) where
           → AreOfLines n (line ∷ lines) done last (option_to_list step ++ rest)
       line_checked None last is opens calls was has =
           let w = none_wanted n line (asked_of line) (expectation_of line) (call_in n (item_of line)) is in
-          subst (λ (ls : List NumberedLine). AllZip IsCheckOf ls (checks_from script.accounts (flat done) last rest))
+          subst (λ (ls : List NumberedLine). AllZip IsCheckOf ls (checks_from false script.accounts (flat done) last rest))
           (sym (passed_over n line lines (λ i. is_some (w.0 i) || is_some (w.1 i))))
           (later done last calls (before_next n done before) (was ∙ sym opens) has)
       line_checked (Some (Makes c said)) last is opens calls was has = called_there c said last is opens calls
@@ -254,10 +255,10 @@ module _ (script : ScriptModel) where
 
 -- the lines of a test have their checks
 test_checked : (text : List ℕ) (script : ScriptModel) (test : Test) → script_of text ≡ Ok script → test_of text ≡ Ok test
-    → AllZip (IsCheckOf script) (wanting_in text) (checks_of test)
+    → AllZip (IsCheckOf script) (wanting_in text) (checks_of false test)
 test_checked text script test is reads =
     let makes = tests_make_the_calls text script test is reads in
-    subst (λ (s : Accounts). AllZip (IsCheckOf script) (wanting_in text) (checks_from s (boot s) None test.steps)) (sym makes.0)
+    subst (λ (s : Accounts). AllZip (IsCheckOf script) (wanting_in text) (checks_from false s (boot s) None test.steps)) (sym makes.0)
     (lines_checked script 1 false (lines_of text) test.steps [] None (read_as text test reads).are_steps (sym makes.1) tt refl tt)
 
 -- what holds of two lists element by element follows from what is stronger
@@ -271,13 +272,13 @@ each_of P Q holds (x ∷ xs) (y ∷ ys) each = (holds x y each.0, each_of P Q ho
 pub expectations_are_checked : ExpectationsAreChecked
 expectations_are_checked text test reads =
     let is = read_as text test reads in
-    each_of (IsCheckOf is.script) IsExpectedOn (λ line check both. both.0) (wanting_in text) (checks_of test)
+    each_of (IsCheckOf is.script) IsExpectedOn (λ line check both. both.0) (wanting_in text) (checks_of false test)
     (test_checked text is.script test is.is_script reads)
 
 -- each check is of the script's meaning
 pub checks_are_of_the_meaning : ChecksAreOfTheMeaning
 checks_are_of_the_meaning text script test is reads =
-    each_of (IsCheckOf script) (IsOfTheMeaning script) (λ line check both. both.1) (wanting_in text) (checks_of test)
+    each_of (IsCheckOf script) (IsOfTheMeaning script) (λ line check both. both.1) (wanting_in text) (checks_of false test)
     (test_checked text script test is reads)
 
 -- ---- rights

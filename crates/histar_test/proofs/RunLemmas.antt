@@ -1,9 +1,10 @@
 -- Steps are taken one after another, and their checks are written.
-use Rattle.std.proofs.Common.{◌≡◌, ℕ, ◌+◌, ◌<◌, List, [], ◌∷◌, ◌++◌, length, take, drop, get_or, Option, Some, None, Result, Ok, Err}
+use Rattle.std.proofs.Common.{◌≡◌, ℕ, ◌+◌, ◌<◌, Bool, false, List, [], ◌∷◌, ◌++◌, length, take, drop, get_or, Option, Some, None, Result, Ok, Err}
 use Rattle.std.proofs.Common.{refl, sym, ap, ap₂, ◌∙◌, subst, append-nil, append_assoc, arith, take-append-drop}
 use Rattle.std.proofs.KnownBytes.{Appends-nil, Appends-trans}
 use Rattle.std.proofs.lemmas.List.{drop_more}
 use Rattle.std.specs.Io.KnownBytes.{Appends}
+use Rattle.std.specs.Prelude.{option_to_list}
 use Rattle.std.specs.Result.{OnErr, OnOk}
 use Rattle.histar_io.proofs.WritingLemmas.{sent_none}
 use Rattle.histar_script.specs.declared.fault.Fault.{Fault}
@@ -15,6 +16,7 @@ use Rattle.histar_flat.specs.Meaning.{boot}
 use Rattle.histar_flat.specs.Accounts.{Accounts}
 use Rattle.histar_flat.specs.Texts.{reply_text}
 use Rattle.histar_flat.specs.Words.{Path}
+use Rattle.histar_reasons.specs.Laws.{is_refusal}
 use Rattle.histar_rights.specs.declared.rights.Rights.{Rights}
 use Rattle.histar_rights.specs.Rights.{rights_text}
 use Rattle.histar_diff.specs.Shown.{rights_of}
@@ -29,33 +31,39 @@ use Rattle.histar_test.specs.declared.running.Tally.{Tally}
 use Rattle.histar_test.specs.declared.steps.Step.{Step}
 use Rattle.histar_test.specs.declared.questions.Question.{Question}
 use Rattle.histar_test.specs.declared.steps.Step.TheVariants.{Makes, Expects, Asks}
-use Rattle.histar_test.specs.Checks.{check_text, checks_from, checks_text, question_check}
-use Rattle.histar_test.specs.Running.{AsksMachine, BeginsStep, BeginsSteps, CountsCheck, MakesCall, Starts, TakesStep, TakesSteps, WritesStep}
+use Rattle.histar_test.specs.Checks.{check_text, checks_from, checks_text, question_check, unexpected}
+use Rattle.histar_test.specs.Running.{AsksMachine, BeginsStep, BeginsSteps, Calls, Closes, CountsCheck, MakesCall, Starts}
+use Rattle.histar_test.specs.Running.{TakesStep, TakesSteps, WritesStep, checks_ahead, closing, closing_text}
 use Rattle.histar_test.specs.Running.{check_at, flat_at, last_at, reply_check, step_text, tally_with}
 use Rattle.histar_test.proofs.CheckLemmas.{check_first, checks_text-append, tally_more, tally_none}
 
 -- a machine that returned a reply made the call
 pub call_made : (old new : MachineModel) (call : CallLine) (said text : List ℕ) (reply : Reply)
-    → FollowsMeaning old new call.line call.process call.call (Ok reply) → text ≡ reply_text reply
-    → MakesCall old new call said (record { line = call.line; said = said; reply = text })
-call_made old new call said text reply means is accounts f shows =
+    → FollowsMeaning old new call.line call.process call.call (Ok reply) → text ≡ reply_text reply → (is_refused : Bool)
+    → is_refused ≡ is_refusal reply
+    → MakesCall old new call said (record { line = call.line; said = said; reply = text; is_refused = is_refused })
+call_made old new call said text reply means is is_refused refuses accounts f shows =
     let as_meant = means accounts f shows in
+    let words = is ∙ ap reply_text as_meant.is_reply in
+    let marked = refuses ∙ ap is_refusal as_meant.is_reply in
+    record { shows = as_meant.shows; is = λ i. record { line = call.line; said = said; reply = words i; is_refused = marked i } }
+
+-- closing the open call and making one is taking its step
+pub call_taken : (old mid new : Run) (call : CallLine) (said : List ℕ) → Closes old mid → Calls mid new call said → TakesStep old new (Makes call said)
+call_taken old mid new call said closes calls accounts f shows =
+    let is = calls.makes accounts f (subst (λ (m : MachineModel). Shows accounts m f) (sym closes.machine) shows) in
     record {
-      shows = as_meant.shows;
-      is = ap (λ (t : List ℕ). let made : Made = record { line = call.line; said = said; reply = t } in made) (is ∙ ap reply_text as_meant.is_reply);
+      strict = calls.strict ∙ closes.strict;
+      shows = is.shows;
+      last = calls.last ∙ ap (λ (m : Made). Some m) is.is;
+      tally = calls.tally ∙ closes.tally;
     }
 
--- making a call is taking its step
-pub call_taken : (old new : Run) (call : CallLine) (said : List ℕ) (made : Made) → MakesCall old.machine new.machine call said made
-    → new.last ≡ Some made → new.tally ≡ old.tally → TakesStep old new (Makes call said)
-call_taken old new call said made makes last tally accounts f shows =
-    let is = makes accounts f shows in
-    record { shows = is.shows; last = last ∙ ap (λ (m : Made). Some m) is.is; tally = tally ∙ tally_none old.tally }
-
 -- checking an expectation is taking its step
-pub text_taken : (old new : Run) (wanted : List ℕ) → new.machine ≡ old.machine → new.last ≡ None
+pub text_taken : (old new : Run) (wanted : List ℕ) → new.strict ≡ old.strict → new.machine ≡ old.machine → new.last ≡ None
     → new.tally ≡ tally_with old.tally (reply_check old.last wanted) → TakesStep old new (Expects wanted)
-text_taken old new wanted same none tally accounts f shows = record {
+text_taken old new wanted kept same none tally accounts f shows = record {
+  strict = kept;
   shows = subst (λ (m : MachineModel). Shows accounts m f) (sym same) shows;
   last = none;
   tally = tally;
@@ -65,6 +73,7 @@ text_taken old new wanted same none tally accounts f shows = record {
 pub rights_taken : (old new : Run) (q : Question) (check : Check) → AsksMachine old.machine q check → CountsCheck old new check
     → TakesStep old new (Asks q)
 rights_taken old new q check asks counts accounts f shows = record {
+  strict = counts.strict;
   shows = subst (λ (m : MachineModel). Shows accounts m f) (sym counts.machine) shows;
   last = counts.last;
   tally = counts.tally ∙ ap (λ (c : Check). tally_with old.tally (c ∷ [])) (asks accounts f shows);
@@ -73,16 +82,19 @@ rights_taken old new q check asks counts accounts f shows = record {
 -- the check of a question, given the rights that were found
 pub asked_so : (machine : MachineModel) (q : Question) (rights : Rights) (path : Path) (reply wanted : List ℕ) → path ≡ q.path
     → AreRightsOf machine path q.process rights → reply ≡ rights_text rights → wanted ≡ rights_text q.wanted
-    → AsksMachine machine q (record { made = record { line = q.line; said = q.said; reply = reply }; wanted = wanted })
+    → AsksMachine machine q (record {
+      made = record { line = q.line; said = q.said; reply = reply; is_refused = false };
+      wanted = Some wanted;
+    })
 asked_so machine q rights path reply wanted same are is wants accounts f shows =
     let replied = is ∙ ap rights_text (are accounts f shows ∙ ap (λ (p : Path). rights_of accounts f p q.process) same) in
-    λ i. record { made = record { line = q.line; said = q.said; reply = replied i }; wanted = wants i }
+    λ i. record { made = record { line = q.line; said = q.said; reply = replied i; is_refused = false }; wanted = Some (wants i) }
 
 -- the lines of the check of an expectation
 pub reply_lines : (file : List ℕ) (k : ℕ) (last : Option Made) (made : Made) (wanted : List ℕ) → last ≡ Some made
-    → check_text file k (record { made = made; wanted = wanted }) ≡ checks_text file k (reply_check last wanted)
+    → check_text file k (record { made = made; wanted = Some wanted }) ≡ checks_text file k (reply_check last wanted)
 reply_lines file k last made wanted is =
-    sym (append-nil (check_text file k (record { made = made; wanted = wanted })))
+    sym (append-nil (check_text file k (record { made = made; wanted = Some wanted })))
     ∙ ap (λ (l : Option Made). checks_text file k (reply_check l wanted)) (sym is)
 
 -- the lines of the check of a question
@@ -105,21 +117,21 @@ rights_begun a b file old q check asks begun accounts f shows =
 
 -- checking an expectation takes its step, if the check of the open call is counted
 pub text_counted : (old new : Run) (made : Made) (wanted : List ℕ) (left : Option Made) → old.last ≡ Some made → left ≡ None
-    → CountsCheck (record { machine = old.machine; last = left; tally = old.tally }) new (record { made = made; wanted = wanted })
+    → CountsCheck (record { strict = old.strict; machine = old.machine; last = left; tally = old.tally }) new (record { made = made; wanted = Some wanted })
     → TakesStep old new (Expects wanted)
 text_counted old new made wanted left is none counts =
-    text_taken old new wanted counts.machine (counts.last ∙ none)
+    text_taken old new wanted counts.strict counts.machine (counts.last ∙ none)
     (counts.tally ∙ ap (λ (last : Option Made). tally_with old.tally (reply_check last wanted)) (sym is))
 
 -- the lines of an expectation's check are written
 pub text_written : (a b : Option (List ℕ)) (file : List ℕ) (old : Run) (made : Made) (wanted : List ℕ) → old.last ≡ Some made
-    → Appends a b (check_text file (old.tally.count + 1) (record { made = made; wanted = wanted })) → WritesStep file old (Expects wanted) a b
+    → Appends a b (check_text file (old.tally.count + 1) (record { made = made; wanted = Some wanted })) → WritesStep file old (Expects wanted) a b
 text_written a b file old made wanted is written accounts f shows =
     subst (Appends a b) (reply_lines file (old.tally.count + 1) old.last made wanted is) written
 
 -- a beginning of the lines of an expectation's check is written
 pub text_begun : (a b : Option (List ℕ)) (file : List ℕ) (old : Run) (made : Made) (wanted : List ℕ) → old.last ≡ Some made
-    → AppendsFront a b (check_text file (old.tally.count + 1) (record { made = made; wanted = wanted })) → BeginsStep file old (Expects wanted) a b
+    → AppendsFront a b (check_text file (old.tally.count + 1) (record { made = made; wanted = Some wanted })) → BeginsStep file old (Expects wanted) a b
 text_begun a b file old made wanted is begun accounts f shows =
     subst (AppendsFront a b) (reply_lines file (old.tally.count + 1) old.last made wanted is) begun
 
@@ -128,10 +140,10 @@ pub nothing_written : (file : List ℕ) (old : Run) (wanted : List ℕ) (w : Opt
 nothing_written file old wanted w none accounts f shows =
     subst (λ (last : Option Made). Appends w w (checks_text file (old.tally.count + 1) (reply_check last wanted))) (sym none) (Appends-nil w)
 
-pub nothing_counted : (old new : Run) (wanted : List ℕ) → old.last ≡ None → new.machine ≡ old.machine → new.last ≡ None → new.tally ≡ old.tally
-    → TakesStep old new (Expects wanted)
-nothing_counted old new wanted none machine last tally =
-    text_taken old new wanted machine last
+pub nothing_counted : (old new : Run) (wanted : List ℕ) → old.last ≡ None → new.strict ≡ old.strict → new.machine ≡ old.machine → new.last ≡ None
+    → new.tally ≡ old.tally → TakesStep old new (Expects wanted)
+nothing_counted old new wanted none strict machine last tally =
+    text_taken old new wanted strict machine last
     (tally ∙ tally_none old.tally ∙ ap (λ (l : Option Made). tally_with old.tally (reply_check l wanted)) (sym none))
 
 -- before a question is asked nothing of it is written
@@ -147,6 +159,47 @@ pub after_err : {P Q : Type 0} → (r : Result (Unit {0}) Fault) → (P → Q) �
 after_err (Ok done) holds p = tt
 after_err (Err fault) holds p = holds p
 
+-- what holds of a result without a fault follows from two such
+pub both_ok : {P Q R : Type 0} → (r : Result (Unit {0}) Fault) → (P → Q → R) → OnOk r P → OnOk r Q → OnOk r R
+both_ok (Ok done) holds p q = holds p q
+both_ok (Err fault) holds p q = tt
+
+-- ---- the open call
+
+-- the lines of the check of the open call, if nobody expected its reply
+pub closing_lines : (file : List ℕ) (old : Run) (check : Check) → unexpected old.strict old.last ≡ Some check
+    → check_text file (old.tally.count + 1) check ≡ closing_text file old
+closing_lines file old check is =
+    sym (append-nil (check_text file (old.tally.count + 1) check))
+    ∙ ap (λ (o : Option Check). checks_text file (old.tally.count + 1) (option_to_list o)) (sym is)
+
+-- the call is closed, and there is nothing to count
+pub nothing_closed : (old new : Run) → unexpected old.strict old.last ≡ None → new.strict ≡ old.strict → new.machine ≡ old.machine
+    → new.tally ≡ old.tally → Closes old new
+nothing_closed old new none strict machine tally = record {
+  strict = strict;
+  machine = machine;
+  tally = tally ∙ tally_none old.tally ∙ ap (λ (o : Option Check). tally_with old.tally (option_to_list o)) (sym none);
+}
+
+-- nothing is written then
+pub nothing_said : (file : List ℕ) (old : Run) (w : Option (List ℕ)) → unexpected old.strict old.last ≡ None → Appends w w (closing_text file old)
+nothing_said file old w none =
+    subst (λ (o : Option Check). Appends w w (checks_text file (old.tally.count + 1) (option_to_list o))) (sym none) (Appends-nil w)
+
+-- the call is closed, and its check is counted
+pub closed : (old new : Run) (check : Check) (left : Option Made) → unexpected old.strict old.last ≡ Some check
+    → CountsCheck (record { strict = old.strict; machine = old.machine; last = left; tally = old.tally }) new check → Closes old new
+closed old new check left is counts = record {
+  strict = counts.strict;
+  machine = counts.machine;
+  tally = counts.tally ∙ ap (λ (o : Option Check). tally_with old.tally (option_to_list o)) (sym is);
+}
+
+-- the whole of a text is a beginning of it
+pub all_begun : (a b : Option (List ℕ)) (text : List ℕ) → Appends a b text → AppendsFront a b text
+all_begun a b text all = ([], record { front = text; parts = sym (append-nil text); appended = all })
+
 -- ---- steps one after another
 
 -- The state of a run, starting from a flat state: the machine represents one, and the checks of further steps come after those that were
@@ -154,8 +207,9 @@ after_err (Err fault) holds p = holds p
 pub record IsAt (accounts : Accounts) (f : Flat) (file : List ℕ) (start now : Run) (steps : List Step) (before after : Option (List ℕ)) : Type 0 where
   pub flat : Flat
   pub shows : Shows accounts now.machine flat
+  pub strict : now.strict ≡ start.strict
   pub done : List Check
-  pub goes_on : (later : List Step) → checks_from accounts f start.last (steps ++ later) ≡ done ++ checks_from accounts flat now.last later
+  pub goes_on : (later : List Step) → checks_ahead accounts f start (steps ++ later) ≡ done ++ checks_ahead accounts flat now later
   pub written : Appends before after (checks_text file (start.tally.count + 1) done)
   pub tally : now.tally ≡ tally_with start.tally done
 
@@ -169,6 +223,7 @@ at_start file run w = record {
   from = λ accounts f shows. record {
     flat = f;
     shows = shows;
+    strict = refl;
     done = [];
     goes_on = λ later. refl;
     written = Appends-nil w;
@@ -187,12 +242,12 @@ text_on file start now done more is =
 -- the checks of some steps, of one more and of those after it
 goes_further : {accounts : Accounts} {f : Flat} {file : List ℕ} {start now : Run} {steps : List Step} {before after : Option (List ℕ)} → (step : Step)
     (later : List Step) (at : IsAt accounts f file start now steps before after)
-    → checks_from accounts f start.last (steps ++ step ∷ later)
+    → checks_ahead accounts f start (steps ++ step ∷ later)
     ≡ at.done
-    ++ (check_at accounts at.flat now.last step
-    ++ checks_from accounts (flat_at accounts at.flat step) (last_at accounts at.flat now.last step) later)
+    ++ (check_at now.strict accounts at.flat now.last step
+    ++ checks_from now.strict accounts (flat_at accounts at.flat step) (last_at accounts at.flat now.last step) later)
 goes_further {accounts = accounts} {now = now} step later at =
-    at.goes_on (step ∷ later) ∙ ap (λ (cs : List Check). at.done ++ cs) (check_first accounts at.flat now.last step later)
+    at.goes_on (step ∷ later) ∙ ap (λ (cs : List Check). at.done ++ cs) (check_first now.strict accounts at.flat now.last step later)
 
 -- one more step has been taken
 pub at_more : {file : List ℕ} {start now new : Run} {steps : List Step} {step : Step} {a b : Option (List ℕ)} → (c : Option (List ℕ))
@@ -202,16 +257,17 @@ at_more {file = file} {start = start} {now = now} {new = new} {steps = steps} {s
   from = λ accounts f shows.
       let at = come.from accounts f shows in
       let taken = takes accounts at.flat at.shows in
-      let check = check_at accounts at.flat now.last step in
+      let check = check_at now.strict accounts at.flat now.last step in
       let flat = flat_at accounts at.flat step in
       record {
         flat = flat;
         shows = taken.shows;
+        strict = taken.strict ∙ at.strict;
         done = at.done ++ check;
         goes_on = λ later.
-            ap (checks_from accounts f start.last) (append_assoc steps (step ∷ []) later) ∙ goes_further step later at
-            ∙ ap (λ (last : Option Made). at.done ++ (check ++ checks_from accounts flat last later)) (sym taken.last)
-            ∙ sym (append_assoc at.done check (checks_from accounts flat new.last later));
+            ap (checks_ahead accounts f start) (append_assoc steps (step ∷ []) later) ∙ goes_further step later at
+            ∙ ap₂ (λ (s : Bool) (last : Option Made). at.done ++ (check ++ checks_from s accounts flat last later)) (sym taken.strict) (sym taken.last)
+            ∙ sym (append_assoc at.done check (checks_ahead accounts flat new later));
         written = subst (Appends a c) (sym (text_on file start.tally now.tally at.done check at.tally))
             (Appends-trans a b c (checks_text file (start.tally.count + 1) at.done) (step_text file accounts at.flat now step) at.written
             (more accounts at.flat at.shows));
@@ -225,52 +281,72 @@ pub at_front : {file : List ℕ} {start now : Run} {steps : List Step} {a b : Op
     → BeginsSteps file start all a c
 at_front {file = file} {start = start} {now = now} {a = a} {b = b} step all later c parts come begun accounts f shows =
     let at = come.from accounts f shows in
-    let check = check_at accounts at.flat now.last step in
+    let check = check_at now.strict accounts at.flat now.last step in
     let text_now = step_text file accounts at.flat now step in
-    let rest = checks_from accounts (flat_at accounts at.flat step) (last_at accounts at.flat now.last step) later in
+    let rest = checks_from now.strict accounts (flat_at accounts at.flat step) (last_at accounts at.flat now.last step) later in
     let k = start.tally.count + 1 in
     let more = checks_text file ((now.tally.count + 1) + length check) rest in
-    let text : checks_text file k (checks_from accounts f start.last all) ≡ checks_text file k at.done ++ (text_now ++ more) =
-    ap (λ (s : List Step). checks_text file k (checks_from accounts f start.last s)) parts
+    let text : checks_text file k (checks_ahead accounts f start all) ≡ checks_text file k at.done ++ (text_now ++ more) =
+    ap (λ (s : List Step). checks_text file k (checks_ahead accounts f start s)) parts
     ∙ ap (checks_text file k) (goes_further step later at)
     ∙ text_on file start.tally now.tally at.done (check ++ rest) at.tally
     ∙ ap (λ (t : List ℕ). checks_text file k at.done ++ t) (checks_text-append file (now.tally.count + 1) check rest) in
     subst (AppendsFront a c) (sym text) (front_after a b c (checks_text file k at.done) text_now more at.written
     (begun accounts at.flat at.shows))
 
--- all steps have been taken at the end
-pub at_end : {file : List ℕ} {start now : Run} {steps : List Step} {a b : Option (List ℕ)} → HasCome file start now steps a b
-    → TakesSteps file start now steps a b
-at_end {file = file} {start = start} {steps = steps} {a = a} {b = b} come accounts f shows =
+-- the checks of all steps are those that were written, and then that of the open call
+all_done : {accounts : Accounts} {f : Flat} {file : List ℕ} {start now : Run} {steps : List Step} {before after : Option (List ℕ)}
+    → (at : IsAt accounts f file start now steps before after) → checks_ahead accounts f start steps ≡ at.done ++ closing now
+all_done {accounts = accounts} {f = f} {start = start} {steps = steps} at =
+    ap (checks_ahead accounts f start) (sym (append-nil steps)) ∙ at.goes_on []
+
+-- all steps have been taken at the end, where the open call was closed
+pub at_end : {file : List ℕ} {start now new : Run} {steps : List Step} {a b : Option (List ℕ)} → (c : Option (List ℕ))
+    → HasCome file start now steps a b → Closes now new → Appends b c (closing_text file now) → TakesSteps file start new steps a c
+at_end {file = file} {start = start} {now = now} {steps = steps} {a = a} {b = b} c come closes closing_written accounts f shows =
     let at = come.from accounts f shows in
-    let all : checks_from accounts f start.last steps ≡ at.done =
-    ap (checks_from accounts f start.last) (sym (append-nil steps)) ∙ at.goes_on [] ∙ append-nil at.done in
+    let k = start.tally.count + 1 in
+    let text : checks_text file k (checks_ahead accounts f start steps) ≡ checks_text file k at.done ++ closing_text file now =
+    ap (checks_text file k) (all_done at) ∙ text_on file start.tally now.tally at.done (closing now) at.tally in
     record {
-      written = subst (λ (cs : List Check). Appends a b (checks_text file (start.tally.count + 1) cs)) (sym all) at.written;
-      tally = at.tally ∙ ap (tally_with start.tally) (sym all);
+      written = subst (Appends a c) (sym text) (Appends-trans a b c (checks_text file k at.done) (closing_text file now) at.written closing_written);
+      tally = closes.tally ∙ ap (λ (t : Tally). tally_with t (closing now)) at.tally ∙ tally_more start.tally at.done (closing now)
+          ∙ ap (tally_with start.tally) (sym (all_done at));
     }
+
+-- all steps have been taken, and a beginning of the check of the open call was written
+pub at_last : {file : List ℕ} {start now : Run} {steps : List Step} {a b : Option (List ℕ)} → (c : Option (List ℕ)) → HasCome file start now steps a b
+    → AppendsFront b c (closing_text file now) → BeginsSteps file start steps a c
+at_last {file = file} {start = start} {now = now} {steps = steps} {a = a} {b = b} c come begun accounts f shows =
+    let at = come.from accounts f shows in
+    let k = start.tally.count + 1 in
+    let text : checks_text file k (checks_ahead accounts f start steps) ≡ checks_text file k at.done ++ (closing_text file now ++ []) =
+    ap (checks_text file k) (all_done at) ∙ text_on file start.tally now.tally at.done (closing now) at.tally
+    ∙ ap (λ (t : List ℕ). checks_text file k at.done ++ t) (sym (append-nil (closing_text file now))) in
+    subst (AppendsFront a c) (sym text) (front_after a b c (checks_text file k at.done) (closing_text file now) [] at.written begun)
 
 -- ---- a whole test
 
 -- the steps of a test were taken from its start
-pub test_taken : {accounts : Accounts} {tally : Tally} {start now : Run} (a b : Option (List ℕ)) (file : List ℕ) (steps : List Step)
-    → Starts accounts tally start → TakesSteps file start now steps a b
-    → Appends a b (checks_text file (tally.count + 1) (checks_from accounts (boot accounts) None steps))
-    × (now.tally ≡ tally_with tally (checks_from accounts (boot accounts) None steps))
+pub test_taken : {accounts : Accounts} {strict : Bool} {tally : Tally} {start now : Run} (a b : Option (List ℕ)) (file : List ℕ) (steps : List Step)
+    → Starts accounts strict tally start → TakesSteps file start now steps a b
+    → Appends a b (checks_text file (tally.count + 1) (checks_from strict accounts (boot accounts) None steps))
+    × (now.tally ≡ tally_with tally (checks_from strict accounts (boot accounts) None steps))
 test_taken {accounts = accounts} {now = now} a b file steps starts takes =
     let taken = takes accounts (boot accounts) starts.shows in
-    let Taken : Option Made × Tally → Type 0 = λ at.
-    Appends a b (checks_text file (at.1.count + 1) (checks_from accounts (boot accounts) at.0 steps))
-    × (now.tally ≡ tally_with at.1 (checks_from accounts (boot accounts) at.0 steps)) in
-    subst Taken (λ i. (starts.last i, starts.tally i)) (taken.written, taken.tally)
+    let Taken : Bool × (Option Made × Tally) → Type 0 = λ at.
+    Appends a b (checks_text file (at.1.1.count + 1) (checks_from at.0 accounts (boot accounts) at.1.0 steps))
+    × (now.tally ≡ tally_with at.1.1 (checks_from at.0 accounts (boot accounts) at.1.0 steps)) in
+    subst Taken (λ i. (starts.as_asked i, (starts.last i, starts.tally i))) (taken.written, taken.tally)
 
 -- some steps of a test were taken, and a beginning of the last was written
-pub test_begun : {accounts : Accounts} {tally : Tally} {start : Run} (a b : Option (List ℕ)) (file : List ℕ) (steps : List Step)
-    → Starts accounts tally start → BeginsSteps file start steps a b
-    → AppendsFront a b (checks_text file (tally.count + 1) (checks_from accounts (boot accounts) None steps))
+pub test_begun : {accounts : Accounts} {strict : Bool} {tally : Tally} {start : Run} (a b : Option (List ℕ)) (file : List ℕ) (steps : List Step)
+    → Starts accounts strict tally start → BeginsSteps file start steps a b
+    → AppendsFront a b (checks_text file (tally.count + 1) (checks_from strict accounts (boot accounts) None steps))
 test_begun {accounts = accounts} a b file steps starts begins =
-    subst (λ (at : Option Made × Tally). AppendsFront a b (checks_text file (at.1.count + 1) (checks_from accounts (boot accounts) at.0 steps)))
-    (λ i. (starts.last i, starts.tally i)) (begins accounts (boot accounts) starts.shows)
+    subst (λ (at : Bool × (Option Made × Tally)).
+    AppendsFront a b (checks_text file (at.1.1.count + 1) (checks_from at.0 accounts (boot accounts) at.1.0 steps)))
+    (λ i. (starts.as_asked i, (starts.last i, starts.tally i))) (begins accounts (boot accounts) starts.shows)
 
 -- a list is the part before a place, the element there, and the part after it
 pub parts_at : {X : Type 0} → (all front : List X) (x : X) → front ≡ take (length front) all

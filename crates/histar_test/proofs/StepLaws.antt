@@ -128,7 +128,7 @@ counted_on step rest = sum_by-append _ (step ∷ []) rest
 
 -- steps in their order have a check for each expectation
 pub steps_counted : (accounts : Accounts) (f : Flat) (last : Option Made) (steps : List Step) → is_in_order (is_some last) steps ≡ true
-    → length (checks_from accounts f last steps) ≡ expectation_count steps
+    → length (checks_from false accounts f last steps) ≡ expectation_count steps
 steps_counted accounts f last [] ordered = refl
 steps_counted accounts f last (Makes c said ∷ steps) ordered =
     let on = steps_counted accounts (flat_after accounts f c.process c.call) (Some (made_of accounts f c said)) steps ordered in
@@ -331,7 +331,7 @@ tests_make_the_calls text script test is reads =
     )
 
 -- a test has as many checks as expectations
-pub test_counted : (text : List ℕ) (test : Test) → test_of text ≡ Ok test → length (checks_of test) ≡ expectation_count test.steps
+pub test_counted : (text : List ℕ) (test : Test) → test_of text ≡ Ok test → length (checks_of false test) ≡ expectation_count test.steps
 test_counted text test reads =
     let is = read_as text test reads in
     steps_counted test.accounts (boot test.accounts) None test.steps (in_order 1 false (lines_of text) test.steps is.are_steps)

@@ -1,6 +1,6 @@
--- The checks of a test: each expectation beside the reply to its call, each question beside the rights that it asks for, and their text in
--- the form of the Test Anything Protocol.
-use Rattle.std.specs.Prelude.{ℕ, ◌+◌, Bool, List, [], ◌∷◌, ◌++◌, codes, decimal, Option, None, Some, ◌==◌, ◌||◌, if◌then◌else◌}
+-- The checks of a test: each expectation beside the reply to its call, each question beside the rights that it asks for, each refusal that
+-- nobody expected if the test is strict, and their text in the form of the Test Anything Protocol.
+use Rattle.std.specs.Prelude.{ℕ, ◌+◌, Bool, true, false, List, [], ◌∷◌, ◌++◌, codes, decimal, Option, None, Some, ◌==◌, ◌||◌, if◌then◌else◌, option_to_list}
 use Rattle.std.specs.List.{flat_map}
 use Rattle.std.specs.Str.{bytes_eq}
 use Rattle.histar_flat.specs.declared.calls.CallLine.{CallLine}
@@ -9,6 +9,7 @@ use Rattle.histar_flat.specs.FlatState.{Flat}
 use Rattle.histar_flat.specs.FlatCalls.{reply_to, flat_after}
 use Rattle.histar_flat.specs.Meaning.{boot}
 use Rattle.histar_flat.specs.Texts.{reply_text}
+use Rattle.histar_reasons.specs.Laws.{is_refusal}
 use Rattle.histar_test.specs.declared.checks.Check.{Check}
 use Rattle.histar_test.specs.declared.checks.Made.{Made}
 use Rattle.histar_rights.specs.Rights.{rights_text}
@@ -18,34 +19,45 @@ use Rattle.histar_test.specs.declared.steps.Step.{Step}
 use Rattle.histar_test.specs.declared.steps.Step.TheVariants.{Makes, Expects, Asks}
 use Rattle.histar_test.specs.Steps.{Test}
 
--- the check is met: the reply or the rights have the expected text
+-- the check is met: the reply or the rights have the expected text, and one is expected
 abbrev pub is_met : Check → Bool
-is_met c = bytes_eq c.made.reply c.wanted
+is_met c = elim c.wanted [ None ↦ false | Some wanted ↦ bytes_eq c.made.reply wanted ]
 
 -- a call that is made in a flat state, on a line with this text
 abbrev pub made_of : Accounts → Flat → CallLine → List ℕ → Made
-made_of accounts f c said = record { line = c.line; said = said; reply = reply_text (reply_to accounts f c.process c.call) }
+made_of accounts f c said =
+    let reply = reply_to accounts f c.process c.call in
+    record { line = c.line; said = said; reply = reply_text reply; is_refused = is_refusal reply }
 
 -- a question in a flat state, beside the letters of the rights that it asks for
 abbrev pub asked_in : Accounts → Flat → Question → Made
-asked_in accounts f q = record { line = q.line; said = q.said; reply = rights_text (rights_of accounts f q.path q.process) }
+asked_in accounts f q = record { line = q.line; said = q.said; reply = rights_text (rights_of accounts f q.path q.process); is_refused = false }
 
 -- the check of a question in a flat state
 abbrev pub question_check : Accounts → Flat → Question → Check
-question_check accounts f q = record { made = asked_in accounts f q; wanted = rights_text q.wanted }
+question_check accounts f q = record { made = asked_in accounts f q; wanted = Some (rights_text q.wanted) }
 
--- the checks of steps from a flat state on, given the call that is open before them, if one is
-abbrev pub checks_from : Accounts → Flat → Option Made → List Step → List Check
-checks_from accounts f last [] = []
-checks_from accounts f last (Makes c said ∷ steps) =
-    checks_from accounts (flat_after accounts f c.process c.call) (Some (made_of accounts f c said)) steps
-checks_from accounts f None (Expects text ∷ steps) = checks_from accounts f None steps
-checks_from accounts f (Some made) (Expects text ∷ steps) = record { made = made; wanted = text } ∷ checks_from accounts f None steps
-checks_from accounts f last (Asks q ∷ steps) = question_check accounts f q ∷ checks_from accounts f last steps
+-- the check of a call that is still open at the next call or at the end, if one is: a strict test has one if the reply is a refusal
+abbrev pub unexpected : Bool → Option Made → Option Check
+unexpected false last = None
+unexpected true None = None
+unexpected true (Some made) = if made.is_refused then Some (record { made = made; wanted = None }) else None
 
--- the checks of a test: replies and rights are those of the meaning of its calls
-abbrev pub checks_of : Test → List Check
-checks_of test = checks_from test.accounts (boot test.accounts) None test.steps
+-- The checks of steps from a flat state on, given the call that is open before them, if one is. Those of a strict test are also the refusals
+-- that nobody expected.
+abbrev pub checks_from : Bool → Accounts → Flat → Option Made → List Step → List Check
+checks_from strict accounts f last [] = option_to_list (unexpected strict last)
+checks_from strict accounts f last (Makes c said ∷ steps) =
+    option_to_list (unexpected strict last)
+    ++ checks_from strict accounts (flat_after accounts f c.process c.call) (Some (made_of accounts f c said)) steps
+checks_from strict accounts f None (Expects text ∷ steps) = checks_from strict accounts f None steps
+checks_from strict accounts f (Some made) (Expects text ∷ steps) =
+    record { made = made; wanted = Some text } ∷ checks_from strict accounts f None steps
+checks_from strict accounts f last (Asks q ∷ steps) = question_check accounts f q ∷ checks_from strict accounts f last steps
+
+-- the checks of a test, strict or not: replies and rights are those of the meaning of its calls
+abbrev pub checks_of : Bool → Test → List Check
+checks_of strict test = checks_from strict test.accounts (boot test.accounts) None test.steps
 
 -- a byte of a description: a backslash comes before `#`, which would begin a directive, and before a backslash
 abbrev pub escaped_byte : ℕ → List ℕ
@@ -63,9 +75,14 @@ description file made = flat_map escaped_byte (place_text file made)
 abbrev pub result_line : List ℕ → List ℕ → ℕ → Made → List ℕ
 result_line word file k made = word ++ decimal k ++ codes " - " ++ description file made ++ codes "\n"
 
--- the line with the expected text, and the reply or the rights
+-- the beginning of the line behind an unmet check: the expected text, or that nobody expected the reply
+abbrev pub expected_text : Option (List ℕ) → List ℕ
+expected_text None = codes "# nobody expected "
+expected_text (Some wanted) = codes "# expected " ++ wanted ++ codes ", was "
+
+-- the line with the expected text, if there is one, and the reply or the rights
 abbrev pub difference_text : Check → List ℕ
-difference_text c = codes "# expected " ++ c.wanted ++ codes ", was " ++ c.made.reply ++ codes "\n"
+difference_text c = expected_text c.wanted ++ c.made.reply ++ codes "\n"
 
 -- the lines of check k of a file
 abbrev pub check_text : List ℕ → ℕ → Check → List ℕ

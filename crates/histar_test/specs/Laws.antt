@@ -1,9 +1,10 @@
 -- What a test guarantees.
-use Rattle.std.specs.Prelude.{◌≡◌, ◌↔◌, ℕ, ◌+◌, ◌||◌, true, Bool, List, [], ◌∷◌, ◌++◌, Some, Ok, MatchOption, is_some, if◌then◌else◌}
+use Rattle.std.specs.Prelude.{◌≡◌, ◌↔◌, ℕ, ◌+◌, ◌||◌, true, false, Bool, List, [], ◌∷◌, ◌++◌, Some, Ok, MatchOption, is_some, if◌then◌else◌}
 use Rattle.std.specs.List.{AllZip}
 use Rattle.std.specs.Option.{IsSomeAnd}
 use Rattle.histar_flat.specs.Meaning.{RepliedCall, meaning}
 use Rattle.histar_flat.specs.Texts.{reply_text}
+use Rattle.histar_reasons.specs.Laws.{is_refusal}
 use Rattle.histar_script.specs.Lines.{lines_of}
 use Rattle.histar_script.specs.Script.{ScriptModel}
 use Rattle.histar_script.specs.Reading.{script_of}
@@ -43,16 +44,16 @@ wanting_in text = wanting_from 1 (lines_of text)
 -- the check expects what is on the line: this text of a reply, or these letters of rights
 abbrev pub IsExpectedOn : NumberedLine → Check → Type 0
 IsExpectedOn line check = MatchOption (asked_of line.text)
-    (expectation_of line.text ≡ Some check.wanted)
-    (λ asked. IsSomeAnd (question_of line.number asked) (λ q. check.wanted ≡ rights_text q.wanted))
+    (IsSomeAnd (expectation_of line.text) (λ text. check.wanted ≡ Some text))
+    (λ asked. IsSomeAnd (question_of line.number asked) (λ q. check.wanted ≡ Some (rights_text q.wanted)))
 
 -- each line of the text that expects or asks is checked, once and in its order
 abbrev pub ExpectationsAreChecked : Type 0
-ExpectationsAreChecked = (text : List ℕ) (test : Test) → test_of text ≡ Ok test → AllZip IsExpectedOn (wanting_in text) (checks_of test)
+ExpectationsAreChecked = (text : List ℕ) (test : Test) → test_of text ≡ Ok test → AllZip IsExpectedOn (wanting_in text) (checks_of false test)
 
--- the call is on this line, and the reply has this text
+-- the call is on this line, and the reply has this text; it is marked where it is a refusal
 abbrev pub IsAnswer : Made → RepliedCall → Type 0
-IsAnswer made a = (a.call.line ≡ made.line) × (reply_text a.reply ≡ made.reply)
+IsAnswer made a = (a.call.line ≡ made.line) × (reply_text a.reply ≡ made.reply) × (is_refusal a.reply ≡ made.is_refused)
 
 -- the last of some calls with their replies has this line and this reply
 pub record IsLastAnswer (made : Made) (answers : List RepliedCall) : Type 0 where
@@ -72,7 +73,7 @@ IsOfTheMeaning script line check = MatchOption (asked_of line.text)
 -- each check is of the script's meaning for its line
 abbrev pub ChecksAreOfTheMeaning : Type 0
 ChecksAreOfTheMeaning = (text : List ℕ) (script : ScriptModel) (test : Test) → script_of text ≡ Ok script → test_of text ≡ Ok test
-    → AllZip (IsOfTheMeaning script) (wanting_in text) (checks_of test)
+    → AllZip (IsOfTheMeaning script) (wanting_in text) (checks_of false test)
 
 -- These letters are the answers to the process of a question at its path, after the calls on the lines before line n; and the question is
 -- met exactly if it expects them.

@@ -1,5 +1,5 @@
 -- Relations of a run of a test: a machine takes its steps, and the checks are written.
-use Rattle.std.specs.Prelude.{◌≡◌, ℕ, ◌+◌, ◌&&◌, List, [], ◌∷◌, length, Option, None, Some}
+use Rattle.std.specs.Prelude.{◌≡◌, ℕ, ◌+◌, ◌&&◌, Bool, List, [], ◌∷◌, length, Option, None, Some, option_to_list}
 use Rattle.std.specs.List.{list_all}
 use Rattle.std.specs.Io.KnownBytes.{Appends}
 use Rattle.histar_io.specs.Writing.{AppendsFront}
@@ -18,7 +18,7 @@ use Rattle.histar_test.specs.declared.running.Tally.{Tally}
 use Rattle.histar_test.specs.declared.questions.Question.{Question}
 use Rattle.histar_test.specs.declared.steps.Step.{Step}
 use Rattle.histar_test.specs.declared.steps.Step.TheVariants.{Makes, Expects, Asks}
-use Rattle.histar_test.specs.Checks.{is_met, made_of, checks_from, checks_text, question_check}
+use Rattle.histar_test.specs.Checks.{is_met, made_of, checks_from, checks_text, question_check, unexpected}
 
 -- the tally with these checks counted too
 abbrev pub tally_with : Tally → List Check → Tally
@@ -39,24 +39,37 @@ last_at accounts f last (Asks q) = last
 -- the check of an expectation, given the open call before it, if one is
 abbrev pub reply_check : Option Made → List ℕ → List Check
 reply_check None wanted = []
-reply_check (Some made) wanted = record { made = made; wanted = wanted } ∷ []
+reply_check (Some made) wanted = record { made = made; wanted = Some wanted } ∷ []
 
--- the check of a step, if it has one, in a flat state, given the open call before it
-abbrev pub check_at : Accounts → Flat → Option Made → Step → List Check
-check_at accounts f last (Makes c said) = []
-check_at accounts f last (Expects text) = reply_check last text
-check_at accounts f last (Asks q) = question_check accounts f q ∷ []
+-- the check of a step, if it has one, in a flat state, given the open call before it; a call has that of the open call
+abbrev pub check_at : Bool → Accounts → Flat → Option Made → Step → List Check
+check_at strict accounts f last (Makes c said) = option_to_list (unexpected strict last)
+check_at strict accounts f last (Expects text) = reply_check last text
+check_at strict accounts f last (Asks q) = question_check accounts f q ∷ []
 
 -- the lines of the check of a step, if it has one
 abbrev pub step_text : List ℕ → Accounts → Flat → Run → Step → List ℕ
-step_text file accounts f run step = checks_text file (run.tally.count + 1) (check_at accounts f run.last step)
+step_text file accounts f run step = checks_text file (run.tally.count + 1) (check_at run.strict accounts f run.last step)
+
+-- the check of the open call, if nobody expected its reply
+abbrev pub closing : Run → List Check
+closing run = option_to_list (unexpected run.strict run.last)
+
+-- the lines of the check of the open call, if nobody expected its reply
+abbrev pub closing_text : List ℕ → Run → List ℕ
+closing_text file run = checks_text file (run.tally.count + 1) (closing run)
+
+-- the checks of steps from a flat state on, which a run takes
+abbrev pub checks_ahead : Accounts → Flat → Run → List Step → List Check
+checks_ahead accounts f run steps = checks_from run.strict accounts f run.last steps
 
 -- memory ran out
 abbrev pub IsMemory : Fault → Type 0
 IsMemory fault = fault ≡ OutOfMemory
 
 -- a run begins: the machine represents the flat start with these accounts, no call is open, and the checks of earlier files are counted
-pub record Starts (accounts : Accounts) (before : Tally) (run : Run) : Type 0 where
+pub record Starts (accounts : Accounts) (strict : Bool) (before : Tally) (run : Run) : Type 0 where
+  pub as_asked : run.strict ≡ strict
   pub shows : ShowsStart accounts run.machine
   pub last : run.last ≡ None
   pub tally : run.tally ≡ before
@@ -76,15 +89,31 @@ AsksMachine machine question check = (accounts : Accounts) (f : Flat) → Shows 
 
 -- a check was counted, and nothing else was done
 pub record CountsCheck (old new : Run) (check : Check) : Type 0 where
+  pub strict : new.strict ≡ old.strict
   pub machine : new.machine ≡ old.machine
   pub last : new.last ≡ old.last
   pub tally : new.tally ≡ tally_with old.tally (check ∷ [])
 
+-- the check of the open call was counted, if nobody expected its reply
+pub record Closes (old new : Run) : Type 0 where
+  pub strict : new.strict ≡ old.strict
+  pub machine : new.machine ≡ old.machine
+  pub tally : new.tally ≡ tally_with old.tally (closing old)
+
+-- a call was made on the machine of a run, and is open; nothing was counted
+pub record Calls (old new : Run) (call : CallLine) (said : List ℕ) : Type 0 where
+  pub strict : new.strict ≡ old.strict
+  pub made : Made
+  pub makes : MakesCall old.machine new.machine call said made
+  pub last : new.last ≡ Some made
+  pub tally : new.tally ≡ old.tally
+
 -- a step was taken from a flat state, and its check was counted
 pub record IsTaken (accounts : Accounts) (f : Flat) (old new : Run) (step : Step) : Type 0 where
+  pub strict : new.strict ≡ old.strict
   pub shows : Shows accounts new.machine (flat_at accounts f step)
   pub last : new.last ≡ last_at accounts f old.last step
-  pub tally : new.tally ≡ tally_with old.tally (check_at accounts f old.last step)
+  pub tally : new.tally ≡ tally_with old.tally (check_at old.strict accounts f old.last step)
 
 -- whatever flat state the machine represented, the step was taken from it
 abbrev pub TakesStep : Run → Run → Step → Type 0
@@ -102,8 +131,8 @@ BeginsStep file old step before after =
 
 -- steps were taken from a flat state: their checks were written, and counted
 pub record AreTaken (accounts : Accounts) (f : Flat) (file : List ℕ) (old new : Run) (steps : List Step) (before after : Option (List ℕ)) : Type 0 where
-  pub written : Appends before after (checks_text file (old.tally.count + 1) (checks_from accounts f old.last steps))
-  pub tally : new.tally ≡ tally_with old.tally (checks_from accounts f old.last steps)
+  pub written : Appends before after (checks_text file (old.tally.count + 1) (checks_ahead accounts f old steps))
+  pub tally : new.tally ≡ tally_with old.tally (checks_ahead accounts f old steps)
 
 -- whatever flat state the machine represented, the steps were taken from it
 abbrev pub TakesSteps : List ℕ → Run → Run → List Step → Option (List ℕ) → Option (List ℕ) → Type 0
@@ -114,4 +143,4 @@ TakesSteps file old new steps before after =
 abbrev pub BeginsSteps : List ℕ → Run → List Step → Option (List ℕ) → Option (List ℕ) → Type 0
 BeginsSteps file old steps before after =
     (accounts : Accounts) (f : Flat) → Shows accounts old.machine f
-    → AppendsFront before after (checks_text file (old.tally.count + 1) (checks_from accounts f old.last steps))
+    → AppendsFront before after (checks_text file (old.tally.count + 1) (checks_ahead accounts f old steps))

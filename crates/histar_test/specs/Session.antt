@@ -1,5 +1,5 @@
 -- Testing files: their checks, numbered through all of them.
-use Rattle.std.specs.Prelude.{◌≡◌, ℕ, ◌+◌, ◌⊎◌, Bool, List, [], ◌∷◌, ◌++◌, length, codes, decimal, Option, Result, Ok, Err}
+use Rattle.std.specs.Prelude.{◌≡◌, ℕ, ◌+◌, ◌⊎◌, Bool, true, false, List, [], ◌∷◌, ◌++◌, length, codes, decimal, Option, Result, Ok, Err}
 use Rattle.std.specs.List.{AllZip, flat_map, list_all, sum_by}
 use Rattle.std.specs.Global.{Vec}
 use Rattle.std.specs.Io.KnownBytes.{Appends, Keeps}
@@ -7,6 +7,7 @@ use Rattle.histar_io.specs.Writing.{AppendsFront}
 use Rattle.histar_script.specs.declared.fault.Fault.{Fault}
 use Rattle.histar_script.specs.declared.fault.Fault.TheVariants.{BadScript, TooLong, OutOfMemory, ReadFailed, WriteFailed}
 use Rattle.histar_test.specs.declared.checks.Check.{Check}
+use Rattle.histar_test.specs.declared.running.Tally.{Tally}
 use Rattle.histar_test.specs.declared.session.NamedTest.{NamedTest}
 use Rattle.histar_test.specs.declared.session.TestFile.{TestFile}
 use Rattle.histar_test.specs.Steps.{Test, expectation_count, test_of}
@@ -30,23 +31,25 @@ check_count files = length (flat_map (λ file. file.checks) files)
 abbrev pub plan_text : ℕ → List ℕ
 plan_text count = codes "1.." ++ decimal count ++ codes "\n"
 
--- the text that is written of files: the number of their checks, and a line or two for each
-abbrev pub report_text : List Checked → List ℕ
-report_text files = plan_text (check_count files) ++ files_text 1 files
+-- the text that is written of files: a line or two for each check, behind the number of checks, or before it in a strict test
+abbrev pub report_text : Bool → List Checked → List ℕ
+report_text false files = plan_text (check_count files) ++ files_text 1 files
+report_text true files = files_text 1 files ++ plan_text (check_count files)
 
 -- all expectations are met
 abbrev pub are_met : List Checked → Bool
 are_met files = list_all (λ file. list_all is_met file.checks) files
 
 -- the file is a script that is a test, with these checks
-abbrev pub IsChecked : TestFile → Checked → Type 0
-IsChecked file checked = (test : Test) × (test_of file.text.items ≡ Ok test) × (checked ≡ record { name = file.name.items; checks = checks_of test })
+abbrev pub IsChecked : Bool → TestFile → Checked → Type 0
+IsChecked strict file checked =
+    (test : Test) × (test_of file.text.items ≡ Ok test) × (checked ≡ record { name = file.name.items; checks = checks_of strict test })
 
 -- Each file is a test, and their text was written as far as the predicate says.
-pub record Reports (written : List ℕ → Type 0) (files : List TestFile) (is : List Checked → Type 0) : Type 0 where
+pub record Reports (written : List ℕ → Type 0) (strict : Bool) (files : List TestFile) (is : List Checked → Type 0) : Type 0 where
   pub checked : List Checked
-  pub each : AllZip IsChecked files checked
-  pub appended : written (report_text checked)
+  pub each : AllZip (IsChecked strict) files checked
+  pub appended : written (report_text strict checked)
   pub holds : is checked
 
 -- the first file that is no test has this fault
@@ -56,24 +59,29 @@ pub record IsFirstFault (files : List TestFile) (fault : Fault) : Type 0 where
   pub after : List TestFile
   pub parts : files ≡ before ++ file ∷ after
   pub right : List Checked
-  pub each : AllZip IsChecked before right
+  pub each : AllZip (IsChecked false) before right
   pub bad : test_of file.text.items ≡ Err fault
 
 -- The checks of all files were written, and the result is whether all are met; or the fault of the first bad file is returned, and nothing
 -- was written. At a failed write a beginning was written, and if memory runs out that or nothing.
-abbrev pub TestsFiles : List TestFile → Option (List ℕ) → Option (List ℕ) → Result Bool Fault → Type 0
-TestsFiles files old new (Ok met) = Reports (Appends old new) files (λ checked. met ≡ are_met checked)
-TestsFiles files old new (Err (BadScript n)) = IsFirstFault files (BadScript n) × Keeps old new
-TestsFiles files old new (Err TooLong) = IsFirstFault files TooLong × Keeps old new
-TestsFiles files old new (Err OutOfMemory) = Keeps old new ⊎ Reports (AppendsFront old new) files (λ checked. Unit {0})
-TestsFiles files old new (Err WriteFailed) = Reports (AppendsFront old new) files (λ checked. Unit {0})
-TestsFiles files old new (Err ReadFailed) = ⊥
+abbrev pub TestsFiles : Bool → List TestFile → Option (List ℕ) → Option (List ℕ) → Result Bool Fault → Type 0
+TestsFiles strict files old new (Ok met) = Reports (Appends old new) strict files (λ checked. met ≡ are_met checked)
+TestsFiles strict files old new (Err (BadScript n)) = IsFirstFault files (BadScript n) × Keeps old new
+TestsFiles strict files old new (Err TooLong) = IsFirstFault files TooLong × Keeps old new
+TestsFiles strict files old new (Err OutOfMemory) = Keeps old new ⊎ Reports (AppendsFront old new) strict files (λ checked. Unit {0})
+TestsFiles strict files old new (Err WriteFailed) = Reports (AppendsFront old new) strict files (λ checked. Unit {0})
+TestsFiles strict files old new (Err ReadFailed) = ⊥
 
 -- ---- the parts
 
 -- a test with the name of its file, and its checks
-abbrev pub checked_of : NamedTest → Checked
-checked_of named = record { name = named.name; checks = checks_of named.test }
+abbrev pub checked_of : Bool → NamedTest → Checked
+checked_of strict named = record { name = named.name; checks = checks_of strict named.test }
+
+-- these are counted: all checks of files, and whether all are met
+pub record CountsAll (tally : Tally) (files : List Checked) : Type 0 where
+  pub count : tally.count ≡ check_count files
+  pub met : tally.are_met ≡ are_met files
 
 -- the file is this test
 pub record IsTestOf (file : TestFile) (named : NamedTest) : Type 0 where

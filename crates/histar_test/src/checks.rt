@@ -1,9 +1,9 @@
-//! A check: an expectation beside the reply to its call, or a question beside the rights that it asks for,
-//! and its text.
+//! A check: an expectation beside the reply to its call, a question beside the rights that it asks for, or a
+//! refusal that nobody expected; and its text.
 ghost use Rattle.std.specs.Prelude.{◌≡◌, ◌++◌, IfOk, OnOk, decimal};
 ghost use Rattle.std.specs.List.{flat_map};
 ghost use Rattle.histar_test.specs.Checks.{check_text, difference_text, escaped_byte};
-ghost use Rattle.histar_test.specs.Checks.{is_met, place_text, result_line};
+ghost use Rattle.histar_test.specs.Checks.{expected_text, is_met, place_text, result_line, unexpected};
 
 use histar_base::Bytes;
 use itoa::Buffer;
@@ -18,13 +18,16 @@ pub struct Made {
     pub said: Bytes,
     /// The text of the reply, or the letters of the rights.
     pub reply: Bytes,
+    /// Whether the reply is a refusal.
+    pub is_refused: bool,
 }
 
 /// The expected answer to a call or a question, and the actual one.
 #[derive(Drop)]
 pub struct Check {
     pub made: Made,
-    pub wanted: Bytes,
+    /// The text that is expected, or `None` if nobody expected the reply.
+    pub wanted: Option<Bytes>,
 }
 
 impl Check {
@@ -32,8 +35,23 @@ impl Check {
     pub fn is_met(&self) -> bool
         ensures { result ≡ is_met self.now }
     {
-        self.made.reply.as_slice() == self.wanted.as_slice()
+        let Some(wanted) = &self.wanted else {
+            return false;
+        };
+        self.made.reply.as_slice() == wanted.as_slice()
     }
+}
+
+/// Returns the check of a call that is open where nobody can expect its reply any more. Only a strict test has
+/// one, and only of a refusal.
+pub(crate) fn unexpected(strict: bool, last: Option<Made>) -> Option<Check>
+    ensures { result ≡ unexpected strict last }
+{
+    let made = last?;
+    if !strict || !made.is_refused {
+        return None;
+    }
+    Some(Check { made, wanted: None })
 }
 
 /// Adds a number, in decimal digits.
@@ -96,13 +114,23 @@ fn result_line(
     Ok(text)
 }
 
-/// Adds a line with the expected answer and the actual one.
+/// Adds the expected answer, or that nobody expected one.
+fn push_expected(text: &mut Vec<u8>, wanted: &Option<Bytes>) -> Result<(), AllocError>
+    ensures { OnOk result (text.new.items ≡ text.old.items ++ expected_text wanted.now) }
+{
+    let Some(wanted) = wanted else {
+        return text.extend_from_slice(b"# nobody expected ");
+    };
+    text.extend_from_slice(b"# expected ")?;
+    text.extend_from_slice(wanted.as_slice())?;
+    text.extend_from_slice(b", was ")
+}
+
+/// Adds a line with the expected answer, if there is one, and the actual one.
 fn push_difference(text: &mut Vec<u8>, check: &Check) -> Result<(), AllocError>
     ensures { OnOk result (text.new.items ≡ text.old.items ++ difference_text check.now) }
 {
-    text.extend_from_slice(b"# expected ")?;
-    text.extend_from_slice(check.wanted.as_slice())?;
-    text.extend_from_slice(b", was ")?;
+    push_expected(text, &check.wanted)?;
     text.extend_from_slice(check.made.reply.as_slice())?;
     text.extend_from_slice(b"\n")?;
     Ok(())

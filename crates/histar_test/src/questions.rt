@@ -102,6 +102,14 @@ pub(crate) fn ask(
     let rights = rights_of(machine, &asked, &process);
     let reply = letters(alloc, rights)?;
     let wanted = letters(alloc, wanted)?;
-    let made = Made { line, said, reply };
-    Ok(Check { made, wanted })
+    let made = Made {
+        line,
+        said,
+        reply,
+        is_refused: false,
+    };
+    Ok(Check {
+        made,
+        wanted: Some(wanted),
+    })
 }

@@ -4,16 +4,17 @@ ghost use Rattle.std.specs.Io.KnownBytes.{Appends};
 ghost use Rattle.histar_io.specs.Device.{CountsFailure};
 ghost use Rattle.histar_io.specs.Writing.{AppendsFront};
 ghost use Rattle.histar_script.specs.Runs.{IsOutputFault, is_write_failed};
+ghost use Rattle.histar_reasons.specs.Laws.{is_refusal};
 ghost use Rattle.histar_script.specs.Script.{IsDeclared};
 ghost use Rattle.histar_test.specs.Checks.{check_text};
-ghost use Rattle.histar_test.specs.Running.{BeginsStep, BeginsSteps, CountsCheck, IsMemory, MakesCall};
-ghost use Rattle.histar_test.specs.Running.{Starts, TakesStep, TakesSteps, WritesStep};
+ghost use Rattle.histar_test.specs.Running.{BeginsStep, BeginsSteps, Calls, Closes, CountsCheck, IsMemory, MakesCall};
+ghost use Rattle.histar_test.specs.Running.{Starts, TakesStep, TakesSteps, WritesStep, closing_text};
 
-use crate::checks::{Check, Made, check_text};
+use crate::checks::{Check, Made, check_text, unexpected};
 use crate::questions::{Question, ask};
 use crate::steps::Step;
 use histar_base::Bytes;
-use histar_flat::{Accounts, CallLine};
+use histar_flat::{Accounts, CallLine, Reply};
 use histar_io::{Sink, write_bytes};
 use histar_label::InternStore;
 use histar_prefix::discard;
@@ -34,6 +35,8 @@ pub(crate) struct Tally {
 /// The state of the run of a script.
 #[derive(Drop)]
 pub(crate) struct Run {
+    /// Whether a refusal that nobody expected is a check too.
+    pub strict: bool,
     pub machine: Machine<InternStore>,
     /// The call that was made last, unless its reply was checked already.
     pub last: Option<Made>,
@@ -42,9 +45,14 @@ pub(crate) struct Run {
 
 impl Run {
     /// Boots a machine for a script.
-    pub(crate) fn start(alloc: Global, accounts: Accounts, tally: Tally) -> Result<Run, Fault>
+    pub(crate) fn start(
+        alloc: Global,
+        accounts: Accounts,
+        strict: bool,
+        tally: Tally,
+    ) -> Result<Run, Fault>
         requires { IsDeclared accounts }
-        ensures ok { IfOk result (Starts accounts tally) }
+        ensures ok { IfOk result (Starts accounts strict tally) }
         ensures faults { IfErr result IsMemory }
     {
         let store = InternStore::new(alloc, REMEMBERED_ANSWERS)?;
@@ -52,6 +60,7 @@ impl Run {
             return Err(Fault::OutOfMemory);
         };
         Ok(Run {
+            strict,
             machine,
             last: None,
             tally,
@@ -63,6 +72,7 @@ impl Run {
         ensures { result ≡ self.tally }
     {
         let Run {
+            strict: _,
             machine,
             last,
             tally,
@@ -74,7 +84,7 @@ impl Run {
 
     /// Makes a call on the machine; it is then the last one.
     fn make_call(&mut self, alloc: Global, call: CallLine, said: Bytes) -> Result<(), Fault>
-        ensures ok { OnOk result (TakesStep self.old self.new (Step.Makes call said)) }
+        ensures ok { OnOk result (Calls self.old self.new call said) }
         ensures faults { IfErr result IsMemory }
     {
         let made = make_call(alloc, &mut self.machine, call, said)?;
@@ -110,6 +120,47 @@ impl Run {
         Ok(())
     }
 
+    /// Writes that nobody expected the reply to the call that is open, if a strict test has that check, and closes
+    /// the call.
+    fn close<W: Sink>(&mut self, alloc: Global, file: &[u8], writer: &mut W) -> Result<(), Fault>
+        ensures ok { OnOk result (Closes self.old self.new) }
+        ensures written { OnOk result (Appends (W.written writer.old) (W.written writer.new)
+            (closing_text file.now self.old)) }
+        ensures err { OnErr result (AppendsFront (W.written writer.old) (W.written writer.new)
+            (closing_text file.now self.old)) }
+        ensures faults { IfErr result IsOutputFault }
+        ensures count { CountsFailure (W.failures writer.old) (W.failures writer.new)
+            (is_write_failed result) }
+    {
+        let last = self.last.take();
+        let Some(check) = unexpected(self.strict, last) else {
+            return Ok(());
+        };
+        self.count_check(alloc, file, &check, writer)
+    }
+
+    /// Closes the call that is open, and makes a call; it is then the open one.
+    fn call_next<W: Sink>(
+        &mut self,
+        alloc: Global,
+        file: &[u8],
+        call: CallLine,
+        said: Bytes,
+        writer: &mut W,
+    ) -> Result<(), Fault>
+        ensures ok { OnOk result (TakesStep self.old self.new (Step.Makes call said)) }
+        ensures written { OnOk result (WritesStep file.now self.old (Step.Makes call said)
+            (W.written writer.old) (W.written writer.new)) }
+        ensures err { OnErr result (BeginsStep file.now self.old (Step.Makes call said)
+            (W.written writer.old) (W.written writer.new)) }
+        ensures faults { IfErr result IsOutputFault }
+        ensures count { CountsFailure (W.failures writer.old) (W.failures writer.new)
+            (is_write_failed result) }
+    {
+        self.close(alloc, file, writer)?;
+        self.make_call(alloc, call, said)
+    }
+
     /// Writes whether the reply to the last call has this text. It does so once for each call.
     fn check_reply<W: Sink>(
         &mut self,
@@ -130,7 +181,10 @@ impl Run {
         let Some(made) = self.last.take() else {
             return Ok(());
         };
-        let check = Check { made, wanted };
+        let check = Check {
+            made,
+            wanted: Some(wanted),
+        };
         self.count_check(alloc, file, &check, writer)
     }
 
@@ -173,14 +227,14 @@ impl Run {
             (is_write_failed result) }
     {
         match step {
-            Step::Makes(call, said) => self.make_call(alloc, call, said),
+            Step::Makes(call, said) => self.call_next(alloc, file, call, said, writer),
             Step::Expects(wanted) => self.check_reply(alloc, file, wanted, writer),
             Step::Asks(question) => self.check_rights(alloc, file, question, writer),
         }
     }
 
-    /// Takes steps in their order, and writes for each expectation and question whether it is met, as soon as
-    /// that is known.
+    /// Takes all steps of a test in their order, and writes for each expectation and question whether it is met,
+    /// as soon as that is known.
     pub(crate) fn take_steps<W: Sink>(
         &mut self,
         alloc: Global,
@@ -199,8 +253,15 @@ impl Run {
         'steps: for step in steps {
             self.take_step(alloc, file, step, writer)?;
         }
-        Ok(())
+        self.close(alloc, file, writer)
     }
+}
+
+/// Checks whether a reply is a refusal.
+fn is_refusal(reply: &Reply) -> bool
+    ensures { result ≡ is_refusal reply.now }
+{
+    matches!(reply, Reply::Refused(_) | Reply::Gone)
 }
 
 /// Makes a call on a machine, and returns it with the reply.
@@ -226,6 +287,7 @@ fn make_call(
         line: number,
         said,
         reply: Bytes::from_vec(text),
+        is_refused: is_refusal(&reply),
     })
 }
 

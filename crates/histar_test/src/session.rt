@@ -1,12 +1,12 @@
 //! Testing files, from bytes to bytes.
-ghost use Rattle.std.specs.Prelude.{◌≡◌, ◌+◌, IfErr, IfOk, IfSome, OnErr, OnOk, map};
+ghost use Rattle.std.specs.Prelude.{◌≡◌, ◌+◌, IfErr, IfOk, IfSome, OnErr, OnOk, false, map, true};
 ghost use Rattle.std.specs.Io.KnownBytes.{Appends};
 ghost use Rattle.histar_io.specs.Device.{CountsFailure};
 ghost use Rattle.histar_io.specs.Writing.{AppendsFront};
 ghost use Rattle.histar_script.specs.Runs.{IsOutputFault, LeavesSink, is_write_failed};
 ghost use Rattle.histar_test.specs.Checks.{checks_of, checks_text};
 ghost use Rattle.histar_test.specs.Running.{tally_with};
-ghost use Rattle.histar_test.specs.Session.{AreTests, ReadsFiles, TestsFiles, are_met, checked_of};
+ghost use Rattle.histar_test.specs.Session.{AreTests, CountsAll, ReadsFiles, TestsFiles, are_met, checked_of};
 ghost use Rattle.histar_test.specs.Session.{expectations_in, files_text, plan_text, report_text};
 ghost use Rattle.histar_test.specs.Steps.{expectation_count};
 
@@ -35,9 +35,18 @@ struct NamedTest {
 /// Checks the replies and the rights that files expect, and writes for each expectation whether it is met, in
 /// the form of the Test Anything Protocol, numbered through all files. It returns whether all are met.
 ///
+/// A strict test also has a check, which is not met, for each call whose reply is a refusal and which no
+/// expectation follows before the next call. How many there are is known at the end, so the number of checks
+/// is its last line. It is the first one of other tests.
+///
 /// All files are read before the first call of any is made. The lines of a check are written as soon as the
 /// call is done. Each file is run on a machine of its own. It doesn't flush the sink.
-pub fn test<W: Sink>(alloc: Global, files: &[TestFile], writer: &mut W) -> Result<bool, Fault>
+pub fn test<W: Sink>(
+    alloc: Global,
+    files: &[TestFile],
+    strict: bool,
+    writer: &mut W,
+) -> Result<bool, Fault>
     // After a file that is no test the sink is as it was.
     ensures nothing { IfErr result (LeavesSink writer.old writer.new) }
 
@@ -47,9 +56,12 @@ pub fn test<W: Sink>(alloc: Global, files: &[TestFile], writer: &mut W) -> Resul
 
     // The fault of the first file that is no test is returned, or exactly the checks of all files are
     // written, and the result is whether all are met.
-    ensures tests { TestsFiles files.now (W.written writer.old) (W.written writer.new) result }
+    ensures tests { TestsFiles strict files.now (W.written writer.old) (W.written writer.new) result }
 {
     let tests = read_tests(alloc, files)?;
+    if strict {
+        return report_strictly(alloc, tests, writer);
+    }
     report(alloc, tests, writer)
 }
 
@@ -70,10 +82,10 @@ fn read_tests(alloc: Global, files: &[TestFile]) -> Result<Vec<NamedTest>, Fault
 fn report<W: Sink>(alloc: Global, tests: Vec<NamedTest>, writer: &mut W) -> Result<bool, Fault>
     requires { AreTests tests.items }
     ensures ok { OnOk result (Appends (W.written writer.old) (W.written writer.new)
-        (report_text (map checked_of tests.items))) }
-    ensures met { IfOk result (λ met. met ≡ are_met (map checked_of tests.items)) }
+        (report_text false (map (checked_of false) tests.items))) }
+    ensures met { IfOk result (λ met. met ≡ are_met (map (checked_of false) tests.items)) }
     ensures err { OnErr result (AppendsFront (W.written writer.old) (W.written writer.new)
-        (report_text (map checked_of tests.items))) }
+        (report_text false (map (checked_of false) tests.items))) }
     ensures faults { IfErr result IsOutputFault }
     ensures count { CountsFailure (W.failures writer.old) (W.failures writer.new)
         (is_write_failed result) }
@@ -81,9 +93,43 @@ fn report<W: Sink>(alloc: Global, tests: Vec<NamedTest>, writer: &mut W) -> Resu
     let Some(total) = count_checks(tests.as_slice()) else {
         return Err(Fault::OutOfMemory);
     };
+    write_plan(alloc, total, writer)?;
+    let tally = test_files(alloc, tests, false, writer)?;
+    Ok(tally.are_met)
+}
+
+/// Writes the lines of each test that is strict, and how many checks there were, and returns whether all are met.
+fn report_strictly<W: Sink>(
+    alloc: Global,
+    tests: Vec<NamedTest>,
+    writer: &mut W,
+) -> Result<bool, Fault>
+    ensures ok { OnOk result (Appends (W.written writer.old) (W.written writer.new)
+        (report_text true (map (checked_of true) tests.items))) }
+    ensures met { IfOk result (λ met. met ≡ are_met (map (checked_of true) tests.items)) }
+    ensures err { OnErr result (AppendsFront (W.written writer.old) (W.written writer.new)
+        (report_text true (map (checked_of true) tests.items))) }
+    ensures faults { IfErr result IsOutputFault }
+    ensures count { CountsFailure (W.failures writer.old) (W.failures writer.new)
+        (is_write_failed result) }
+{
+    let tally = test_files(alloc, tests, true, writer)?;
+    write_plan(alloc, tally.count, writer)?;
+    Ok(tally.are_met)
+}
+
+/// Writes the line with the number of checks.
+fn write_plan<W: Sink>(alloc: Global, total: usize, writer: &mut W) -> Result<(), Fault>
+    ensures ok { OnOk result (Appends (W.written writer.old) (W.written writer.new) (plan_text total)) }
+    ensures err { OnErr result (AppendsFront (W.written writer.old) (W.written writer.new)
+        (plan_text total)) }
+    ensures faults { IfErr result IsOutputFault }
+    ensures count { CountsFailure (W.failures writer.old) (W.failures writer.new)
+        (is_write_failed result) }
+{
     let plan = plan_text(alloc, total)?;
     write_bytes(writer, plan.as_slice())?;
-    test_files(alloc, tests, writer)
+    Ok(())
 }
 
 /// Counts the expectations of tests, or returns `None` if they are too many for the type.
@@ -120,13 +166,18 @@ fn plan_text(alloc: Global, total: usize) -> Result<Vec<u8>, AllocError>
     Ok(text)
 }
 
-/// Writes the lines of the checks of tests, and returns whether all are met.
-fn test_files<W: Sink>(alloc: Global, tests: Vec<NamedTest>, writer: &mut W) -> Result<bool, Fault>
+/// Writes the lines of the checks of tests, and counts these.
+fn test_files<W: Sink>(
+    alloc: Global,
+    tests: Vec<NamedTest>,
+    strict: bool,
+    writer: &mut W,
+) -> Result<Tally, Fault>
     ensures ok { OnOk result (Appends (W.written writer.old) (W.written writer.new)
-        (files_text 1 (map checked_of tests.items))) }
-    ensures met { IfOk result (λ met. met ≡ are_met (map checked_of tests.items)) }
+        (files_text 1 (map (checked_of strict) tests.items))) }
+    ensures tally { IfOk result (λ tally. CountsAll tally (map (checked_of strict) tests.items)) }
     ensures err { OnErr result (AppendsFront (W.written writer.old) (W.written writer.new)
-        (files_text 1 (map checked_of tests.items))) }
+        (files_text 1 (map (checked_of strict) tests.items))) }
     ensures faults { IfErr result IsOutputFault }
     ensures count { CountsFailure (W.failures writer.old) (W.failures writer.new)
         (is_write_failed result) }
@@ -136,30 +187,31 @@ fn test_files<W: Sink>(alloc: Global, tests: Vec<NamedTest>, writer: &mut W) -> 
         are_met: true,
     };
     'tests: for test in tests {
-        tally = test_file(alloc, test, tally, writer)?;
+        tally = test_file(alloc, test, strict, tally, writer)?;
     }
-    Ok(tally.are_met)
+    Ok(tally)
 }
 
 /// Writes the lines of the checks of a test on a machine of its own, numbered on from the tally.
 fn test_file<W: Sink>(
     alloc: Global,
     named: NamedTest,
+    strict: bool,
     tally: Tally,
     writer: &mut W,
 ) -> Result<Tally, Fault>
     ensures ok { OnOk result (Appends (W.written writer.old) (W.written writer.new)
-        (checks_text named.name (tally.count + 1) (checks_of named.test))) }
-    ensures tally { IfOk result (λ after. after ≡ tally_with tally (checks_of named.test)) }
+        (checks_text named.name (tally.count + 1) (checks_of strict named.test))) }
+    ensures tally { IfOk result (λ after. after ≡ tally_with tally (checks_of strict named.test)) }
     ensures err { OnErr result (AppendsFront (W.written writer.old) (W.written writer.new)
-        (checks_text named.name (tally.count + 1) (checks_of named.test))) }
+        (checks_text named.name (tally.count + 1) (checks_of strict named.test))) }
     ensures faults { IfErr result IsOutputFault }
     ensures count { CountsFailure (W.failures writer.old) (W.failures writer.new)
         (is_write_failed result) }
 {
     let NamedTest { name, test } = named;
     let (accounts, steps) = test.into_parts();
-    let mut run = Run::start(alloc, accounts, tally)?;
+    let mut run = Run::start(alloc, accounts, strict, tally)?;
     let outcome = run.take_steps(alloc, name.as_slice(), steps, writer);
     let after = run.finish();
     outcome?;

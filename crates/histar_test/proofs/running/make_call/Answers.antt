@@ -11,4 +11,4 @@ returns-clause-ok c =
     let call = c.args.call in
     let means = subst (λ (r : Result Reply Stopped). FollowsMeaning c.args.machine.now c.step.new.self call.line call.process call.call r) c.in-Ok.is
     c.step.ensures.means in
-    call_made _ _ call c.args.said _ c.in-Ok.reply means (c.from_vec.ensures ∙ c.in_ok-text.ensures)
+    call_made _ _ call c.args.said _ c.in-Ok.reply means (c.from_vec.ensures ∙ c.in_ok-text.ensures) _ c.is_refusal.ensures

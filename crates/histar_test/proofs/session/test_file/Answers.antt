@@ -28,7 +28,7 @@ returns-in_err-outcome-clause-err g c =
     c.into_parts-accounts.result.1.items c.in_ok-run.ensures.ok (rw c.in_err-outcome.was at c.take_steps-outcome.ensures.err) in
     rw p.1
     (subst (λ (t : List ℕ × (Accounts × List Step)).
-    AppendsFront old new (checks_text t.0 (c.args.tally.count + 1) (checks_from t.1.0 (boot t.1.0) None t.1.1)))
+    AppendsFront old new (checks_text t.0 (c.args.tally.count + 1) (checks_from c.args.strict t.1.0 (boot t.1.0) None t.1.1)))
     (λ i. (c.as_slice.ensures i, (c.into_parts-accounts.ensures.accounts i, c.into_parts-accounts.ensures.steps i))) begun)
 
 pub returns-in_err-outcome-clause-count : goal.returns-in_err-outcome-clause-count
@@ -46,7 +46,7 @@ returns-clause-ok g c =
     let taken = test_taken old new c.as_slice.result.now c.into_parts-accounts.result.1.items c.in_ok-run.ensures.ok
     (rw c.in_ok-outcome.was at c.take_steps-outcome.ensures.ok) in
     subst (λ (t : List ℕ × (Accounts × List Step)).
-    Appends old new (checks_text t.0 (c.args.tally.count + 1) (checks_from t.1.0 (boot t.1.0) None t.1.1)))
+    Appends old new (checks_text t.0 (c.args.tally.count + 1) (checks_from c.args.strict t.1.0 (boot t.1.0) None t.1.1)))
     (λ i. (c.as_slice.ensures i, (c.into_parts-accounts.ensures.accounts i, c.into_parts-accounts.ensures.steps i))) taken.0
 
 pub returns-clause-tally : goal.returns-clause-tally
@@ -55,5 +55,5 @@ returns-clause-tally g c =
     let new = g.W.Sink.written c.take_steps-outcome.new.writer in
     let taken = test_taken old new c.as_slice.result.now c.into_parts-accounts.result.1.items c.in_ok-run.ensures.ok
     (rw c.in_ok-outcome.was at c.take_steps-outcome.ensures.ok) in
-    subst (λ (t : Accounts × List Step). c.finish-after.result ≡ tally_with c.args.tally (checks_from t.0 (boot t.0) None t.1))
+    subst (λ (t : Accounts × List Step). c.finish-after.result ≡ tally_with c.args.tally (checks_from c.args.strict t.0 (boot t.0) None t.1))
     (λ i. (c.into_parts-accounts.ensures.accounts i, c.into_parts-accounts.ensures.steps i)) (c.finish-after.ensures ∙ taken.1)

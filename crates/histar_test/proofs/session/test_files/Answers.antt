@@ -9,7 +9,7 @@ use Rattle.histar_test.proofs.RunLemmas.{parts_at}
 use Rattle.histar_test.proofs.session.test_files.Goals as goal
 
 pub tests-init : goal.tests-init
-tests-init g c = record { run = none_run (g.W.Sink.written c.args.writer.now); count = refl }
+tests-init g c = record { run = none_run c.args.strict (g.W.Sink.written c.args.writer.now); count = refl }
 
 pub tests-preserved : goal.tests-preserved
 tests-preserved g c = record {

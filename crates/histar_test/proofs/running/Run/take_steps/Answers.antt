@@ -1,12 +1,13 @@
 -- Proves the goals of `Run::take_steps` of src/running.rt that the search leaves open.
+use Rattle.std.specs.Prelude.{OnErr, OnOk}
 use Rattle.std.proofs.Common.{◌≡◌, List, None, sym, subst, ◌∙◌, refl, rules}
 use Rattle.std.proofs.lemmas.List.{map-id}
 use Rattle.std.proofs.lemmas.Result.{err_from_is_err_and}
 use Rattle.std.proofs.lemmas.Iterator.Adapters.{YieldsList-from_vec}
 use Rattle.std.proofs.lemmas.Iterator.Consumers.{YieldsList-end, YieldsList-so_far, YieldsList-turn}
 use Rattle.histar_test.specs.declared.steps.Step.{Step}
-use Rattle.histar_test.specs.Running.{TakesSteps}
-use Rattle.histar_test.proofs.RunLemmas.{at_end, at_front, at_more, at_start, parts_at}
+use Rattle.histar_test.specs.Running.{BeginsSteps, TakesSteps}
+use Rattle.histar_test.proofs.RunLemmas.{after_err, at_end, at_front, at_last, at_more, at_start, both_ok, parts_at}
 use Rattle.histar_test.proofs.running.Run.take_steps.Goals as goal
 
 pub steps-init : goal.steps-init
@@ -36,5 +37,18 @@ returns-clause-ok g c =
     let end = YieldsList-end yields c.steps.yielded c.steps.step-iterator c.steps.yielded_by c.next.result c.next.new.self none
     c.next.ensures.steps in
     let all = sym (map-id c.steps.yielded) ∙ end.0 in
-    subst (λ (steps : List Step). TakesSteps c.args.file.now c.args.self.now c.steps.self steps (g.W.Sink.written c.args.writer.now)
-    (g.W.Sink.written c.steps.writer)) all (at_end c.steps.invariant.come)
+    subst (λ (steps : List Step). OnOk c.close.result (TakesSteps c.args.file.now c.args.self.now c.close.new.self steps
+    (g.W.Sink.written c.args.writer.now) (g.W.Sink.written c.close.new.writer))) all
+    (both_ok c.close.result (at_end _ c.steps.invariant.come) c.close.ensures.ok c.close.ensures.written)
+
+pub returns-clause-err : goal.returns-clause-err
+returns-clause-err g c =
+    let none : c.next.result ≡ None = search rules in
+    let steps = c.args.steps.items in
+    let yields = YieldsList-from_vec steps c.into_iter-step-iterator.ensures.into_iter_gives.0 (search rules) in
+    let end = YieldsList-end yields c.steps.yielded c.steps.step-iterator c.steps.yielded_by c.next.result c.next.new.self none
+    c.next.ensures.steps in
+    let all = sym (map-id c.steps.yielded) ∙ end.0 in
+    subst (λ (steps : List Step). OnErr c.close.result (BeginsSteps c.args.file.now c.args.self.now steps
+    (g.W.Sink.written c.args.writer.now) (g.W.Sink.written c.close.new.writer))) all
+    (after_err c.close.result (at_last _ c.steps.invariant.come) c.close.ensures.err)
