@@ -9,6 +9,7 @@ use crate::tasks::{
     access_file, check_each_job, check_file, diff_files, flows_file, leak_file, lint_files,
     report_file, run_file, run_raw_file, test_files, trust_file, try_file,
 };
+use histar_access::DiffOptions;
 use histar_command_line::{CheckFlags, Task, read_words};
 use histar_console::{Outcome, REFUSED, command_line, outcome_status, refuse, report};
 use histar_flat::{ProcName, read_path, read_process};
@@ -75,16 +76,17 @@ fn access_at<R: Files + Input + Print>(
     Ok(access_file(rt, alloc, path, line))
 }
 
-/// Prints whose rights differ after two scripts, or before this line of both.
+/// Prints whose rights differ after two scripts, or before this line of both; or only where the new one gives more.
 fn diff_at<R: Files + Input + Print>(
     rt: &R,
     alloc: Global,
     old: &str,
     new: &str,
     line: Option<&str>,
+    more: bool,
 ) -> Performed {
-    let line = read_line(line)?;
-    Ok(diff_files(rt, alloc, old, new, line))
+    let at = read_line(line)?;
+    Ok(diff_files(rt, alloc, old, new, DiffOptions { at, more }))
 }
 
 /// Prints who has to be trusted with this path after the script in a file, or before this line.
@@ -150,13 +152,13 @@ fn perform<R: Files + Input + Print>(rt: &R, alloc: Global, task: &Task<'_>) -> 
         Task::Check(job, path, flags) => check_job(rt, alloc, job, path, *flags),
         Task::CheckAll(path, flags) => Ok(check_each_job(rt, alloc, path, *flags)),
         Task::Access(path, line) => access_at(rt, alloc, path, *line),
-        Task::Diff(old, new, line) => diff_at(rt, alloc, old, new, *line),
+        Task::Diff(old, new, line, more) => diff_at(rt, alloc, old, new, *line, *more),
         Task::Trust(path, file, line) => trust_at(rt, alloc, path, file, *line),
         Task::Leak(path, file, line) => leak_at(rt, alloc, path, file, *line),
         Task::Flows(path, line) => flows_at(rt, alloc, path, *line),
         Task::Lint(files, is_raw) => Ok(lint_files(rt, alloc, files.as_slice(), *is_raw)),
         Task::Report(path) => Ok(report_file(rt, alloc, path)),
-        Task::Test(files) => Ok(test_files(rt, alloc, files.as_slice())),
+        Task::Test(files, strict) => Ok(test_files(rt, alloc, files.as_slice(), *strict)),
     }
 }
 

@@ -4,7 +4,7 @@ ghost use Rattle.std.specs.List.{flat_map, list_all};
 ghost use Rattle.histar_comparison.specs.Jobs.{job_text};
 ghost use Rattle.histar_cli.specs.Checks.{is_same_without};
 
-use histar_access::{access, diff};
+use histar_access::{DiffOptions, access, diff};
 use histar_command_line::{CheckFlags, RunFlags, VERSION};
 use histar_comparison::{JobVerdict, Verdict, compare, compare_all, explain_comparison};
 use histar_console::{Outcome, finish, open, output, run_plain};
@@ -165,18 +165,25 @@ pub fn access_file<R: Files + Input + Print>(
     finish(done.map(|_| Outcome::Done), writer)
 }
 
-/// Prints whose rights differ after the calls of two scripts, or before a line of both.
+/// Prints whose rights differ after the calls of two scripts, or before a line of both; or only where the new one
+/// gives more.
 pub fn diff_files<R: Files + Input + Print>(
     rt: &R,
     alloc: Global,
     old: &str,
     new: &str,
-    at: Option<u32>,
+    options: DiffOptions,
 ) -> Result<Outcome, Fault> {
     let mut old_reader = open(rt, old)?;
     let mut new_reader = open(rt, new)?;
     let mut writer = output(rt, alloc)?;
-    let done = diff(alloc, &mut old_reader, &mut new_reader, &mut writer, at);
+    let done = diff(
+        alloc,
+        &mut old_reader,
+        &mut new_reader,
+        &mut writer,
+        options,
+    );
     finish(done.map(|holds| is_so(holds)), writer)
 }
 
@@ -303,10 +310,11 @@ pub fn test_files<R: Files + Input + Print>(
     rt: &R,
     alloc: Global,
     paths: &[&str],
+    strict: bool,
 ) -> Result<Outcome, Fault> {
     let files = read_files(rt, alloc, paths)?;
     let mut writer = output(rt, alloc)?;
-    let done = test(alloc, files.as_slice(), &mut writer);
+    let done = test(alloc, files.as_slice(), strict, &mut writer);
     finish(done.map(|holds| is_so(holds)), writer)
 }
 

@@ -73,9 +73,10 @@ check_app = subcommand_app (codes "check")
 abbrev pub access_app : App
 access_app = subcommand_app (codes "access") (option_rule (codes "LINE") (codes "at") ∷ word_rule (codes "FILE") ∷ [])
 
--- `diff [--at LINE] OLD NEW`
+-- `diff [--more] [--at LINE] OLD NEW`
 abbrev pub diff_app : App
-diff_app = subcommand_app (codes "diff") (option_rule (codes "LINE") (codes "at") ∷ word_rule (codes "OLD") ∷ word_rule (codes "NEW") ∷ [])
+diff_app = subcommand_app (codes "diff")
+    (flag_rule (codes "more") ∷ option_rule (codes "LINE") (codes "at") ∷ word_rule (codes "OLD") ∷ word_rule (codes "NEW") ∷ [])
 
 -- `trust [--at LINE] PATH FILE`
 abbrev pub trust_app : App
@@ -93,9 +94,9 @@ flows_app = subcommand_app (codes "flows") (option_rule (codes "LINE") (codes "a
 abbrev pub lint_app : App
 lint_app = subcommand_app (codes "lint") (flag_rule (codes "raw") ∷ words_rule (codes "FILE") ∷ [])
 
--- `test FILE..`
+-- `test [--strict] FILE..`
 abbrev pub test_app : App
-test_app = subcommand_app (codes "test") (words_rule (codes "FILE") ∷ [])
+test_app = subcommand_app (codes "test") (flag_rule (codes "strict") ∷ words_rule (codes "FILE") ∷ [])
 
 -- `report FILE`
 abbrev pub report_app : App

@@ -23,13 +23,13 @@ subcommand (Raw file explain) = codes "raw"
 subcommand (Check job file flags) = codes "check"
 subcommand (CheckAll file flags) = codes "check"
 subcommand (Access file at) = codes "access"
-subcommand (Diff old new at) = codes "diff"
+subcommand (Diff old new at more) = codes "diff"
 subcommand (Trust path file at) = codes "trust"
 subcommand (Leak path file at) = codes "leak"
 subcommand (Flows file at) = codes "flows"
 subcommand (Lint files is_raw) = codes "lint"
 subcommand (Report file) = codes "report"
-subcommand (Test files) = codes "test"
+subcommand (Test files strict) = codes "test"
 
 -- the flags of a comparison are those that were given
 abbrev pub HasFlags : CheckFlags → List Row → Type 0
@@ -63,10 +63,11 @@ HasArguments (CheckAll file flags) rows =
 HasArguments (Access file at) rows =
     (first_of (codes "FILE") rows ≡ Some file.now)
     × (option_map (λ line. line.now) at ≡ first_of (codes "LINE") rows)
-HasArguments (Diff old new at) rows =
+HasArguments (Diff old new at more) rows =
     (first_of (codes "OLD") rows ≡ Some old.now)
     × (first_of (codes "NEW") rows ≡ Some new.now)
     × (option_map (λ line. line.now) at ≡ first_of (codes "LINE") rows)
+    × (more ≡ is_set (codes "more") rows)
 HasArguments (Trust path file at) rows =
     (first_of (codes "PATH") rows ≡ Some path.now)
     × (first_of (codes "FILE") rows ≡ Some file.now)
@@ -82,7 +83,9 @@ HasArguments (Lint files is_raw) rows =
     (all_of (codes "FILE") rows ≡ Some (map (λ file. file.now) files.items))
     × (is_raw ≡ is_set (codes "raw") rows)
 HasArguments (Report file) rows = first_of (codes "FILE") rows ≡ Some file.now
-HasArguments (Test files) rows = all_of (codes "FILE") rows ≡ Some (map (λ file. file.now) files.items)
+HasArguments (Test files strict) rows =
+    (all_of (codes "FILE") rows ≡ Some (map (λ file. file.now) files.items))
+    × (strict ≡ is_set (codes "strict") rows)
 
 -- this is the task of the subcommand that was matched, with its words and its flags
 abbrev pub IsTaskOf : Task → Option (Text × List Row) → Type 0

@@ -169,7 +169,7 @@ prints, among others, the line
     }
 }
 
-/// Returns `diff [--at LINE] OLD NEW`.
+/// Returns `diff [--more] [--at LINE] OLD NEW`.
 pub(crate) fn diff<'a>() -> Form<'a>
     ensures { form_app result ≡ diff_app }
 {
@@ -178,13 +178,19 @@ pub(crate) fn diff<'a>() -> Form<'a>
         about: "Run two scripts and print whose rights differ at which path",
         after_help: "Each line is a path, a process, its user, and its rights after the old script and after the new one.
 
-Exit status: 0 where nobody's rights differ, 5 where somebody's do
+Exit status: 0 where no line is printed, 5 where one is
 
 Example:
   histar diff examples/policy_before.histar examples/policy_after.histar
 prints, among others, the line
-  /home 0.1 alice srw- sr--",
+  /home 0.1 alice srw- sr--
+
+With --more nothing is printed where the new script permits no more than the old one.",
         arguments: &[
+            Argument::Flag(
+                "more",
+                "Print only the lines where the new script gives a letter that the old one doesn't",
+            ),
             Argument::Valued("LINE", "at", AT),
             Argument::Word("OLD", "The old script"),
             Argument::Word("NEW", "The new script"),
@@ -305,7 +311,7 @@ pub(crate) fn report<'a>() -> Form<'a>
     }
 }
 
-/// Returns `test FILE..`.
+/// Returns `test [--strict] FILE..`.
 pub(crate) fn test<'a>() -> Form<'a>
     ensures { form_app result ≡ test_app }
 {
@@ -319,12 +325,19 @@ pub(crate) fn test<'a>() -> Form<'a>
 A comment that begins with `#! ` says which rights a process is to have at a path there, as `access` prints them:
   #! /tmp/diary 0.1 s---
 
-The output has the form of the Test Anything Protocol: the number of expectations, and a line for each.
+The output has the form of the Test Anything Protocol: the number of expectations, and a line for each. With
+--strict each call that is refused and has no expectation is `not ok` too; the number is then on the last line.
 
 Exit status: 0 where all are met, 5 where one is not
 
 Example:
   histar test examples/sessions/a_secret.histar",
-        arguments: &[Argument::Words("FILE", "The scripts, with what they expect")],
+        arguments: &[
+            Argument::Flag(
+                "strict",
+                "Miss each call that is refused and of which nothing is expected",
+            ),
+            Argument::Words("FILE", "The scripts, with what they expect"),
+        ],
     }
 }

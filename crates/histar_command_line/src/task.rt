@@ -46,8 +46,8 @@ pub enum Task<'a> {
     /// Print who may do what after the script in this file, or before the line of this number.
     Access(&'a str, Option<&'a str>),
     /// Print whose rights differ after an old script and a new one, or before the line of this number in
-    /// both.
-    Diff(&'a str, &'a str, Option<&'a str>),
+    /// both; or only where the new one gives more.
+    Diff(&'a str, &'a str, Option<&'a str>, bool),
     /// Print which processes have to be trusted with a path after a script, or before the line of this
     /// number: first the path, then the file.
     Trust(&'a str, &'a str, Option<&'a str>),
@@ -61,8 +61,9 @@ pub enum Task<'a> {
     Lint(Vec<&'a str>, bool),
     /// Print the session of the script in this file as a page.
     Report(&'a str),
-    /// Compare the replies to the scripts in these files with those that they expect.
-    Test(Vec<&'a str>),
+    /// Compare the replies to the scripts in these files with those that they expect, and miss what nothing is
+    /// expected of and is refused, if that is asked for.
+    Test(Vec<&'a str>, bool),
 }
 
 /// Checks whether a flag was given: its value is `true` then.
@@ -132,7 +133,8 @@ fn state_task_of<'a>(matches: &ArgMatches<'a>) -> Option<Task<'a>>
         let old = diff.get_str("OLD")?;
         let new = diff.get_str("NEW")?;
         let at = diff.get_str("LINE");
-        return Some(Task::Diff(old, new, at));
+        let more = is_set(diff, "more");
+        return Some(Task::Diff(old, new, at, more));
     }
     secret_task_of(matches)
 }
@@ -195,8 +197,9 @@ fn test_task_of<'a>(alloc: Global, matches: &ArgMatches<'a>) -> Result<Option<Ta
     let Some(files) = test.get_strs("FILE") else {
         return Ok(None);
     };
+    let strict = is_set(test, "strict");
     let files = Vec::from_slice(alloc, files)?;
-    Ok(Some(Task::Test(files)))
+    Ok(Some(Task::Test(files, strict)))
 }
 
 /// Returns the task of `try`, if it was matched.

@@ -1,7 +1,7 @@
 //! Questions to scripts: why, who may, what changes, on whom it depends, and what is wrong.
 use crate::script::with_fault;
 use crate::trial::FileKind;
-use histar_access::{access, diff};
+use histar_access::{DiffOptions, access, diff};
 use histar_comparison::{compare_all, explain_comparison};
 use histar_flat::{Path, ProcName, split_at_first};
 use histar_leak::leak;
@@ -62,11 +62,11 @@ pub fn rights(alloc: Global, script: &[u8], at: Option<u32>) -> Result<Vec<u8>, 
 }
 
 /// Returns the rights that differ between two scripts, before a line of both or at their ends.
-pub fn changes(alloc: Global, scripts: &[u8], at: Option<u32>) -> Result<Vec<u8>, Fault> {
+pub fn changes(alloc: Global, scripts: &[u8], options: DiffOptions) -> Result<Vec<u8>, Fault> {
     let (old, new) = split_scripts(scripts).ok_or(Fault::BadScript(0))?;
     let (mut old, mut new) = (Counted::new(old), Counted::new(new));
     let mut writer = Counted::new(Vec::new(alloc));
-    let done = diff(alloc, &mut old, &mut new, &mut writer, at);
+    let done = diff(alloc, &mut old, &mut new, &mut writer, options);
     with_fault(alloc, done.map(|_| ()), writer.into_inner())
 }
 
@@ -136,7 +136,8 @@ pub fn of_file(alloc: Global, kind: FileKind, title: &[u8], text: &[u8]) -> Resu
         FileKind::Lint => sentence(alloc, name, text),
         FileKind::LintRaw => raw_sentence(alloc, name, text),
         FileKind::Report => page(alloc, name, text),
-        FileKind::Test => results(alloc, name, text),
+        FileKind::Test => results(alloc, name, text, false),
+        FileKind::StrictTest => results(alloc, name, text, true),
     }
 }
 
@@ -166,12 +167,12 @@ fn page(alloc: Global, words: &[u8], script: &[u8]) -> Result<Vec<u8>, Fault> {
     with_fault(alloc, done, writer.into_inner())
 }
 
-/// Returns the results of what a script expects.
-fn results(alloc: Global, name: &[u8], script: &[u8]) -> Result<Vec<u8>, Fault> {
+/// Returns the results of what a script expects, perhaps those of a strict test.
+fn results(alloc: Global, name: &[u8], script: &[u8], strict: bool) -> Result<Vec<u8>, Fault> {
     let name = Vec::from_slice(alloc, name)?;
     let text = Vec::from_slice(alloc, script)?;
     let files = [TestFile { name, text }];
     let mut writer = Counted::new(Vec::new(alloc));
-    let done = test(alloc, &files, &mut writer);
+    let done = test(alloc, &files, strict, &mut writer);
     with_fault(alloc, done.map(|_| ()), writer.into_inner())
 }

@@ -1,4 +1,5 @@
 //! The trials that a text lists.
+use histar_access::DiffOptions;
 use histar_flat::{Path, ProcName, read_number, read_path, read_process, split_at_first};
 use histar_shell::Options;
 use memchr::memmem;
@@ -20,8 +21,8 @@ pub enum Kind {
     CheckAll,
     /// The rights in a script, before a line or at its end.
     Access(Option<u32>),
-    /// The rights that differ between two scripts.
-    Diff(Option<u32>),
+    /// The rights that differ between two scripts, or only those that the new one gives.
+    Diff(DiffOptions),
     /// On whom it depends what is at a path.
     Trust(Path, Option<u32>),
     /// By which calls what is at a path is leaked and changed.
@@ -49,6 +50,8 @@ pub enum FileKind {
     Report,
     /// The results of what a script expects.
     Test,
+    /// The same of a strict test.
+    StrictTest,
 }
 
 /// A title, and the script or the raw session below it.
@@ -92,6 +95,12 @@ fn read_line(word: Option<&[u8]>) -> Option<Option<u32>> {
     Some(Some(number as u32))
 }
 
+/// Reads before which line two scripts are compared, if it is before one.
+fn differences(line: Option<&[u8]>, more: bool) -> Option<DiffOptions> {
+    let at = read_line(line)?;
+    Some(DiffOptions { at, more })
+}
+
 /// Reads a path, and behind it the number of a line, if there is one.
 fn read_place(words: &[u8]) -> Option<(Path, Option<u32>)> {
     let (path, line) = split_at_first(words, b' ');
@@ -132,7 +141,8 @@ fn read_check(word: &[u8], rest: Option<&[u8]>) -> Option<Kind> {
 fn read_question(word: &[u8], rest: Option<&[u8]>) -> Option<Kind> {
     match word {
         b"access" => Some(Kind::Access(read_line(rest)?)),
-        b"diff" => Some(Kind::Diff(read_line(rest)?)),
+        b"diff" => Some(Kind::Diff(differences(rest, false)?)),
+        b"diff_more" => Some(Kind::Diff(differences(rest, true)?)),
         b"flows" => Some(Kind::Flows(read_line(rest)?)),
         b"try" => Some(Kind::Try(read_line(rest)?)),
         _ => read_secret(word, rest),
@@ -148,6 +158,7 @@ fn read_session(word: &[u8]) -> Option<Kind> {
         b"lint_raw" => Some(Kind::File(FileKind::LintRaw)),
         b"report" => Some(Kind::File(FileKind::Report)),
         b"test" => Some(Kind::File(FileKind::Test)),
+        b"test_strict" => Some(Kind::File(FileKind::StrictTest)),
         _ => None,
     }
 }

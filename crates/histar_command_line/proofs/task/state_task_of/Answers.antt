@@ -1,7 +1,8 @@
 -- Proves the goals of `state_task_of` of src/task.rt that the search leaves open.
-use Rattle.std.proofs.Common.{refl, sym, ◌∙◌, codes}
+use Rattle.std.proofs.Common.{refl, sym, ap, ◌∙◌, codes}
 use Rattle.clap.specs.Words.{rows_of, found_of}
 use Rattle.clap.proofs.WalkLemmas.{first_value-rows}
+use Rattle.histar_command_line.specs.Tasks.{is_given}
 use Rattle.histar_command_line.proofs.Matches.{matched}
 use Rattle.histar_command_line.proofs.task.state_task_of.Goals as goal
 
@@ -27,5 +28,6 @@ returns-in-Some-subcommand_matches c =
         sym (c.in_ok-old.ensures ∙ first_value-rows found (codes "OLD")),
         sym (c.in_ok-new.ensures ∙ first_value-rows found (codes "NEW")),
         c.get_str-at-in-Some-subcommand_matches.ensures ∙ first_value-rows found (codes "LINE"),
+        c.is_set-more.ensures ∙ ap is_given (first_value-rows found (codes "more")),
       ),
     )

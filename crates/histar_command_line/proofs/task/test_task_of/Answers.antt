@@ -3,6 +3,7 @@ use Rattle.std.proofs.Common.{ℕ, List, Some, map, refl, sym, ap, ◌∙◌, co
 use Rattle.std.specs.Borrow.{Bor}
 use Rattle.clap.specs.Words.{rows_of, found_of}
 use Rattle.clap.proofs.WalkLemmas.{raw_values-rows}
+use Rattle.histar_command_line.specs.Tasks.{is_given}
 use Rattle.histar_command_line.proofs.Matches.{matched}
 use Rattle.histar_command_line.proofs.task.test_task_of.Goals as goal
 
@@ -12,6 +13,9 @@ returns c =
     let found = found_of m.test.now in (
       rows_of found,
       matched c.args.matches.now (codes "test") (rows_of found) (m.ensures.found.0 refl) m.ensures.rows,
-      sym (raw_values-rows found (codes "FILE")) ∙ sym c.in-Some-get_strs.ensures
-          ∙ ap (λ (files : List (Bor (List ℕ))). Some (map (λ file. file.now) files)) (sym c.in_ok-files.ensures.items),
+      (
+        sym (raw_values-rows found (codes "FILE")) ∙ sym c.in-Some-get_strs.ensures
+            ∙ ap (λ (files : List (Bor (List ℕ))). Some (map (λ file. file.now) files)) (sym c.in_ok-files.ensures.items),
+        c.is_set-strict.ensures ∙ ap is_given (first_value-rows found (codes "strict")),
+      ),
     )
