@@ -2,7 +2,7 @@
 use Rattle.std.proofs.Common.{ℕ, List, Some, map, refl, sym, ap, ◌∙◌, codes}
 use Rattle.std.specs.Borrow.{Bor}
 use Rattle.clap.specs.Words.{rows_of, found_of}
-use Rattle.clap.proofs.WalkLemmas.{raw_values-rows}
+use Rattle.clap.proofs.WalkLemmas.{first_value-rows, raw_values-rows}
 use Rattle.histar_command_line.specs.Tasks.{is_given}
 use Rattle.histar_command_line.proofs.Matches.{matched}
 use Rattle.histar_command_line.proofs.task.test_task_of.Goals as goal
