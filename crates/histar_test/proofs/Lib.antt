@@ -2,6 +2,7 @@
 pub mod StepLemmas
 pub mod StepLaws
 pub mod LineLaws
+pub mod StrictLaws
 pub mod CheckLemmas
 pub mod RunLemmas
 pub mod FileLemmas

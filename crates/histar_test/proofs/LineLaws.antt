@@ -93,7 +93,7 @@ line_of_call n (Some items.Comment) c e = absurd (none-some c e)
 line_of_call n (Some (items.Call p u)) c e = sym (ap (λ (d : CallLine). d.line) (same_Some (record { line = n; process = p; call = u }) c e))
 
 -- the call of a line's step has it too
-line_of_step : (n : ℕ) (line : List ℕ) (c : CallLine) (said : List ℕ) → step_of n line ≡ Ok (Some (Makes c said)) → c.line ≡ n
+pub line_of_step : (n : ℕ) (line : List ℕ) (c : CallLine) (said : List ℕ) → step_of n line ≡ Ok (Some (Makes c said)) → c.line ≡ n
 line_of_step n line c said is =
     line_of_call n (item_of line) c (call_wanted n line (asked_of line) (expectation_of line) (call_in n (item_of line)) c said is).2
 

@@ -33,7 +33,7 @@ use Rattle.histar_test.specs.declared.questions.Question.{Question}
 use Rattle.histar_test.specs.declared.steps.Step.TheVariants.{Makes, Expects, Asks}
 use Rattle.histar_test.specs.Checks.{check_text, checks_from, checks_text, question_check, unexpected}
 use Rattle.histar_test.specs.Running.{AsksMachine, BeginsStep, BeginsSteps, Calls, Closes, CountsCheck, MakesCall, Starts}
-use Rattle.histar_test.specs.Running.{TakesStep, TakesSteps, WritesStep, checks_ahead, closing, closing_text}
+use Rattle.histar_test.specs.Running.{TakesStep, TakesSteps, WritesStep, checks_ahead, close_checks, close_text}
 use Rattle.histar_test.specs.Running.{check_at, flat_at, last_at, reply_check, step_text, tally_with}
 use Rattle.histar_test.proofs.CheckLemmas.{check_first, checks_text-append, tally_more, tally_none}
 
@@ -168,7 +168,7 @@ both_ok (Err fault) holds p q = tt
 
 -- the lines of the check of the open call, if nobody expected its reply
 pub closing_lines : (file : List ℕ) (old : Run) (check : Check) → unexpected old.strict old.last ≡ Some check
-    → check_text file (old.tally.count + 1) check ≡ closing_text file old
+    → check_text file (old.tally.count + 1) check ≡ close_text file old
 closing_lines file old check is =
     sym (append-nil (check_text file (old.tally.count + 1) check))
     ∙ ap (λ (o : Option Check). checks_text file (old.tally.count + 1) (option_to_list o)) (sym is)
@@ -183,7 +183,7 @@ nothing_closed old new none strict machine tally = record {
 }
 
 -- nothing is written then
-pub nothing_said : (file : List ℕ) (old : Run) (w : Option (List ℕ)) → unexpected old.strict old.last ≡ None → Appends w w (closing_text file old)
+pub nothing_said : (file : List ℕ) (old : Run) (w : Option (List ℕ)) → unexpected old.strict old.last ≡ None → Appends w w (close_text file old)
 nothing_said file old w none =
     subst (λ (o : Option Check). Appends w w (checks_text file (old.tally.count + 1) (option_to_list o))) (sym none) (Appends-nil w)
 
@@ -296,34 +296,34 @@ at_front {file = file} {start = start} {now = now} {a = a} {b = b} step all late
 
 -- the checks of all steps are those that were written, and then that of the open call
 all_done : {accounts : Accounts} {f : Flat} {file : List ℕ} {start now : Run} {steps : List Step} {before after : Option (List ℕ)}
-    → (at : IsAt accounts f file start now steps before after) → checks_ahead accounts f start steps ≡ at.done ++ closing now
+    → (at : IsAt accounts f file start now steps before after) → checks_ahead accounts f start steps ≡ at.done ++ close_checks now
 all_done {accounts = accounts} {f = f} {start = start} {steps = steps} at =
     ap (checks_ahead accounts f start) (sym (append-nil steps)) ∙ at.goes_on []
 
 -- all steps have been taken at the end, where the open call was closed
 pub at_end : {file : List ℕ} {start now new : Run} {steps : List Step} {a b : Option (List ℕ)} → (c : Option (List ℕ))
-    → HasCome file start now steps a b → Closes now new → Appends b c (closing_text file now) → TakesSteps file start new steps a c
-at_end {file = file} {start = start} {now = now} {steps = steps} {a = a} {b = b} c come closes closing_written accounts f shows =
+    → HasCome file start now steps a b → Closes now new → Appends b c (close_text file now) → TakesSteps file start new steps a c
+at_end {file = file} {start = start} {now = now} {steps = steps} {a = a} {b = b} c come closes more accounts f shows =
     let at = come.from accounts f shows in
     let k = start.tally.count + 1 in
-    let text : checks_text file k (checks_ahead accounts f start steps) ≡ checks_text file k at.done ++ closing_text file now =
-    ap (checks_text file k) (all_done at) ∙ text_on file start.tally now.tally at.done (closing now) at.tally in
+    let text : checks_text file k (checks_ahead accounts f start steps) ≡ checks_text file k at.done ++ close_text file now =
+    ap (checks_text file k) (all_done at) ∙ text_on file start.tally now.tally at.done (close_checks now) at.tally in
     record {
-      written = subst (Appends a c) (sym text) (Appends-trans a b c (checks_text file k at.done) (closing_text file now) at.written closing_written);
-      tally = closes.tally ∙ ap (λ (t : Tally). tally_with t (closing now)) at.tally ∙ tally_more start.tally at.done (closing now)
+      written = subst (Appends a c) (sym text) (Appends-trans a b c (checks_text file k at.done) (close_text file now) at.written more);
+      tally = closes.tally ∙ ap (λ (t : Tally). tally_with t (close_checks now)) at.tally ∙ tally_more start.tally at.done (close_checks now)
           ∙ ap (tally_with start.tally) (sym (all_done at));
     }
 
 -- all steps have been taken, and a beginning of the check of the open call was written
 pub at_last : {file : List ℕ} {start now : Run} {steps : List Step} {a b : Option (List ℕ)} → (c : Option (List ℕ)) → HasCome file start now steps a b
-    → AppendsFront b c (closing_text file now) → BeginsSteps file start steps a c
+    → AppendsFront b c (close_text file now) → BeginsSteps file start steps a c
 at_last {file = file} {start = start} {now = now} {steps = steps} {a = a} {b = b} c come begun accounts f shows =
     let at = come.from accounts f shows in
     let k = start.tally.count + 1 in
-    let text : checks_text file k (checks_ahead accounts f start steps) ≡ checks_text file k at.done ++ (closing_text file now ++ []) =
-    ap (checks_text file k) (all_done at) ∙ text_on file start.tally now.tally at.done (closing now) at.tally
-    ∙ ap (λ (t : List ℕ). checks_text file k at.done ++ t) (sym (append-nil (closing_text file now))) in
-    subst (AppendsFront a c) (sym text) (front_after a b c (checks_text file k at.done) (closing_text file now) [] at.written begun)
+    let text : checks_text file k (checks_ahead accounts f start steps) ≡ checks_text file k at.done ++ (close_text file now ++ []) =
+    ap (checks_text file k) (all_done at) ∙ text_on file start.tally now.tally at.done (close_checks now) at.tally
+    ∙ ap (λ (t : List ℕ). checks_text file k at.done ++ t) (sym (append-nil (close_text file now))) in
+    subst (AppendsFront a c) (sym text) (front_after a b c (checks_text file k at.done) (close_text file now) [] at.written begun)
 
 -- ---- a whole test
 

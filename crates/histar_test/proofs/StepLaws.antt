@@ -177,7 +177,7 @@ is_comment [] = false
 is_comment (b ∷ bs) = b == 35
 
 -- a line that is a comment makes no call
-call_says : (line : List ℕ) (p : ProcName) (c : UnixCall) → item_of line ≡ Some (items.Call p c) → is_comment line ≡ false
+pub call_says : (line : List ℕ) (p : ProcName) (c : UnixCall) → item_of line ≡ Some (items.Call p c) → is_comment line ≡ false
 unfolding item_of
 call_says [] p c is = refl
 call_says (b ∷ bs) p c is = by (b == 35) (is_plain (b ∷ bs)) is
@@ -190,7 +190,7 @@ call_says (b ∷ bs) p c is = by (b == 35) (is_plain (b ∷ bs)) is
     by false plain i = refl
 
 -- a line that is no comment has no question and no expectation
-no_comment : (line : List ℕ) → is_comment line ≡ false → (asked_of line ≡ None) × (expectation_of line ≡ None)
+pub no_comment : (line : List ℕ) → is_comment line ≡ false → (asked_of line ≡ None) × (expectation_of line ≡ None)
 no_comment [] is = (refl, refl)
 no_comment (b ∷ bs) is = (
   ap (λ (hash : Bool). if hash && bytes_eq (take 2 bs) (codes "! ") then Some (drop 2 bs) else None) is,

@@ -1,13 +1,13 @@
 -- What a test guarantees.
-use Rattle.std.specs.Prelude.{◌≡◌, ◌↔◌, ℕ, ◌+◌, ◌||◌, true, false, Bool, List, [], ◌∷◌, ◌++◌, Some, Ok, MatchOption, is_some, if◌then◌else◌}
-use Rattle.std.specs.List.{AllZip}
+use Rattle.std.specs.Prelude.{◌≡◌, ◌↔◌, ℕ, ◌+◌, ◌||◌, true, false, Bool, List, [], ◌∷◌, ◌++◌, Some, Ok, MatchOption, drop, filter, is_some, not, ◌&&◌, if◌then◌else◌}
+use Rattle.std.specs.List.{AllZip, list_all}
 use Rattle.std.specs.Option.{IsSomeAnd}
 use Rattle.histar_flat.specs.Meaning.{RepliedCall, meaning}
 use Rattle.histar_flat.specs.Texts.{reply_text}
 use Rattle.histar_reasons.specs.Laws.{is_refusal}
 use Rattle.histar_script.specs.Lines.{lines_of}
 use Rattle.histar_script.specs.Script.{ScriptModel}
-use Rattle.histar_script.specs.Reading.{script_of}
+use Rattle.histar_script.specs.Reading.{item_of, script_of}
 use Rattle.histar_rights.specs.declared.rights.Rights.{Rights}
 use Rattle.histar_rights.specs.Rights.{rights_text}
 use Rattle.histar_diff.specs.Changes.{IsAnsweredBy}
@@ -15,7 +15,7 @@ use Rattle.histar_prefix.specs.Prefix.{calls_before, state_before}
 use Rattle.histar_test.specs.declared.checks.Check.{Check}
 use Rattle.histar_test.specs.declared.checks.Made.{Made}
 use Rattle.histar_test.specs.declared.questions.Question.{Question}
-use Rattle.histar_test.specs.Steps.{Test, asked_of, calls_in, expectation_of, question_of, test_of}
+use Rattle.histar_test.specs.Steps.{Test, asked_of, call_in, calls_in, expectation_of, question_of, test_of}
 use Rattle.histar_test.specs.Checks.{asked_in, checks_of, is_met, question_check}
 
 -- the calls of a test are those of its script, in their order
@@ -85,3 +85,44 @@ pub record IsMetByReplies (script : ScriptModel) (n : ℕ) (q : Question) : Type
 -- a question is met exactly if four more lines would give its answers
 abbrev pub QuestionsAreOfReplies : Type 0
 QuestionsAreOfReplies = (script : ScriptModel) (n : ℕ) (q : Question) → IsMetByReplies script n q
+
+-- ---- strict tests
+
+-- the check is of what a test says: of an expectation, or of a question
+abbrev pub has_expectation : Check → Bool
+has_expectation check = is_some check.wanted
+
+-- the check is of a reply that nobody expected
+abbrev pub has_none : Check → Bool
+has_none check = not (has_expectation check)
+
+-- a strict test has the checks of the same test that isn't strict, in their order, and others that expect nothing
+abbrev pub StrictTestsKeepTheChecks : Type 0
+StrictTestsKeepTheChecks = (test : Test) → filter has_expectation (checks_of true test) ≡ checks_of false test
+
+-- the line makes a call
+abbrev pub makes_call : List ℕ → Bool
+makes_call line = is_some (call_in 0 (item_of line))
+
+-- an expectation is among these lines, before the next call
+abbrev pub is_expected_in : List (List ℕ) → Bool
+is_expected_in [] = false
+is_expected_in (line ∷ lines) = if is_some (expectation_of line) then true else if makes_call line then false else is_expected_in lines
+
+-- the reply is a refusal, and no expectation is behind the line of its call before the next call
+abbrev pub is_unexpected_in : List ℕ → RepliedCall → Bool
+is_unexpected_in text answer = is_refusal answer.reply && not (is_expected_in (drop answer.call.line (lines_of text)))
+
+-- the calls of a script with their replies, by its meaning, that are refusals which the text doesn't expect
+abbrev pub unexpected_in : List ℕ → ScriptModel → List RepliedCall
+unexpected_in text script = filter (is_unexpected_in text) (meaning script.accounts script.calls)
+
+-- the other checks of a strict test are of the refusals that nobody expected, of each once and in the order of the calls
+abbrev pub UnexpectedRefusalsAreChecked : Type 0
+UnexpectedRefusalsAreChecked = (text : List ℕ) (script : ScriptModel) (test : Test) → script_of text ≡ Ok script → test_of text ≡ Ok test
+    → AllZip (λ check answer. IsAnswer check.made answer) (filter has_none (checks_of true test)) (unexpected_in text script)
+
+-- a strict test is met exactly if the same test is met where it isn't strict, and there is no refusal that nobody expected
+abbrev pub StrictTestsAreMet : Type 0
+StrictTestsAreMet = (text : List ℕ) (script : ScriptModel) (test : Test) → script_of text ≡ Ok script → test_of text ≡ Ok test
+    → (list_all is_met (checks_of true test) ≡ true) ↔ ((list_all is_met (checks_of false test) ≡ true) × (unexpected_in text script ≡ []))

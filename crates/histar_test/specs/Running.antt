@@ -52,12 +52,12 @@ abbrev pub step_text : List ℕ → Accounts → Flat → Run → Step → List 
 step_text file accounts f run step = checks_text file (run.tally.count + 1) (check_at run.strict accounts f run.last step)
 
 -- the check of the open call, if nobody expected its reply
-abbrev pub closing : Run → List Check
-closing run = option_to_list (unexpected run.strict run.last)
+abbrev pub close_checks : Run → List Check
+close_checks run = option_to_list (unexpected run.strict run.last)
 
 -- the lines of the check of the open call, if nobody expected its reply
-abbrev pub closing_text : List ℕ → Run → List ℕ
-closing_text file run = checks_text file (run.tally.count + 1) (closing run)
+abbrev pub close_text : List ℕ → Run → List ℕ
+close_text file run = checks_text file (run.tally.count + 1) (close_checks run)
 
 -- the checks of steps from a flat state on, which a run takes
 abbrev pub checks_ahead : Accounts → Flat → Run → List Step → List Check
@@ -98,7 +98,7 @@ pub record CountsCheck (old new : Run) (check : Check) : Type 0 where
 pub record Closes (old new : Run) : Type 0 where
   pub strict : new.strict ≡ old.strict
   pub machine : new.machine ≡ old.machine
-  pub tally : new.tally ≡ tally_with old.tally (closing old)
+  pub tally : new.tally ≡ tally_with old.tally (close_checks old)
 
 -- a call was made on the machine of a run, and is open; nothing was counted
 pub record Calls (old new : Run) (call : CallLine) (said : List ℕ) : Type 0 where

@@ -8,7 +8,7 @@ ghost use Rattle.histar_reasons.specs.Laws.{is_refusal};
 ghost use Rattle.histar_script.specs.Script.{IsDeclared};
 ghost use Rattle.histar_test.specs.Checks.{check_text};
 ghost use Rattle.histar_test.specs.Running.{BeginsStep, BeginsSteps, Calls, Closes, CountsCheck, IsMemory, MakesCall};
-ghost use Rattle.histar_test.specs.Running.{Starts, TakesStep, TakesSteps, WritesStep, closing_text};
+ghost use Rattle.histar_test.specs.Running.{Starts, TakesStep, TakesSteps, WritesStep, close_text};
 
 use crate::checks::{Check, Made, check_text, unexpected};
 use crate::questions::{Question, ask};
@@ -125,9 +125,9 @@ impl Run {
     fn close<W: Sink>(&mut self, alloc: Global, file: &[u8], writer: &mut W) -> Result<(), Fault>
         ensures ok { OnOk result (Closes self.old self.new) }
         ensures written { OnOk result (Appends (W.written writer.old) (W.written writer.new)
-            (closing_text file.now self.old)) }
+            (close_text file.now self.old)) }
         ensures err { OnErr result (AppendsFront (W.written writer.old) (W.written writer.new)
-            (closing_text file.now self.old)) }
+            (close_text file.now self.old)) }
         ensures faults { IfErr result IsOutputFault }
         ensures count { CountsFailure (W.failures writer.old) (W.failures writer.new)
             (is_write_failed result) }

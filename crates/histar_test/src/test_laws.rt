@@ -1,6 +1,8 @@
 //! What a test checks. Each law is the contract of a function that does nothing.
 ghost use Rattle.histar_test.specs.Laws.{ChecksAreOfTheMeaning, ExpectationsAreChecked};
-ghost use Rattle.histar_test.specs.Laws.{QuestionsAreOfReplies, TestsMakeTheCalls};
+ghost use Rattle.histar_test.specs.Laws.{QuestionsAreOfReplies, StrictTestsAreMet};
+ghost use Rattle.histar_test.specs.Laws.{StrictTestsKeepTheChecks, TestsMakeTheCalls};
+ghost use Rattle.histar_test.specs.Laws.{UnexpectedRefusalsAreChecked};
 
 /// Shows that the calls of a test are those of its script, in their order.
 pub fn tests_make_the_calls()
@@ -22,4 +24,21 @@ pub fn expectations_are_checked()
 /// as `letters_are_replies` of `histar_rights` says.
 pub fn questions_are_of_replies()
     ensures { QuestionsAreOfReplies }
+{}
+
+/// Shows that a strict test has the checks of the same test that isn't strict, and others that expect nothing.
+pub fn strict_tests_keep_the_checks()
+    ensures { StrictTestsKeepTheChecks }
+{}
+
+/// Shows that these others are of the calls that the script's meaning refuses and that no expectation follows
+/// before the next call, of each one.
+pub fn unexpected_refusals_are_checked()
+    ensures { UnexpectedRefusalsAreChecked }
+{}
+
+/// Shows that all checks of a strict test are met exactly if those of the same test that isn't strict are, and no
+/// call that nobody speaks of is refused.
+pub fn strict_tests_are_met()
+    ensures { StrictTestsAreMet }
 {}
