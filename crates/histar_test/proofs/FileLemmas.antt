@@ -156,7 +156,8 @@ pub none_run : (strict : Bool) (w : Option (List ℕ)) → AreRun strict [] (rec
 none_run strict w = record { written = Appends-nil w; count = refl; met = refl }
 
 -- one more test has been run
-pub more_run : {strict : Bool} {tests : List NamedTest} {tally : Tally} {a b : Option (List ℕ)} → (test : NamedTest) (after : Tally) (c : Option (List ℕ))
+pub more_run : {strict : Bool} {tests : List NamedTest} {tally : Tally} {a b : Option (List ℕ)} → (test : NamedTest) (after : Tally)
+    (c : Option (List ℕ))
     → AreRun strict tests tally a b → Appends b c (checks_text test.name (tally.count + 1) (checks_of strict test.test))
     → after ≡ tally_with tally (checks_of strict test.test) → AreRun strict (tests ++ test ∷ []) after a c
 more_run {strict = strict} {tests = tests} {tally = tally} {a = a} {b = b} test after c run more is =
@@ -164,7 +165,8 @@ more_run {strict = strict} {tests = tests} {tally = tally} {a = a} {b = b} test 
     let file = checked_of strict test in
     let all : map (checked_of strict) (tests ++ test ∷ []) ≡ front ++ file ∷ [] = map-append (checked_of strict) tests (test ∷ []) in
     let k : 1 + check_count front ≡ tally.count + 1 = omega (arith, run.count) in
-    let text : files_text 1 (map (checked_of strict) (tests ++ test ∷ [])) ≡ files_text 1 front ++ checks_text file.name (tally.count + 1) file.checks =
+    let text : files_text 1 (map (checked_of strict) (tests ++ test ∷ []))
+    ≡ files_text 1 front ++ checks_text file.name (tally.count + 1) file.checks =
     ap (files_text 1) all ∙ files_text-push 1 front file
     ∙ ap (λ (n : ℕ). files_text 1 front ++ checks_text file.name n file.checks) k in
     record {
@@ -179,7 +181,8 @@ more_run {strict = strict} {tests = tests} {tally = tally} {a = a} {b = b} test 
 -- one more test has been begun
 pub begun_run : {strict : Bool} {tests : List NamedTest} {tally : Tally} {a b : Option (List ℕ)} → (all later : List NamedTest) (test : NamedTest)
     (c : Option (List ℕ)) → all ≡ tests ++ test ∷ later → AreRun strict tests tally a b
-    → AppendsFront b c (checks_text test.name (tally.count + 1) (checks_of strict test.test)) → AppendsFront a c (files_text 1 (map (checked_of strict) all))
+    → AppendsFront b c (checks_text test.name (tally.count + 1) (checks_of strict test.test))
+    → AppendsFront a c (files_text 1 (map (checked_of strict) all))
 begun_run {strict = strict} {tests = tests} {tally = tally} {a = a} {b = b} all later test c parts run begun =
     let front = map (checked_of strict) tests in
     let file = checked_of strict test in
@@ -217,7 +220,8 @@ front_first a b first second begun = (
 )
 
 -- the first text was written, and then a beginning of the second
-pub front_second : (a b c : Option (List ℕ)) (first second : List ℕ) → Appends a b first → AppendsFront b c second → AppendsFront a c (first ++ second)
+pub front_second : (a b c : Option (List ℕ)) (first second : List ℕ) → Appends a b first → AppendsFront b c second
+    → AppendsFront a c (first ++ second)
 front_second a b c first second one two = (
   two.0,
   record {

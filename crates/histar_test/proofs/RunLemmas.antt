@@ -49,7 +49,8 @@ call_made old new call said text reply means is is_refused refuses accounts f sh
     record { shows = as_meant.shows; is = λ i. record { line = call.line; said = said; reply = words i; is_refused = marked i } }
 
 -- closing the open call and making one is taking its step
-pub call_taken : (old mid new : Run) (call : CallLine) (said : List ℕ) → Closes old mid → Calls mid new call said → TakesStep old new (Makes call said)
+pub call_taken : (old mid new : Run) (call : CallLine) (said : List ℕ) → Closes old mid → Calls mid new call said
+    → TakesStep old new (Makes call said)
 call_taken old mid new call said closes calls accounts f shows =
     let is = calls.makes accounts f (subst (λ (m : MachineModel). Shows accounts m f) (sym closes.machine) shows) in
     record {
@@ -117,7 +118,8 @@ rights_begun a b file old q check asks begun accounts f shows =
 
 -- checking an expectation takes its step, if the check of the open call is counted
 pub text_counted : (old new : Run) (made : Made) (wanted : List ℕ) (left : Option Made) → old.last ≡ Some made → left ≡ None
-    → CountsCheck (record { strict = old.strict; machine = old.machine; last = left; tally = old.tally }) new (record { made = made; wanted = Some wanted })
+    → CountsCheck (record { strict = old.strict; machine = old.machine; last = left; tally = old.tally }) new
+    (record { made = made; wanted = Some wanted })
     → TakesStep old new (Expects wanted)
 text_counted old new made wanted left is none counts =
     text_taken old new wanted counts.strict counts.machine (counts.last ∙ none)
@@ -131,7 +133,8 @@ text_written a b file old made wanted is written accounts f shows =
 
 -- a beginning of the lines of an expectation's check is written
 pub text_begun : (a b : Option (List ℕ)) (file : List ℕ) (old : Run) (made : Made) (wanted : List ℕ) → old.last ≡ Some made
-    → AppendsFront a b (check_text file (old.tally.count + 1) (record { made = made; wanted = Some wanted })) → BeginsStep file old (Expects wanted) a b
+    → AppendsFront a b (check_text file (old.tally.count + 1) (record { made = made; wanted = Some wanted }))
+    → BeginsStep file old (Expects wanted) a b
 text_begun a b file old made wanted is begun accounts f shows =
     subst (AppendsFront a b) (reply_lines file (old.tally.count + 1) old.last made wanted is) begun
 
@@ -266,7 +269,8 @@ at_more {file = file} {start = start} {now = now} {new = new} {steps = steps} {s
         done = at.done ++ check;
         goes_on = λ later.
             ap (checks_ahead accounts f start) (append_assoc steps (step ∷ []) later) ∙ goes_further step later at
-            ∙ ap₂ (λ (s : Bool) (last : Option Made). at.done ++ (check ++ checks_from s accounts flat last later)) (sym taken.strict) (sym taken.last)
+            ∙ ap₂ (λ (s : Bool) (last : Option Made). at.done ++ (check ++ checks_from s accounts flat last later))
+            (sym taken.strict) (sym taken.last)
             ∙ sym (append_assoc at.done check (checks_ahead accounts flat new later));
         written = subst (Appends a c) (sym (text_on file start.tally now.tally at.done check at.tally))
             (Appends-trans a b c (checks_text file (start.tally.count + 1) at.done) (step_text file accounts at.flat now step) at.written

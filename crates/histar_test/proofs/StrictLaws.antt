@@ -192,7 +192,8 @@ module _ (text : List ℕ) (accounts : Accounts) where
           ap₂ (λ (e : Option (List ℕ)) (m : Bool). if is_some e then true else if m then false else is_expected_in lines) w.1 calls in
           let at : drop c.line (lines_of text) ≡ lines = ap (λ (k : ℕ). drop k (lines_of text)) (line_of_step (n + 1) line c said is) ∙ behind in
           let answers : refused_from f (Makes c said ∷ rest) ≡ due (Some a) lines ++ refused_from after rest =
-          ap (λ (ls : List (List ℕ)). if is_refusal a.reply && not (is_expected_in ls) then a ∷ refused_from after rest else refused_from after rest) at
+          ap (λ (ls : List (List ℕ)).
+          if is_refusal a.reply && not (is_expected_in ls) then a ∷ refused_from after rest else refused_from after rest) at
           ∙ one_more (is_refusal a.reply && not (is_expected_in lines)) a (refused_from after rest) in
           subst (λ (cs : List Check). Are cs (due o (line ∷ lines) ++ refused_from f (Makes c said ∷ rest))) (sym (filter-append has_none own more))
           (subst (λ (l : List RepliedCall). Are (filter has_none own ++ filter has_none more) (due o (line ∷ lines) ++ l)) (sym answers)
@@ -266,7 +267,8 @@ first_passes true x y on e = on e
 first_passes false x y on e = absurd cc
 
 -- checks that are met expect something, and are met
-parts_met : (checks : List Check) → list_all is_met checks ≡ true → (list_all is_met (filter has_expectation checks) ≡ true) × (filter has_none checks ≡ [])
+parts_met : (checks : List Check) → list_all is_met checks ≡ true
+    → (list_all is_met (filter has_expectation checks) ≡ true) × (filter has_none checks ≡ [])
 parts_met [] e = (refl, refl)
 parts_met (c ∷ checks) e = by (parts_met checks) c.made c.wanted e
   where
@@ -282,7 +284,8 @@ parts_met (c ∷ checks) e = by (parts_met checks) c.made c.wanted e
         (first_passes m all (list_all is_met (filter has_expectation checks)) (λ h. more.0) e, more.1)
 
 -- checks are met if all expect something, and those that do are met
-whole_met : (checks : List Check) → list_all is_met (filter has_expectation checks) ≡ true → filter has_none checks ≡ [] → list_all is_met checks ≡ true
+whole_met : (checks : List Check) → list_all is_met (filter has_expectation checks) ≡ true → filter has_none checks ≡ []
+    → list_all is_met checks ≡ true
 whole_met [] e none = refl
 whole_met (c ∷ checks) e none = by (whole_met checks) c.made c.wanted e none
   where

@@ -98,7 +98,8 @@ fn report<W: Sink>(alloc: Global, tests: Vec<NamedTest>, writer: &mut W) -> Resu
     Ok(tally.are_met)
 }
 
-/// Writes the lines of each test that is strict, and how many checks there were, and returns whether all are met.
+/// Writes the lines of the checks of strict tests, and how many checks there were, and returns whether all are
+/// met.
 fn report_strictly<W: Sink>(
     alloc: Global,
     tests: Vec<NamedTest>,

@@ -25,10 +25,12 @@ returns-in_err-tally-clause-err g c =
     let p = err_from_is_err_and c.from_residual-in_err-tally.result c.from_residual-in_err-tally.ensures.1 in
     let plan = planned c.args.tests.items _ c.in-Some.total c.requires c.as_slice.ensures.value c.in-Some.ensures in
     rw p.1 (front_second _ _ _ _ (files_text 1 (map (checked_of false) c.args.tests.items))
-    (subst (Appends (g.W.Sink.written c.args.writer.now) (g.W.Sink.written c.write_plan.new.writer)) plan c.in_ok-write_plan.ensures.ok) c.in_err-tally.ensures.err)
+    (subst (Appends (g.W.Sink.written c.args.writer.now) (g.W.Sink.written c.write_plan.new.writer)) plan c.in_ok-write_plan.ensures.ok)
+    c.in_err-tally.ensures.err)
 
 pub returns-clause-ok : goal.returns-clause-ok
 returns-clause-ok g c =
     let plan = planned c.args.tests.items _ c.in-Some.total c.requires c.as_slice.ensures.value c.in-Some.ensures in
     Appends-trans _ _ _ _ (files_text 1 (map (checked_of false) c.args.tests.items))
-    (subst (Appends (g.W.Sink.written c.args.writer.now) (g.W.Sink.written c.write_plan.new.writer)) plan c.in_ok-write_plan.ensures.ok) c.in_ok-tally.ensures.ok
+    (subst (Appends (g.W.Sink.written c.args.writer.now) (g.W.Sink.written c.write_plan.new.writer)) plan c.in_ok-write_plan.ensures.ok)
+    c.in_ok-tally.ensures.ok
