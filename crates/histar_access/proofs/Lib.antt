@@ -9,5 +9,6 @@ pub mod RightsLines
 pub mod TableLemmas
 pub mod RowLemmas
 pub mod Pieces
+pub mod ByUsers
 pub mod Runs
 pub mod Comparing

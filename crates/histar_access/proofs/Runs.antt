@@ -1,8 +1,7 @@
 -- The contract of `access`, put together from those of its parts.
 use Rattle.std.proofs.Common.{◌≡◌, ℕ, false, List, Option, Result, Ok, Err, refl, ap}
-use Rattle.std.proofs.Common.{inl, inr}
+use Rattle.std.proofs.Common.{inr}
 use Rattle.std.specs.Prelude.{IfErr, OnErr, OnOk, is_ok}
-use Rattle.std.proofs.KnownBytes.{Keeps-refl}
 use Rattle.histar_script.specs.declared.fault.Fault.{Fault}
 use Rattle.histar_script.specs.declared.fault.Fault.TheVariants.{BadScript, TooLong, OutOfMemory, ReadFailed, WriteFailed}
 use Rattle.histar_script.specs.Script.{ScriptModel}
@@ -11,9 +10,8 @@ use Rattle.histar_script.specs.Reading.{script_of}
 use Rattle.histar_script.specs.Runs.{IsOutputFault, LeavesSink, is_read_failed, is_write_failed}
 use Rattle.histar_shell.proofs.RunLemmas.{sink_called}
 use Rattle.histar_shell.specs.Machine.{MachineModel}
-use Rattle.histar_shell.specs.Outcome.{IsFaultAt}
 use Rattle.histar_prefix.specs.Prefix.{IsMachineOf, state_before}
-use Rattle.histar_access.specs.Session.{AccessText, BeginsToWrite, WritesAtFault}
+use Rattle.histar_access.specs.Session.{AccessText, BeginsToWrite, table_text}
 use Rattle.histar_access.specs.Shown.{AppendsTable, BeginsTable, IsShown}
 
 -- the result of `access`
@@ -54,36 +52,6 @@ sink_after old new (Ok done) h = tt
 sink_after old new (Err f) h = sink_called old new f h
 
 module _ (at : Option ℕ) where
-  -- ---- a text that is a script or none
-
-  -- the fault of reading the script is the one in the text, or out of memory
-  script_fault_agrees : (f : Fault) (read : Result ScriptModel Fault) → Gives (Err f) read → IsFaultAt read f
-  script_fault_agrees (BadScript n) read given = given
-  script_fault_agrees TooLong read given = given
-  script_fault_agrees OutOfMemory read given = tt
-  script_fault_agrees ReadFailed read given = absurd given
-  script_fault_agrees WriteFailed read given = absurd given
-
-  -- nothing was written at that fault
-  script_fault_writes : (f : Fault) (w : Option (List ℕ)) (read : Result ScriptModel Fault) → Gives (Err f) read → WritesAtFault at w w read f
-  script_fault_writes (BadScript n) w read given = Keeps-refl w
-  script_fault_writes TooLong w read given = Keeps-refl w
-  script_fault_writes OutOfMemory w read given = inl (Keeps-refl w)
-  script_fault_writes ReadFailed w read given = absurd given
-  script_fault_writes WriteFailed w read given = absurd given
-
-  -- the contract for a text with a fault
-  pub faulty_text : (text : List ℕ) (w : Option (List ℕ)) (f : Fault) → Gives (Err f) (script_of text) → AccessText at text w w (Err f)
-  faulty_text text w f given = record {
-    faults = script_fault_agrees f (script_of text) given;
-    writes = script_fault_writes f w
-        (script_of text) given;
-  }
-
-  -- the contract for a text if memory ran out before anything was written
-  pub unwritten_text : (text : List ℕ) (w : Option (List ℕ)) → AccessText at text w w (Err OutOfMemory)
-  unwritten_text text w = record { faults = tt; writes = inl (Keeps-refl w) }
-
   -- ---- a machine after the calls
 
   module _ (text : List ℕ) (end : MachineModel) (is : IsMachineOf at text end) where
@@ -98,7 +66,7 @@ module _ (at : Option ℕ) where
       writes = record { script = is.script; is_read = is.is_read; written = h is.script.accounts (state_before at is.script) is.shows is.named };
     }
 
-    begins : (old new : Option (List ℕ)) → BeginsTable end old new → BeginsToWrite at old new (script_of text)
+    begins : (old new : Option (List ℕ)) → BeginsTable end old new → BeginsToWrite (table_text at) old new (script_of text)
     begins old new h = record {
       script = is.script;
       is_read = is.is_read;

@@ -28,7 +28,7 @@ map_twice g h [] = refl
 map_twice g h (x ∷ xs) = ap (λ (l : List _). g (h x) ∷ l) (map_twice g h xs)
 
 -- the last of a mapped list is the image of the last
-last_made : {A B : Type 0} (g : A → B) (x : A) (xs : List A) → last_or (g x) (map g xs) ≡ g (last_or x xs)
+pub last_made : {A B : Type 0} (g : A → B) (x : A) (xs : List A) → last_or (g x) (map g xs) ≡ g (last_or x xs)
 last_made g x [] = refl
 last_made g x (y ∷ ys) = last_made g y ys
 

@@ -2,6 +2,7 @@
 pub mod Rows
 pub mod Cells
 pub mod Shown
+pub mod Users
 pub mod Session
 pub mod RightsTable
 pub mod Diff

@@ -7,6 +7,7 @@ mod changes;
 mod rights_table;
 mod session;
 mod table;
+mod users;
 
 pub use changes::{DiffOptions, diff};
-pub use session::access;
+pub use session::{access, access_users};

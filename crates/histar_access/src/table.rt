@@ -108,13 +108,13 @@ fn write_node<S: LabelStore + Drop, W: Sink>(
     Ok(row)
 }
 
-/// Returns the last of these rows, or the processes as they are above `/` if there is none.
-pub(crate) fn last_row<'a>(way: &'a [Vec<Cell>], visitors: &'a [Cell]) -> &'a [Cell]
-    ensures { result.now ≡ last_or visitors.now (map (λ row. row.items) way.now) }
+/// Returns the last of these rows, or that of the rights above `/` if there is none.
+pub(crate) fn last_row<'a, T>(way: &'a [Vec<T>], start: &'a [T]) -> &'a [T]
+    ensures { result.now ≡ last_or start.now (map (λ row. row.items) way.now) }
 {
     match way.last() {
         Some(row) => row.as_slice(),
-        None => visitors,
+        None => start,
     }
 }
 

@@ -5,3 +5,4 @@ pub mod Answered
 pub mod Named
 pub mod Listed
 pub mod Spelling
+pub mod ByUser

@@ -3,3 +3,4 @@ pub mod Rights
 pub mod Running
 pub mod Table
 pub mod Laws
+pub mod Users

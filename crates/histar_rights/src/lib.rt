@@ -3,5 +3,7 @@
 
 mod rights;
 pub mod rights_laws;
+mod users;
 
 pub use rights::{Rights, read_rights};
+pub use users::UserRights;

@@ -1,5 +1,6 @@
 //! What rights mean. Each law is the contract of a function that does nothing.
 ghost use Rattle.histar_rights.specs.Laws.{DirectoriesGiveRights, LettersAreReplies, LettersSpellRights};
+ghost use Rattle.histar_rights.specs.Users.{LettersOfUsersAreReplies};
 ghost use Rattle.histar_rights.specs.Laws.{ProcessesHaveShownNames, RunningAreListed, WritersMakeEntries};
 
 /// Shows that the rights at a path are those that its directory gives and that its class allows the process.
@@ -32,4 +33,10 @@ pub fn processes_are_named()
 /// Shows that a text is read as rights exactly if it is their letters, as `push_letters` adds them.
 pub fn letters_spell_rights()
     ensures { LettersSpellRights }
+{}
+
+/// Shows that a letter of a user is there exactly if one more line, by which a process of this user in no job
+/// and with none uses the right, is answered and not refused: so of a process that has just logged in.
+pub fn letters_of_users_are_replies()
+    ensures { LettersOfUsersAreReplies }
 {}

@@ -4,4 +4,4 @@ use Rattle.histar_access.proofs.RowLemmas.{last_found}
 use Rattle.histar_access.proofs.table.last_row.Goals as goal
 
 pub returns-in-Some : goal.returns-in-Some
-returns-in-Some c = c.as_slice.ensures.value ∙ sym (last_found c.args.visitors.now c.args.way.now c.in-Some.row.now c.in-Some.ensures.value)
+returns-in-Some g c = c.as_slice.ensures.value ∙ sym (last_found c.args.start.now c.args.way.now c.in-Some.row.now c.in-Some.ensures.value)

@@ -1,0 +1,70 @@
+-- The table of rights by users, computed from the classes of files and directories.
+use Rattle.std.specs.Prelude.{◌≡◌, ℕ, Bool, true, false, ◌&&◌, List, [], ◌∷◌, ◌++◌, length, map, take}
+use Rattle.histar_flat.specs.declared.calls.User.{User}
+use Rattle.histar_flat.specs.Words.{Name}
+use Rattle.histar_flat.specs.Accounts.{Accounts, is_member}
+use Rattle.histar_base.specs.Paths.{same}
+use Rattle.histar_flat.specs.Classes.{nobody}
+use Rattle.histar_flat.specs.FlatState.{Flat}
+use Rattle.histar_layout.specs.declared.class.Class.{Class}
+use Rattle.histar_layout.specs.declared.class.Class.TheVariants.{Private, Readable, Open, Scratch, Group}
+use Rattle.histar_rights.specs.Rights.{above_root, rights_below}
+use Rattle.histar_rights.specs.Running.{HaveShownNames}
+use Rattle.histar_rights.specs.declared.users.UserRights.{UserRights}
+use Rattle.histar_rights.specs.Users.{UsersLine, users_table, users_text}
+use Rattle.histar_readout.specs.declared.tree.TreeNode.{TreeNode}
+use Rattle.histar_readout.specs.TreeLines.{node_stat}
+use Rattle.histar_shell.specs.Machine.{MachineModel}
+use Rattle.histar_shell.specs.Meaning.{Shows}
+use Rattle.histar_access.specs.Rows.{last_or}
+
+-- the list is empty
+abbrev pub is_none : List ℕ → Bool
+is_none [] = true
+is_none (x ∷ xs) = false
+
+-- a process of this user, in no job and with none, may read what is of a class: what is of a job it may not
+abbrev pub class_reads : Accounts → Name → Class → Bool
+class_reads users user (Private owner) = same user owner
+class_reads users user (Readable owner) = true
+class_reads users user Open = true
+class_reads users user (Scratch owner jobs) = same user owner && is_none jobs
+class_reads users user (Group group) = is_member users user group
+
+-- the same process may write it: what it may read, but a readable file only as its owner
+abbrev pub class_writes : Accounts → Name → Class → Bool
+class_writes users user (Readable owner) = same user owner
+class_writes users user class = class_reads users user class
+
+-- a user with the rights that each process has above `/`
+abbrev pub from_above : Name → UserRights
+from_above user = record { user = user; rights = above_root }
+
+-- nobody and each user of these, with those rights
+abbrev pub starting : Accounts → List UserRights
+starting users = from_above nobody ∷ map (λ (u : User). from_above u.name) users.users
+
+-- the rights of a user at an entry of this class, by those at its directory
+abbrev pub user_below : Accounts → Class → UserRights → UserRights
+user_below users class u = record u { rights = rights_below u.rights (class_reads users u.user class) (class_writes users u.user class) }
+
+-- the same of several users
+abbrev pub users_below : Accounts → Class → List UserRights → List UserRights
+users_below users class above = map (user_below users class) above
+
+-- what `stat` shows of a file or a directory, and the rights there
+abbrev pub users_line_at : TreeNode → List UserRights → UsersLine
+users_line_at node row = record { path = node.path; stat = node_stat node; users = row }
+
+-- The lines of files and directories, each after that of its directory, computed from the rights on the way to the node before: those at
+-- the directories above the node are kept.
+abbrev pub users_from : Accounts → List UserRights → List (List UserRights) → List TreeNode → List UsersLine
+users_from users start way [] = []
+users_from users start way (node ∷ tree) =
+    let above = take (length node.path) way in
+    let row = users_below users node.class (last_or start above) in
+    users_line_at node row ∷ users_from users start (above ++ row ∷ []) tree
+
+-- for every flat state that the machine represents, this is the text of its table by users
+abbrev pub IsUsersText : MachineModel → List ℕ → Type 0
+IsUsersText m text = (accounts : Accounts) (f : Flat) → Shows accounts m f → HaveShownNames f → text ≡ users_text (users_table accounts f)
