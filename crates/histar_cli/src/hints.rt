@@ -17,7 +17,7 @@ fn file_of<'a>(task: &Task<'a>) -> Option<(&'a str, bool)> {
         Task::Raw(path, _) => Some((*path, true)),
         Task::Check(_, path, _) => Some((*path, false)),
         Task::CheckAll(path, _) => Some((*path, false)),
-        Task::Access(path, _) => Some((*path, false)),
+        Task::Access(path, _, _) => Some((*path, false)),
         Task::Trust(_, path, _) => Some((*path, false)),
         Task::Leak(_, path, _) => Some((*path, false)),
         Task::Flows(path, _) => Some((*path, false)),

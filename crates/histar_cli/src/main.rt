@@ -65,15 +65,16 @@ fn check_job<R: Files + Input + Print>(
     Ok(check_file(rt, alloc, &job, path, flags))
 }
 
-/// Prints who may do what after the script in a file, or before this line.
+/// Prints which process may do what after the script in a file, or before this line, or which user.
 fn access_at<R: Files + Input + Print>(
     rt: &R,
     alloc: Global,
     path: &str,
     line: Option<&str>,
+    users: bool,
 ) -> Performed {
     let line = read_line(line)?;
-    Ok(access_file(rt, alloc, path, line))
+    Ok(access_file(rt, alloc, path, line, users))
 }
 
 /// Prints whose rights differ after two scripts, or before this line of both; or only where the new one gives more.
@@ -151,7 +152,7 @@ fn perform<R: Files + Input + Print>(rt: &R, alloc: Global, task: &Task<'_>) -> 
         Task::Raw(path, explain) => Ok(run_raw_file(rt, alloc, path, *explain)),
         Task::Check(job, path, flags) => check_job(rt, alloc, job, path, *flags),
         Task::CheckAll(path, flags) => Ok(check_each_job(rt, alloc, path, *flags)),
-        Task::Access(path, line) => access_at(rt, alloc, path, *line),
+        Task::Access(path, line, users) => access_at(rt, alloc, path, *line, *users),
         Task::Diff(old, new, line, more) => diff_at(rt, alloc, old, new, *line, *more),
         Task::Trust(path, file, line) => trust_at(rt, alloc, path, file, *line),
         Task::Leak(path, file, line) => leak_at(rt, alloc, path, file, *line),

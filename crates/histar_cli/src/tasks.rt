@@ -4,7 +4,7 @@ ghost use Rattle.std.specs.List.{flat_map, list_all};
 ghost use Rattle.histar_comparison.specs.Jobs.{job_text};
 ghost use Rattle.histar_cli.specs.Checks.{is_same_without};
 
-use histar_access::{DiffOptions, access, diff};
+use histar_access::{DiffOptions, access, access_users, diff};
 use histar_command_line::{CheckFlags, RunFlags, VERSION};
 use histar_comparison::{JobVerdict, Verdict, compare, compare_all, explain_comparison};
 use histar_console::{Outcome, finish, open, output, run_plain};
@@ -152,16 +152,21 @@ fn is_so(holds: bool) -> Outcome {
     if holds { Outcome::Done } else { Outcome::NotSo }
 }
 
-/// Prints who may do what after the calls of the script in a file, or before a line.
+/// Prints which process may do what after the calls of the script in a file, or before a line, or which user.
 pub fn access_file<R: Files + Input + Print>(
     rt: &R,
     alloc: Global,
     path: &str,
     at: Option<u32>,
+    users: bool,
 ) -> Result<Outcome, Fault> {
     let mut reader = open(rt, path)?;
     let mut writer = output(rt, alloc)?;
-    let done = access(alloc, &mut reader, &mut writer, at);
+    let done = if users {
+        access_users(alloc, &mut reader, &mut writer, at)
+    } else {
+        access(alloc, &mut reader, &mut writer, at)
+    };
     finish(done.map(|_| Outcome::Done), writer)
 }
 

@@ -69,9 +69,9 @@ abbrev pub check_app : App
 check_app = subcommand_app (codes "check")
     (flag_rule (codes "why") ∷ flag_rule (codes "all") ∷ flag_rule (codes "exit-code") ∷ word_rule (codes "JOB") ∷ unless_rule (codes "FILE") ∷ [])
 
--- `access [--at LINE] FILE`
+-- `access [--users] [--at LINE] FILE`
 abbrev pub access_app : App
-access_app = subcommand_app (codes "access") (option_rule (codes "LINE") (codes "at") ∷ word_rule (codes "FILE") ∷ [])
+access_app = subcommand_app (codes "access") (flag_rule (codes "users") ∷ option_rule (codes "LINE") (codes "at") ∷ word_rule (codes "FILE") ∷ [])
 
 -- `diff [--more] [--at LINE] OLD NEW`
 abbrev pub diff_app : App

@@ -22,7 +22,7 @@ subcommand (Try file calls at) = codes "try"
 subcommand (Raw file explain) = codes "raw"
 subcommand (Check job file flags) = codes "check"
 subcommand (CheckAll file flags) = codes "check"
-subcommand (Access file at) = codes "access"
+subcommand (Access file at users) = codes "access"
 subcommand (Diff old new at more) = codes "diff"
 subcommand (Trust path file at) = codes "trust"
 subcommand (Leak path file at) = codes "leak"
@@ -60,9 +60,10 @@ HasArguments (CheckAll file flags) rows =
     × (first_of (codes "JOB") rows ≡ Some file.now)
     × (first_of (codes "FILE") rows ≡ None)
     × HasFlags flags rows
-HasArguments (Access file at) rows =
+HasArguments (Access file at users) rows =
     (first_of (codes "FILE") rows ≡ Some file.now)
     × (option_map (λ line. line.now) at ≡ first_of (codes "LINE") rows)
+    × (users ≡ is_set (codes "users") rows)
 HasArguments (Diff old new at more) rows =
     (first_of (codes "OLD") rows ≡ Some old.now)
     × (first_of (codes "NEW") rows ≡ Some new.now)

@@ -144,7 +144,7 @@ Exit status: 0; with --exit-code it is 5 for anything but same",
     }
 }
 
-/// Returns `access [--at LINE] FILE`.
+/// Returns `access [--users] [--at LINE] FILE`.
 pub(crate) fn access<'a>() -> Form<'a>
     ensures { form_app result ≡ access_app }
 {
@@ -158,11 +158,18 @@ pub(crate) fn access<'a>() -> Form<'a>
   d  it may take it away
   -  it may not
 
+With --users there are rights for `nobody` and for each user in place of the processes: those of a process that has
+just logged in as the user, and is in no job.
+
 Example:
   histar access examples/access/tenants.histar
 prints, among others, the line
   /srv/drop/bolt/orders file - group:bolt 0:---- 0.1:---- 0.2:srwd 0.3:---- 0.4:---- 0.4.1:srwd",
         arguments: &[
+            Argument::Flag(
+                "users",
+                "Print the rights of each user, and not of each process",
+            ),
             Argument::Valued("LINE", "at", AT),
             Argument::Word("FILE", SCRIPT),
         ],

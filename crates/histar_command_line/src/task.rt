@@ -43,8 +43,9 @@ pub enum Task<'a> {
     Check(&'a str, &'a str, CheckFlags),
     /// Compare the script in this file with the ones without each of the jobs that it starts.
     CheckAll(&'a str, CheckFlags),
-    /// Print who may do what after the script in this file, or before the line of this number.
-    Access(&'a str, Option<&'a str>),
+    /// Print which process may do what after the script in this file, or before the line of this number; or
+    /// which user, if that is asked for.
+    Access(&'a str, Option<&'a str>, bool),
     /// Print whose rights differ after an old script and a new one, or before the line of this number in
     /// both; or only where the new one gives more.
     Diff(&'a str, &'a str, Option<&'a str>, bool),
@@ -127,7 +128,8 @@ fn state_task_of<'a>(matches: &ArgMatches<'a>) -> Option<Task<'a>>
     if let Some(access) = matches.subcommand_matches("access") {
         let file = access.get_str("FILE")?;
         let at = access.get_str("LINE");
-        return Some(Task::Access(file, at));
+        let users = is_set(access, "users");
+        return Some(Task::Access(file, at, users));
     }
     if let Some(diff) = matches.subcommand_matches("diff") {
         let old = diff.get_str("OLD")?;

@@ -31,6 +31,7 @@ fn run_trial(alloc: Global, trial: &Trial<'_>) -> Result<Vec<u8>, Fault> {
         Kind::CheckWhy(job) => questions::reason(alloc, trial.body, &job),
         Kind::CheckAll => questions::verdicts(alloc, trial.body),
         Kind::Access(at) => questions::rights(alloc, trial.body, at),
+        Kind::AccessUsers(at) => questions::user_rights(alloc, trial.body, at),
         Kind::Diff(options) => questions::changes(alloc, trial.body, options),
         Kind::Trust(path, at) => questions::trusted(alloc, trial.body, &path, at),
         Kind::Leak(path, at) => questions::leaks(alloc, trial.body, &path, at),

@@ -1,7 +1,7 @@
 //! Questions to scripts: why, who may, what changes, on whom it depends, and what is wrong.
 use crate::script::with_fault;
 use crate::trial::FileKind;
-use histar_access::{DiffOptions, access, diff};
+use histar_access::{DiffOptions, access, access_users, diff};
 use histar_comparison::{compare_all, explain_comparison};
 use histar_flat::{Path, ProcName, split_at_first};
 use histar_leak::leak;
@@ -58,6 +58,14 @@ pub fn rights(alloc: Global, script: &[u8], at: Option<u32>) -> Result<Vec<u8>, 
     let mut reader = Counted::new(script);
     let mut writer = Counted::new(Vec::new(alloc));
     let done = access(alloc, &mut reader, &mut writer, at);
+    with_fault(alloc, done, writer.into_inner())
+}
+
+/// Returns the table of the rights of users in a script, before a line or at its end.
+pub fn user_rights(alloc: Global, script: &[u8], at: Option<u32>) -> Result<Vec<u8>, Fault> {
+    let mut reader = Counted::new(script);
+    let mut writer = Counted::new(Vec::new(alloc));
+    let done = access_users(alloc, &mut reader, &mut writer, at);
     with_fault(alloc, done, writer.into_inner())
 }
 

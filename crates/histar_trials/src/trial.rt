@@ -21,6 +21,8 @@ pub enum Kind {
     CheckAll,
     /// The rights in a script, before a line or at its end.
     Access(Option<u32>),
+    /// The rights of users there.
+    AccessUsers(Option<u32>),
     /// The rights that differ between two scripts, or only those that the new one gives.
     Diff(DiffOptions),
     /// On whom it depends what is at a path.
@@ -141,6 +143,7 @@ fn read_check(word: &[u8], rest: Option<&[u8]>) -> Option<Kind> {
 fn read_question(word: &[u8], rest: Option<&[u8]>) -> Option<Kind> {
     match word {
         b"access" => Some(Kind::Access(read_line(rest)?)),
+        b"access_users" => Some(Kind::AccessUsers(read_line(rest)?)),
         b"diff" => Some(Kind::Diff(differences(rest, false)?)),
         b"diff_more" => Some(Kind::Diff(differences(rest, true)?)),
         b"flows" => Some(Kind::Flows(read_line(rest)?)),

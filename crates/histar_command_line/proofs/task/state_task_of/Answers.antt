@@ -15,6 +15,7 @@ returns-in-Some c =
       (
         sym (c.in_ok-file.ensures ∙ first_value-rows found (codes "FILE")),
         c.get_str-at.ensures ∙ first_value-rows found (codes "LINE"),
+        c.is_set-users.ensures ∙ ap is_given (first_value-rows found (codes "users")),
       ),
     )
 
