@@ -2,8 +2,8 @@
 //! the line `#! PATH PROC RIGHTS` the expected rights of a process at a path there.
 //!
 //! `specs/Steps.antt` defines the steps of a text, and `specs/Checks.antt` what is written of each
-//! expectation and question, in the form of the Test Anything Protocol. [`test_laws`] says what a test
-//! checks.
+//! expectation and question, in the form of the Test Anything Protocol. A strict test also has a check for
+//! each refusal that nobody expected. [`test_laws`] says what a test checks.
 #![tactic(auto)]
 
 mod checks;
