@@ -5,4 +5,5 @@ pub mod LineLaws
 pub mod StrictLaws
 pub mod CheckLemmas
 pub mod RunLemmas
+pub mod ShownTrusted
 pub mod FileLemmas

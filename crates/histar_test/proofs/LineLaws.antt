@@ -25,13 +25,13 @@ use Rattle.histar_diff.proofs.Changes.{rights_answered}
 use Rattle.histar_prefix.specs.Prefix.{calls_before, state_before}
 use Rattle.histar_test.specs.declared.checks.Check.{Check}
 use Rattle.histar_test.specs.declared.checks.Made.{Made}
-use Rattle.histar_test.specs.declared.questions.Question.{Question}
+use Rattle.histar_test.specs.declared.asking.Asking.{Asking}
 use Rattle.histar_test.specs.declared.steps.Step.{Step}
 use Rattle.histar_test.specs.declared.steps.Step.TheVariants.{Makes, Expects, Asks}
-use Rattle.histar_test.specs.Checks.{asked_in, checks_from, checks_of, made_of, question_check}
-use Rattle.histar_test.specs.Laws.{ChecksAreOfTheMeaning, ExpectationsAreChecked, IsExpectedOn, IsLastAnswer, IsOfTheMeaning, NumberedLine}
+use Rattle.histar_test.specs.Checks.{asked_check, asked_in, checks_from, checks_of, made_of, trusted_text, wanted_text}
+use Rattle.histar_test.specs.Laws.{ChecksAreOfTheMeaning, ClaimsAreMet, ExpectationsAreChecked, IsExpectedOn, IsLastAnswer, IsOfTheMeaning, NumberedLine}
 use Rattle.histar_test.specs.Laws.{QuestionsAreOfReplies, wanting_from, wanting_in, wants}
-use Rattle.histar_test.specs.Steps.{Test, asked_of, call_in, calls_in, expectation_of, open_after, question_of, step_of, steps_from, test_of}
+use Rattle.histar_test.specs.Steps.{Test, asked_of, asking_of, call_in, calls_in, expectation_of, open_after, step_of, steps_from, test_of}
 use Rattle.histar_test.proofs.StepLaws.{OpensTo, call_wanted, calls_by, calls_on, none_wanted, on_line, read_as, rights_wanted, tests_make_the_calls}
 use Rattle.histar_test.proofs.StepLaws.{text_wanted}
 
@@ -165,10 +165,10 @@ module _ (script : ScriptModel) where
           (sym (listed n line lines (λ i. is_some (w.0 i) || is_some (w.1 i)))) (
             (
               subst (λ (o : Option (List ℕ)). MatchOption o (IsSomeAnd (expectation_of line) (λ t. Some text ≡ Some t))
-                  (λ asked. IsSomeAnd (question_of n asked) (λ (q : Question). Some text ≡ Some (rights_text q.wanted)))) (sym w.0)
+                  (λ asked. IsSomeAnd (asking_of n asked) (λ (q : Asking). Some text ≡ Some (wanted_text q)))) (sym w.0)
                   (subst (λ (o : Option (List ℕ)). IsSomeAnd o (λ t. Some text ≡ Some t)) (sym w.1) refl),
               subst (λ (o : Option (List ℕ)). MatchOption o (IsLastAnswer made (meaning script.accounts (calls_before (Some n) script.calls)))
-                  (λ asked. IsSomeAnd (question_of n asked) (λ (q : Question). made ≡ asked_in script.accounts (state_before (Some n) script) q)))
+                  (λ asked. IsSomeAnd (asking_of n asked) (λ (q : Asking). made ≡ asked_in script.accounts (state_before (Some n) script) q)))
                   (sym w.0)
                   (subst (λ (cs : List CallLine). IsLastAnswer made (meaning script.accounts cs)) (sym at) has),
             ),
@@ -176,23 +176,23 @@ module _ (script : ScriptModel) where
           )
 
       -- the case of a line with a question
-      asked_there : (q : Question) (last : Option Made) → step_of n line ≡ Ok (Some (Asks q)) → open_after is_open (Asks q) ≡ Some opened
+      asked_there : (q : Asking) (last : Option Made) → step_of n line ≡ Ok (Some (Asks q)) → open_after is_open (Asks q) ≡ Some opened
           → script.calls ≡ done ++ calls_in rest → is_some last ≡ is_open → HasLast done last → AreOfLines n (line ∷ lines) done last (Asks q ∷ rest)
       asked_there q last is opens calls was has =
           let w = rights_wanted n line (asked_of line) (expectation_of line) (call_in n (item_of line)) q is in
-          let check = question_check script.accounts (flat done) q in
+          let check = asked_check script.accounts (flat done) q in
           subst (λ (ls : List NumberedLine). AllZip IsCheckOf ls (check ∷ checks_from false script.accounts (flat done) last rest))
           (sym (listed n line lines (λ i. is_some (w.1 i) || is_some (expectation_of line)))) (
             (
               subst (λ (o : Option (List ℕ)). MatchOption o (IsSomeAnd (expectation_of line) (λ t. check.wanted ≡ Some t))
-                  (λ asked. IsSomeAnd (question_of n asked) (λ (x : Question). check.wanted ≡ Some (rights_text x.wanted)))) (sym w.1)
-                  (subst (λ (o : Option Question). IsSomeAnd o (λ (x : Question). check.wanted ≡ Some (rights_text x.wanted))) (sym w.2) refl),
+                  (λ asked. IsSomeAnd (asking_of n asked) (λ (x : Asking). check.wanted ≡ Some (wanted_text x)))) (sym w.1)
+                  (subst (λ (o : Option Asking). IsSomeAnd o (λ (x : Asking). check.wanted ≡ Some (wanted_text x))) (sym w.2) refl),
               subst (λ (o : Option (List ℕ)). MatchOption o (IsLastAnswer check.made (meaning script.accounts (calls_before (Some n) script.calls)))
-                  (λ asked. IsSomeAnd (question_of n asked)
-                  (λ (x : Question). check.made ≡ asked_in script.accounts (state_before (Some n) script) x)))
+                  (λ asked. IsSomeAnd (asking_of n asked)
+                  (λ (x : Asking). check.made ≡ asked_in script.accounts (state_before (Some n) script) x)))
                   (sym w.1)
-                  (subst (λ (o : Option Question). IsSomeAnd o
-                  (λ (x : Question). check.made ≡ asked_in script.accounts (state_before (Some n) script) x))
+                  (subst (λ (o : Option Asking). IsSomeAnd o
+                  (λ (x : Asking). check.made ≡ asked_in script.accounts (state_before (Some n) script) x))
                   (sym w.2) (ap (λ (cs : List CallLine). asked_in script.accounts (flat cs) q) (sym at))),
             ),
             later done last calls (before_next n done before) (was ∙ same_Some is_open opened opens) has,
@@ -298,3 +298,9 @@ questions_are_of_replies script n q =
       answered = rights_answered script.accounts (calls_before (Some n) script.calls) q.process q.path;
       met = (λ e. sym (same_letters letters q.wanted (decides.0 e)), λ e. decides.1 (ap rights_text (sym e)));
     }
+
+-- a claim is met exactly if it names the processes that are trusted
+pub claims_are_met : ClaimsAreMet
+claims_are_met script n c =
+    let decides = bytes_eq-Decides (trusted_text script.accounts (state_before (Some n) script) c.path) c.wanted in
+    (λ e. sym (decides.0 e), λ e. decides.1 (sym e))

@@ -29,10 +29,17 @@ use Rattle.histar_test.specs.declared.checks.Made.{Made}
 use Rattle.histar_test.specs.declared.running.Run.{Run}
 use Rattle.histar_test.specs.declared.running.Tally.{Tally}
 use Rattle.histar_test.specs.declared.steps.Step.{Step}
+use Rattle.histar_test.specs.declared.asking.Asking.{Asking}
+use Rattle.histar_test.specs.declared.asking.Asking.TheVariants.{OfRights, OfTrust}
+use Rattle.histar_test.specs.declared.claims.Claim.{Claim}
 use Rattle.histar_test.specs.declared.questions.Question.{Question}
+use Rattle.histar_secrecy.specs.Noninterference.{IsReached}
+use Rattle.histar_trust.specs.Findings.{HasState, ShowsReached}
+use Rattle.histar_flat.proofs.Laws.{states_go_on}
+use Rattle.histar_flat.specs.FlatCalls.{flat_after}
 use Rattle.histar_test.specs.declared.steps.Step.TheVariants.{Makes, Expects, Asks}
-use Rattle.histar_test.specs.Checks.{check_text, checks_from, checks_text, question_check, unexpected}
-use Rattle.histar_test.specs.Running.{AsksMachine, BeginsStep, BeginsSteps, Calls, Closes, CountsCheck, MakesCall, Starts}
+use Rattle.histar_test.specs.Checks.{check_text, asked_check, checks_from, checks_text, trusted_text, unexpected}
+use Rattle.histar_test.specs.Running.{AsksMachine, BeginsStep, BeginsSteps, Calls, Closes, CountsCheck, MakesCall, ShowsTrusted, Starts}
 use Rattle.histar_test.specs.Running.{TakesStep, TakesSteps, WritesStep, checks_ahead, close_checks, close_text}
 use Rattle.histar_test.specs.Running.{check_at, flat_at, last_at, reply_check, step_text, tally_with}
 use Rattle.histar_test.proofs.CheckLemmas.{check_first, checks_text-append, tally_more, tally_none}
@@ -48,14 +55,26 @@ call_made old new call said text reply means is is_refused refuses accounts f sh
     let marked = refuses ∙ ap is_refusal as_meant.is_reply in
     record { shows = as_meant.shows; is = λ i. record { line = call.line; said = said; reply = words i; is_refused = marked i } }
 
+-- a state that calls lead to leads on to others
+goes_on_reached : (accounts : Accounts) (f : Flat) (call : CallLine) → IsReached accounts f
+    → IsReached accounts (flat_after accounts f call.process call.call)
+goes_on_reached accounts f call (calls, is) = (
+  calls ++ call ∷ [],
+  states_go_on accounts (boot accounts) calls (call ∷ []) ∙ ap (λ (g : Flat). flat_after accounts g call.process call.call) is,
+)
+
+-- a machine represents the same on another way to it
+same_machine : {accounts : Accounts} {old new : MachineModel} {f : Flat} → new ≡ old → ShowsReached accounts old f → ShowsReached accounts new f
+same_machine {accounts = accounts} {f = f} same r = subst (λ (m : MachineModel). ShowsReached accounts m f) (sym same) r
+
 -- closing the open call and making one is taking its step
 pub call_taken : (old mid new : Run) (call : CallLine) (said : List ℕ) → Closes old mid → Calls mid new call said
     → TakesStep old new (Makes call said)
-call_taken old mid new call said closes calls accounts f shows =
-    let is = calls.makes accounts f (subst (λ (m : MachineModel). Shows accounts m f) (sym closes.machine) shows) in
+call_taken old mid new call said closes calls accounts f r =
+    let is = calls.makes accounts f (subst (λ (m : MachineModel). Shows accounts m f) (sym closes.machine) r.shows) in
     record {
       strict = calls.strict ∙ closes.strict;
-      shows = is.shows;
+      shows = record { shows = is.shows; reached = goes_on_reached accounts f call r.reached };
       last = calls.last ∙ ap (λ (m : Made). Some m) is.is;
       tally = calls.tally ∙ closes.tally;
     }
@@ -65,17 +84,17 @@ pub text_taken : (old new : Run) (wanted : List ℕ) → new.strict ≡ old.stri
     → new.tally ≡ tally_with old.tally (reply_check old.last wanted) → TakesStep old new (Expects wanted)
 text_taken old new wanted kept same none tally accounts f shows = record {
   strict = kept;
-  shows = subst (λ (m : MachineModel). Shows accounts m f) (sym same) shows;
+  shows = same_machine same shows;
   last = none;
   tally = tally;
 }
 
 -- checking a question is taking its step
-pub rights_taken : (old new : Run) (q : Question) (check : Check) → AsksMachine old.machine q check → CountsCheck old new check
+pub rights_taken : (old new : Run) (q : Asking) (check : Check) → AsksMachine old.machine q check → CountsCheck old new check
     → TakesStep old new (Asks q)
 rights_taken old new q check asks counts accounts f shows = record {
   strict = counts.strict;
-  shows = subst (λ (m : MachineModel). Shows accounts m f) (sym counts.machine) shows;
+  shows = same_machine counts.machine shows;
   last = counts.last;
   tally = counts.tally ∙ ap (λ (c : Check). tally_with old.tally (c ∷ [])) (asks accounts f shows);
 }
@@ -83,13 +102,23 @@ rights_taken old new q check asks counts accounts f shows = record {
 -- the check of a question, given the rights that were found
 pub asked_so : (machine : MachineModel) (q : Question) (rights : Rights) (path : Path) (reply wanted : List ℕ) → path ≡ q.path
     → AreRightsOf machine path q.process rights → reply ≡ rights_text rights → wanted ≡ rights_text q.wanted
-    → AsksMachine machine q (record {
+    → AsksMachine machine (OfRights q) (record {
       made = record { line = q.line; said = q.said; reply = reply; is_refused = false };
       wanted = Some wanted;
     })
 asked_so machine q rights path reply wanted same are is wants accounts f shows =
-    let replied = is ∙ ap rights_text (are accounts f shows ∙ ap (λ (p : Path). rights_of accounts f p q.process) same) in
+    let replied = is ∙ ap rights_text (are accounts f shows.shows ∙ ap (λ (p : Path). rights_of accounts f p q.process) same) in
     λ i. record { made = record { line = q.line; said = q.said; reply = replied i; is_refused = false }; wanted = Some (wants i) }
+
+-- the check of a claim, given the processes that are trusted
+pub claimed_so : (machine : MachineModel) (c : Claim) (path : Path) (reply : List ℕ) → path ≡ c.path → ShowsTrusted machine path reply
+    → AsksMachine machine (OfTrust c) (record {
+      made = record { line = c.line; said = c.said; reply = reply; is_refused = false };
+      wanted = Some c.wanted;
+    })
+claimed_so machine c path reply same is accounts f r =
+    let replied = is accounts f r ∙ ap (trusted_text accounts f) same in
+    λ i. record { made = record { line = c.line; said = c.said; reply = replied i; is_refused = false }; wanted = Some c.wanted }
 
 -- the lines of the check of an expectation
 pub reply_lines : (file : List ℕ) (k : ℕ) (last : Option Made) (made : Made) (wanted : List ℕ) → last ≡ Some made
@@ -99,19 +128,19 @@ reply_lines file k last made wanted is =
     ∙ ap (λ (l : Option Made). checks_text file k (reply_check l wanted)) (sym is)
 
 -- the lines of the check of a question
-pub rights_lines : (accounts : Accounts) (f : Flat) (file : List ℕ) (k : ℕ) (q : Question) (check : Check) → check ≡ question_check accounts f q
-    → check_text file k check ≡ checks_text file k (question_check accounts f q ∷ [])
+pub rights_lines : (accounts : Accounts) (f : Flat) (file : List ℕ) (k : ℕ) (q : Asking) (check : Check) → check ≡ asked_check accounts f q
+    → check_text file k check ≡ checks_text file k (asked_check accounts f q ∷ [])
 rights_lines accounts f file k q check is =
     sym (append-nil (check_text file k check)) ∙ ap (λ (c : Check). checks_text file k (c ∷ [])) is
 
 -- the lines of a question's check are written
-pub rights_written : (a b : Option (List ℕ)) (file : List ℕ) (old : Run) (q : Question) (check : Check) → AsksMachine old.machine q check
+pub rights_written : (a b : Option (List ℕ)) (file : List ℕ) (old : Run) (q : Asking) (check : Check) → AsksMachine old.machine q check
     → Appends a b (check_text file (old.tally.count + 1) check) → WritesStep file old (Asks q) a b
 rights_written a b file old q check asks written accounts f shows =
     subst (Appends a b) (rights_lines accounts f file (old.tally.count + 1) q check (asks accounts f shows)) written
 
 -- a beginning of the lines of a question's check is written
-pub rights_begun : (a b : Option (List ℕ)) (file : List ℕ) (old : Run) (q : Question) (check : Check) → AsksMachine old.machine q check
+pub rights_begun : (a b : Option (List ℕ)) (file : List ℕ) (old : Run) (q : Asking) (check : Check) → AsksMachine old.machine q check
     → AppendsFront a b (check_text file (old.tally.count + 1) check) → BeginsStep file old (Asks q) a b
 rights_begun a b file old q check asks begun accounts f shows =
     subst (AppendsFront a b) (rights_lines accounts f file (old.tally.count + 1) q check (asks accounts f shows)) begun
@@ -150,7 +179,7 @@ nothing_counted old new wanted none strict machine last tally =
     (tally ∙ tally_none old.tally ∙ ap (λ (l : Option Made). tally_with old.tally (reply_check l wanted)) (sym none))
 
 -- before a question is asked nothing of it is written
-pub rights_unwritten : (file : List ℕ) (old : Run) (q : Question) (w : Option (List ℕ)) → BeginsStep file old (Asks q) w w
+pub rights_unwritten : (file : List ℕ) (old : Run) (q : Asking) (w : Option (List ℕ)) → BeginsStep file old (Asks q) w w
 rights_unwritten file old q w accounts f shows = (_, sent_none w _)
 
 -- what holds of a result without a fault follows from what is stronger
@@ -209,7 +238,7 @@ all_begun a b text all = ([], record { front = text; parts = sym (append-nil tex
 -- written and counted.
 pub record IsAt (accounts : Accounts) (f : Flat) (file : List ℕ) (start now : Run) (steps : List Step) (before after : Option (List ℕ)) : Type 0 where
   pub flat : Flat
-  pub shows : Shows accounts now.machine flat
+  pub shows : ShowsReached accounts now.machine flat
   pub strict : now.strict ≡ start.strict
   pub done : List Check
   pub goes_on : (later : List Step) → checks_ahead accounts f start (steps ++ later) ≡ done ++ checks_ahead accounts flat now later
@@ -218,7 +247,7 @@ pub record IsAt (accounts : Accounts) (f : Flat) (file : List ℕ) (start now : 
 
 -- The same for every flat state that the machine represented.
 pub record HasCome (file : List ℕ) (start now : Run) (steps : List Step) (before after : Option (List ℕ)) : Type 0 where
-  pub from : (accounts : Accounts) (f : Flat) → Shows accounts start.machine f → IsAt accounts f file start now steps before after
+  pub from : (accounts : Accounts) (f : Flat) → ShowsReached accounts start.machine f → IsAt accounts f file start now steps before after
 
 -- this holds before the first step
 pub at_start : (file : List ℕ) (run : Run) (w : Option (List ℕ)) → HasCome file run run [] w w
@@ -329,7 +358,21 @@ at_last {file = file} {start = start} {now = now} {steps = steps} {a = a} {b = b
     ∙ ap (λ (t : List ℕ). checks_text file k at.done ++ t) (sym (append-nil (close_text file now))) in
     subst (AppendsFront a c) (sym text) (front_after a b c (checks_text file k at.done) (close_text file now) [] at.written begun)
 
+-- the machine of a run has a state where the one that it began with has
+pub state_now : {file : List ℕ} {start now : Run} {steps : List Step} {a b : Option (List ℕ)} → HasCome file start now steps a b
+    → HasState start.machine → HasState now.machine
+state_now come has = let at = come.from has.0 has.1 has.2 in (has.0, at.flat, at.shows)
+
 -- ---- a whole test
+
+-- the machine of a run represents the start, to which no calls lead
+reached_start : {accounts : Accounts} {strict : Bool} {tally : Tally} {start : Run} → Starts accounts strict tally start
+    → ShowsReached accounts start.machine (boot accounts)
+reached_start starts = record { shows = starts.shows; reached = ([], refl) }
+
+-- it has a state
+pub start_has_state : {accounts : Accounts} {strict : Bool} {tally : Tally} {start : Run} → Starts accounts strict tally start → HasState start.machine
+start_has_state {accounts = accounts} starts = (accounts, boot accounts, reached_start starts)
 
 -- the steps of a test were taken from its start
 pub test_taken : {accounts : Accounts} {strict : Bool} {tally : Tally} {start now : Run} (a b : Option (List ℕ)) (file : List ℕ) (steps : List Step)
@@ -337,7 +380,7 @@ pub test_taken : {accounts : Accounts} {strict : Bool} {tally : Tally} {start no
     → Appends a b (checks_text file (tally.count + 1) (checks_from strict accounts (boot accounts) None steps))
     × (now.tally ≡ tally_with tally (checks_from strict accounts (boot accounts) None steps))
 test_taken {accounts = accounts} {now = now} a b file steps starts takes =
-    let taken = takes accounts (boot accounts) starts.shows in
+    let taken = takes accounts (boot accounts) (reached_start starts) in
     let Taken : Bool × (Option Made × Tally) → Type 0 = λ at.
     Appends a b (checks_text file (at.1.1.count + 1) (checks_from at.0 accounts (boot accounts) at.1.0 steps))
     × (now.tally ≡ tally_with at.1.1 (checks_from at.0 accounts (boot accounts) at.1.0 steps)) in
@@ -350,7 +393,7 @@ pub test_begun : {accounts : Accounts} {strict : Bool} {tally : Tally} {start : 
 test_begun {accounts = accounts} a b file steps starts begins =
     subst (λ (at : Bool × (Option Made × Tally)).
     AppendsFront a b (checks_text file (at.1.1.count + 1) (checks_from at.0 accounts (boot accounts) at.1.0 steps)))
-    (λ i. (starts.as_asked i, (starts.last i, starts.tally i))) (begins accounts (boot accounts) starts.shows)
+    (λ i. (starts.as_asked i, (starts.last i, starts.tally i))) (begins accounts (boot accounts) (reached_start starts))
 
 -- a list is the part before a place, the element there, and the part after it
 pub parts_at : {X : Type 0} → (all front : List X) (x : X) → front ≡ take (length front) all

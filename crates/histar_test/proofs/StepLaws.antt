@@ -1,5 +1,5 @@
 -- The calls and the expectations of a test are those of its lines.
-use Rattle.std.proofs.Common.{◌≡◌, ℕ, ◌+◌, Bool, true, false, List, [], ◌∷◌, ◌++◌, take, drop, length, Option, Some, None, Result, Ok, Err, ◌&&◌}
+use Rattle.std.proofs.Common.{◌≡◌, ℕ, ◌+◌, Bool, true, false, List, [], ◌∷◌, ◌++◌, take, drop, length, Option, Some, None, Result, Ok, Err, ◌&&◌, ◌||◌}
 use Rattle.std.proofs.Common.{refl, sym, ap, ◌∙◌, append-nil, append_assoc, arith}
 use Rattle.std.specs.Prelude.{codes, is_some, option_to_list, if◌then◌else◌, ◌==◌}
 use Rattle.std.specs.Option.{option_and_then}
@@ -22,33 +22,33 @@ use Rattle.histar_script.specs.Reading.{is_empty, item_of, reading, script_of, t
 use Rattle.histar_script.specs.Reading.{with_item, with_line, with_lines, words_item}
 use Rattle.histar_script.specs.Script.{ScriptModel, nothing_read}
 use Rattle.histar_test.specs.declared.checks.Made.{Made}
-use Rattle.histar_test.specs.declared.questions.Question.{Question}
+use Rattle.histar_test.specs.declared.asking.Asking.{Asking}
 use Rattle.histar_test.specs.declared.steps.Step.{Step}
 use Rattle.histar_test.specs.declared.steps.Step.TheVariants.{Makes, Expects, Asks}
 use Rattle.histar_test.specs.Checks.{checks_from, checks_of, made_of}
 use Rattle.histar_test.specs.Laws.{TestsMakeTheCalls}
-use Rattle.histar_test.specs.Steps.{Test, asked_of, asking_step, call_in, call_of_step, calls_in, expectation_count, expectation_of, open_after}
-use Rattle.histar_test.specs.Steps.{question_of, step_by, step_of, step_then, steps_before, steps_by, steps_from, test_by, test_of}
+use Rattle.histar_test.specs.Steps.{Test, asked_of, asking_of, asking_step, call_in, call_of_step, calls_in, expectation_count, expectation_of, open_after}
+use Rattle.histar_test.specs.Steps.{step_by, step_of, step_then, steps_before, steps_by, steps_from, test_by, test_of}
 use Rattle.histar_test.proofs.StepLemmas.{Read, by_step}
 
 -- ---- the step of a line, and the line
 
--- the step of a line with a question is that question
-asks_alone : (n : ℕ) (o : Option Question) (step : Option Step) → asking_step n o ≡ Ok step → (q : Question) × (step ≡ Some (Asks q)) × (o ≡ Some q)
+-- the step of a line with a question or a claim is that one
+asks_alone : (n : ℕ) (o : Option Asking) (step : Option Step) → asking_step n o ≡ Ok step → (q : Asking) × (step ≡ Some (Asks q)) × (o ≡ Some q)
 asks_alone n (Some q) step e = (q, cc, refl)
 asks_alone n None step e = absurd cc
 
 -- a line without a step has no question and no expectation
 pub none_wanted : (n : ℕ) (line : List ℕ) (asked text : Option (List ℕ)) (call : Option CallLine) → step_by n line asked text call ≡ Ok None
     → (asked ≡ None) × (text ≡ None)
-none_wanted n line (Some a) text call e = let alone = asks_alone n (question_of n a) None e in absurd cc
+none_wanted n line (Some a) text call e = let alone = asks_alone n (asking_of n a) None e in absurd cc
 none_wanted n line None (Some text) call e = absurd cc
 none_wanted n line None None call e = (refl, refl)
 
 -- a line with a call has no question and no expectation
 pub call_wanted : (n : ℕ) (line : List ℕ) (asked text : Option (List ℕ)) (call : Option CallLine) (c : CallLine) (said : List ℕ)
     → step_by n line asked text call ≡ Ok (Some (Makes c said)) → (asked ≡ None) × (text ≡ None) × (call ≡ Some c)
-call_wanted n line (Some a) text call c said e = let alone = asks_alone n (question_of n a) (Some (Makes c said)) e in absurd cc
+call_wanted n line (Some a) text call c said e = let alone = asks_alone n (asking_of n a) (Some (Makes c said)) e in absurd cc
 call_wanted n line None (Some text) call c said e = absurd cc
 call_wanted n line None None (Some d) c said e = (refl, refl, cc)
 call_wanted n line None None None c said e = absurd cc
@@ -56,18 +56,18 @@ call_wanted n line None None None c said e = absurd cc
 -- the text of an expectation is on its line
 pub text_wanted : (n : ℕ) (line : List ℕ) (asked text : Option (List ℕ)) (call : Option CallLine) (wanted : List ℕ)
     → step_by n line asked text call ≡ Ok (Some (Expects wanted)) → (asked ≡ None) × (text ≡ Some wanted)
-text_wanted n line (Some a) text call wanted e = let alone = asks_alone n (question_of n a) (Some (Expects wanted)) e in absurd cc
+text_wanted n line (Some a) text call wanted e = let alone = asks_alone n (asking_of n a) (Some (Expects wanted)) e in absurd cc
 text_wanted n line None (Some text) call wanted e = (refl, cc)
 text_wanted n line None None (Some d) wanted e = absurd cc
 text_wanted n line None None None wanted e = absurd cc
 
 -- the question is on its line
-pub rights_wanted : (n : ℕ) (line : List ℕ) (asked text : Option (List ℕ)) (call : Option CallLine) (q : Question)
-    → step_by n line asked text call ≡ Ok (Some (Asks q)) → (a : List ℕ) × (asked ≡ Some a) × (question_of n a ≡ Some q)
+pub rights_wanted : (n : ℕ) (line : List ℕ) (asked text : Option (List ℕ)) (call : Option CallLine) (q : Asking)
+    → step_by n line asked text call ≡ Ok (Some (Asks q)) → (a : List ℕ) × (asked ≡ Some a) × (asking_of n a ≡ Some q)
 rights_wanted n line (Some a) text call q e =
-    let alone = asks_alone n (question_of n a) (Some (Asks q)) e in
+    let alone = asks_alone n (asking_of n a) (Some (Asks q)) e in
     let same : alone.0 ≡ q = cc in
-    (a, refl, alone.2 ∙ ap (λ (x : Question). Some x) same)
+    (a, refl, alone.2 ∙ ap (λ (x : Asking). Some x) same)
 rights_wanted n line None (Some text) call q e = absurd cc
 rights_wanted n line None None (Some d) q e = absurd cc
 rights_wanted n line None None None q e = absurd cc
@@ -193,13 +193,15 @@ call_says (b ∷ bs) p c is = by (b == 35) (is_plain (b ∷ bs)) is
 pub no_comment : (line : List ℕ) → is_comment line ≡ false → (asked_of line ≡ None) × (expectation_of line ≡ None)
 no_comment [] is = (refl, refl)
 no_comment (b ∷ bs) is = (
-  ap (λ (hash : Bool). if hash && bytes_eq (take 2 bs) (codes "! ") then Some (drop 2 bs) else None) is,
+  ap (λ (hash : Bool).
+      if (hash && bytes_eq (take 2 bs) (codes "! ")) || ((hash && bytes_eq (take 8 bs) (codes "trusted ")) || (hash && bytes_eq bs (codes "trusted")))
+      then Some bs else None) is,
   ap (λ (hash : Bool). if hash && bytes_eq (take 2 bs) (codes "= ") then Some (drop 2 bs) else None) is,
 )
 
 -- a line with a question or an expectation makes no call
 no_call : (n : ℕ) (line : List ℕ) (asked text : Option (List ℕ)) (step : Option Step) → step_by n line asked text None ≡ Ok step → calls_by step ≡ []
-no_call n line (Some a) text step e = let alone = asks_alone n (question_of n a) step e in ap calls_by alone.1
+no_call n line (Some a) text step e = let alone = asks_alone n (asking_of n a) step e in ap calls_by alone.1
 no_call n line None (Some text) step e = let same : step ≡ Some (Expects text) = cc in ap calls_by same
 no_call n line None None step e = let same : step ≡ None = cc in ap calls_by same
 

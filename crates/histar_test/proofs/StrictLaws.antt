@@ -1,6 +1,6 @@
 -- What a strict test adds: a check for each refusal that nobody expected.
 use Rattle.std.proofs.Common.{◌≡◌, ℕ, ◌+◌, Bool, true, false, List, [], ◌∷◌, ◌++◌, drop, take, Option, Some, None, Ok, ◌&&◌}
-use Rattle.std.proofs.Common.{refl, sym, ap, ap₂, ◌∙◌, subst, append-nil}
+use Rattle.std.proofs.Common.{refl, sym, ap, ap₂, ◌∙◌, subst, append-nil, take-append-drop}
 use Rattle.std.specs.Prelude.{codes, filter, is_some, not, option_to_list, if◌then◌else◌}
 use Rattle.std.specs.List.{AllZip, list_all}
 use Rattle.std.specs.Str.{bytes_eq}
@@ -22,7 +22,7 @@ use Rattle.histar_test.specs.declared.checks.Check.{Check}
 use Rattle.histar_test.specs.declared.checks.Made.{Made}
 use Rattle.histar_test.specs.declared.steps.Step.{Step}
 use Rattle.histar_test.specs.declared.steps.Step.TheVariants.{Makes, Expects, Asks}
-use Rattle.histar_test.specs.Checks.{checks_from, checks_of, is_met, made_of, question_check, unexpected}
+use Rattle.histar_test.specs.Checks.{checks_from, checks_of, asked_check, is_met, made_of, unexpected}
 use Rattle.histar_test.specs.Laws.{IsAnswer, StrictTestsAreMet, StrictTestsKeepTheChecks, UnexpectedRefusalsAreChecked, has_expectation, has_none}
 use Rattle.histar_test.specs.Laws.{is_expected_in, is_unexpected_in, makes_call, unexpected_in}
 use Rattle.histar_test.specs.Steps.{asked_of, call_in, calls_in, expectation_of, open_after, step_by, step_of, steps_from}
@@ -54,7 +54,7 @@ kept accounts f None (Expects text ∷ steps) = kept accounts f None steps
 kept accounts f (Some made) (Expects text ∷ steps) =
     let check : Check = record { made = made; wanted = Some text } in
     ap (λ (cs : List Check). check ∷ cs) (kept accounts f None steps)
-kept accounts f last (Asks q ∷ steps) = ap (λ (cs : List Check). question_check accounts f q ∷ cs) (kept accounts f last steps)
+kept accounts f last (Asks q ∷ steps) = ap (λ (cs : List Check). asked_check accounts f q ∷ cs) (kept accounts f last steps)
 
 -- a strict test has the checks of the test that isn't strict
 pub strict_tests_keep_the_checks : StrictTestsKeepTheChecks
@@ -78,7 +78,7 @@ none_called n line None (Some t) call misses nothing e = absurd (none-some t (sy
 none_called n line None None None misses nothing e = refl
 none_called n line None None (Some c) misses nothing e = absurd cc
 
--- a question makes no call
+-- a question or a claim makes no call
 asks_no_call : (n : ℕ) (line a : List ℕ) (item : Option Item) → item_of line ≡ item → asked_of line ≡ Some a → call_in n item ≡ None
 asks_no_call n line a None says asked = refl
 asks_no_call n line a (Some (items.User u)) says asked = refl
@@ -86,15 +86,16 @@ asks_no_call n line a (Some (items.Group g)) says asked = refl
 asks_no_call n line a (Some items.Comment) says asked = refl
 asks_no_call n line a (Some (items.Call p c)) says asked = absurd (none-some a (sym (no_comment line (call_says line p c says)).0 ∙ asked))
 
--- a question is no expectation
+-- a question or a claim is no expectation
 asks_nothing_more : (line a : List ℕ) → asked_of line ≡ Some a → expectation_of line ≡ None
-asks_nothing_more line a asked = by (bytes_eq (take 3 line) (codes "#! ")) refl asked
+asks_nothing_more line a asked = by (bytes_eq (take 3 line) (codes "#= ")) refl
   where
-    by : (b : Bool) → bytes_eq (take 3 line) (codes "#! ") ≡ b → (if b then Some (drop 3 line) else None) ≡ Some a → expectation_of line ≡ None
-    by true is e =
-        ap (λ (front : List ℕ). if bytes_eq front (codes "#= ") then Some (drop 3 line) else None)
-        ((bytes_eq-Decides (take 3 line) (codes "#! ")).0 is)
-    by false is e = absurd (none-some a e)
+    by : (b : Bool) → bytes_eq (take 3 line) (codes "#= ") ≡ b → (if b then Some (drop 3 line) else None) ≡ None
+    by true is =
+        let whole : codes "#= " ++ drop 3 line ≡ line =
+        ap (λ (front : List ℕ). front ++ drop 3 line) (sym ((bytes_eq-Decides (take 3 line) (codes "#= ")).0 is)) ∙ take-append-drop 3 line in
+        absurd (none-some a (ap asked_of whole ∙ asked))
+    by false is = refl
 
 -- the lines before the next call go on behind a line that neither expects nor calls
 passes : (line : List ℕ) (lines : List (List ℕ)) → expectation_of line ≡ None → is_some (call_in 0 (item_of line)) ≡ false

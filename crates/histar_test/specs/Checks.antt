@@ -1,25 +1,33 @@
--- The checks of a test: each expectation beside the reply to its call, each question beside the rights that it asks for, each refusal that
--- nobody expected if the test is strict, and their text in the form of the Test Anything Protocol.
+-- The checks of a test: each expectation beside the reply to its call, each question beside the rights that it asks for, each claim beside
+-- the processes that are trusted, each refusal that nobody expected if the test is strict, and their text in the form of the Test Anything
+-- Protocol.
 use Rattle.std.specs.Prelude.{ℕ, ◌+◌, Bool, true, false, List, [], ◌∷◌, ◌++◌, codes, decimal, Option, None, Some, ◌==◌, ◌||◌, if◌then◌else◌, option_to_list}
 use Rattle.std.specs.List.{flat_map}
 use Rattle.std.specs.Str.{bytes_eq}
 use Rattle.histar_flat.specs.declared.calls.CallLine.{CallLine}
 use Rattle.histar_flat.specs.Accounts.{Accounts}
-use Rattle.histar_flat.specs.FlatState.{Flat}
+use Rattle.histar_flat.specs.Files.{get}
+use Rattle.histar_flat.specs.FlatState.{Flat, Node, is_dir}
+use Rattle.histar_flat.specs.Words.{Name, Path, ProcName}
 use Rattle.histar_flat.specs.FlatCalls.{reply_to, flat_after}
 use Rattle.histar_flat.specs.Meaning.{boot}
-use Rattle.histar_flat.specs.Texts.{reply_text}
+use Rattle.histar_flat.specs.Texts.{process_text, reply_text}
 use Rattle.histar_reasons.specs.Laws.{is_refusal}
 use Rattle.histar_test.specs.declared.checks.Check.{Check}
 use Rattle.histar_test.specs.declared.checks.Made.{Made}
 use Rattle.histar_rights.specs.Rights.{rights_text}
 use Rattle.histar_diff.specs.Shown.{rights_of}
+use Rattle.histar_secrecy.specs.Ways.{way_to}
+use Rattle.histar_trust.specs.TrustText.{is_open_way, trusted_with}
+use Rattle.histar_test.specs.declared.asking.Asking.{Asking}
+use Rattle.histar_test.specs.declared.asking.Asking.TheVariants.{OfRights, OfTrust}
+use Rattle.histar_test.specs.declared.claims.Claim.{Claim}
 use Rattle.histar_test.specs.declared.questions.Question.{Question}
 use Rattle.histar_test.specs.declared.steps.Step.{Step}
 use Rattle.histar_test.specs.declared.steps.Step.TheVariants.{Makes, Expects, Asks}
 use Rattle.histar_test.specs.Steps.{Test}
 
--- the check is met: the reply or the rights have the expected text, and one is expected
+-- the check is met: the reply, the rights or the trusted have the expected text, and one is expected
 abbrev pub is_met : Check → Bool
 is_met c = elim c.wanted [ None ↦ false | Some wanted ↦ bytes_eq c.made.reply wanted ]
 
@@ -30,12 +38,43 @@ made_of accounts f c said =
     record { line = c.line; said = said; reply = reply_text reply; is_refused = is_refusal reply }
 
 -- a question in a flat state, beside the letters of the rights that it asks for
-abbrev pub asked_in : Accounts → Flat → Question → Made
-asked_in accounts f q = record { line = q.line; said = q.said; reply = rights_text (rights_of accounts f q.path q.process); is_refused = false }
+abbrev pub rights_in : Accounts → Flat → Question → Made
+rights_in accounts f q = record { line = q.line; said = q.said; reply = rights_text (rights_of accounts f q.path q.process); is_refused = false }
 
--- the check of a question in a flat state
-abbrev pub question_check : Accounts → Flat → Question → Check
-question_check accounts f q = record { made = asked_in accounts f q; wanted = Some (rights_text q.wanted) }
+-- these processes, with a space between two
+abbrev pub names_text : List (ProcName × Name) → List ℕ
+names_text [] = codes "nobody"
+names_text (p ∷ ps) = process_text p.0 ++ flat_map (λ (q : ProcName × Name). codes " " ++ process_text q.0) ps
+
+-- the running processes that are trusted with the file there, in the order of names: `everyone` if each process reaches the file, and
+-- `nobody` if there is none
+abbrev pub trusted_at : Accounts → Flat → Path → Option Node → List ℕ
+trusted_at accounts f path None = codes "nobody"
+trusted_at accounts f path (Some node) =
+    if is_dir node then codes "nobody"
+    else (if is_open_way (way_to f path) then codes "everyone" else names_text (trusted_with accounts f (way_to f path)))
+
+-- the same for what is at the path
+abbrev pub trusted_text : Accounts → Flat → Path → List ℕ
+trusted_text accounts f path = trusted_at accounts f path (get f.files path)
+
+-- a claim in a flat state, beside the processes that are trusted
+abbrev pub trust_in : Accounts → Flat → Claim → Made
+trust_in accounts f c = record { line = c.line; said = c.said; reply = trusted_text accounts f c.path; is_refused = false }
+
+-- a question or a claim in a flat state, beside its answer
+abbrev pub asked_in : Accounts → Flat → Asking → Made
+asked_in accounts f (OfRights q) = rights_in accounts f q
+asked_in accounts f (OfTrust c) = trust_in accounts f c
+
+-- the expected answer: the letters of rights, or the processes that a claim names
+abbrev pub wanted_text : Asking → List ℕ
+wanted_text (OfRights q) = rights_text q.wanted
+wanted_text (OfTrust c) = c.wanted
+
+-- the check of a question or a claim in a flat state
+abbrev pub asked_check : Accounts → Flat → Asking → Check
+asked_check accounts f a = record { made = asked_in accounts f a; wanted = Some (wanted_text a) }
 
 -- the check of a call that is still open at the next call or at the end, if one is: a strict test has one if the reply is a refusal
 abbrev pub unexpected : Bool → Option Made → Option Check
@@ -53,9 +92,9 @@ checks_from strict accounts f last (Makes c said ∷ steps) =
 checks_from strict accounts f None (Expects text ∷ steps) = checks_from strict accounts f None steps
 checks_from strict accounts f (Some made) (Expects text ∷ steps) =
     record { made = made; wanted = Some text } ∷ checks_from strict accounts f None steps
-checks_from strict accounts f last (Asks q ∷ steps) = question_check accounts f q ∷ checks_from strict accounts f last steps
+checks_from strict accounts f last (Asks a ∷ steps) = asked_check accounts f a ∷ checks_from strict accounts f last steps
 
--- the checks of a test, strict or not: replies and rights are those of the meaning of its calls
+-- the checks of a test, strict or not: replies, rights and the trusted are those of the meaning of its calls
 abbrev pub checks_of : Bool → Test → List Check
 checks_of strict test = checks_from strict test.accounts (boot test.accounts) None test.steps
 
@@ -63,7 +102,7 @@ checks_of strict test = checks_from strict test.accounts (boot test.accounts) No
 abbrev pub escaped_byte : ℕ → List ℕ
 escaped_byte b = if (b == 35) || (b == 92) then 92 ∷ b ∷ [] else b ∷ []
 
--- the place of a call or a question: the file, its line, and the text of the call or of the question
+-- the place of a call, a question or a claim: the file, its line, and the text
 abbrev pub place_text : List ℕ → Made → List ℕ
 place_text file made = file ++ codes ":" ++ decimal made.line ++ codes ": " ++ made.said
 
@@ -80,7 +119,7 @@ abbrev pub expected_text : Option (List ℕ) → List ℕ
 expected_text None = codes "# nobody expected "
 expected_text (Some wanted) = codes "# expected " ++ wanted ++ codes ", was "
 
--- the line with the expected text, if there is one, and the reply or the rights
+-- the line with the expected text, if there is one, and the reply, the rights or the trusted
 abbrev pub difference_text : Check → List ℕ
 difference_text c = expected_text c.wanted ++ c.made.reply ++ codes "\n"
 

@@ -9,14 +9,15 @@ use Rattle.histar_script.specs.Lines.{lines_of}
 use Rattle.histar_script.specs.Script.{ScriptModel}
 use Rattle.histar_script.specs.Reading.{item_of, script_of}
 use Rattle.histar_rights.specs.declared.rights.Rights.{Rights}
-use Rattle.histar_rights.specs.Rights.{rights_text}
 use Rattle.histar_diff.specs.Changes.{IsAnsweredBy}
 use Rattle.histar_prefix.specs.Prefix.{calls_before, state_before}
 use Rattle.histar_test.specs.declared.checks.Check.{Check}
 use Rattle.histar_test.specs.declared.checks.Made.{Made}
+use Rattle.histar_test.specs.declared.asking.Asking.TheVariants.{OfRights, OfTrust}
+use Rattle.histar_test.specs.declared.claims.Claim.{Claim}
 use Rattle.histar_test.specs.declared.questions.Question.{Question}
-use Rattle.histar_test.specs.Steps.{Test, asked_of, call_in, calls_in, expectation_of, question_of, test_of}
-use Rattle.histar_test.specs.Checks.{asked_in, checks_of, is_met, question_check}
+use Rattle.histar_test.specs.Steps.{Test, asked_of, asking_of, call_in, calls_in, expectation_of, test_of}
+use Rattle.histar_test.specs.Checks.{asked_check, asked_in, checks_of, is_met, trusted_text, wanted_text}
 
 -- the calls of a test are those of its script, in their order
 abbrev pub TestsMakeTheCalls : Type 0
@@ -28,7 +29,7 @@ pub record NumberedLine : Type 0 where
   pub number : ℕ
   pub text : List ℕ
 
--- the line expects a reply or asks for rights
+-- the line expects a reply, asks for rights, or claims who is trusted
 abbrev pub wants : List ℕ → Bool
 wants line = is_some (asked_of line) || is_some (expectation_of line)
 
@@ -37,15 +38,15 @@ abbrev pub wanting_from : ℕ → List (List ℕ) → List NumberedLine
 wanting_from n [] = []
 wanting_from n (line ∷ lines) = if wants line then record { number = n; text = line } ∷ wanting_from (n + 1) lines else wanting_from (n + 1) lines
 
--- the lines of a text that expect a reply or ask for rights, in their order
+-- the lines of a text that expect a reply, ask for rights, or claim who is trusted, in their order
 abbrev pub wanting_in : List ℕ → List NumberedLine
 wanting_in text = wanting_from 1 (lines_of text)
 
--- the check expects what is on the line: this text of a reply, or these letters of rights
+-- the check expects what is on the line: this text of a reply, these letters of rights, or these processes
 abbrev pub IsExpectedOn : NumberedLine → Check → Type 0
 IsExpectedOn line check = MatchOption (asked_of line.text)
     (IsSomeAnd (expectation_of line.text) (λ text. check.wanted ≡ Some text))
-    (λ asked. IsSomeAnd (question_of line.number asked) (λ q. check.wanted ≡ Some (rights_text q.wanted)))
+    (λ asked. IsSomeAnd (asking_of line.number asked) (λ a. check.wanted ≡ Some (wanted_text a)))
 
 -- each line of the text that expects or asks is checked, once and in its order
 abbrev pub ExpectationsAreChecked : Type 0
@@ -62,13 +63,13 @@ pub record IsLastAnswer (made : Made) (answers : List RepliedCall) : Type 0 wher
   pub parts : answers ≡ before ++ last ∷ []
   pub is_answer : IsAnswer made last
 
--- A check is of the script's meaning: for an expectation, of the reply to the last call on the lines before it; for a question, of the
--- rights in the flat state after the calls on the lines before it.
+-- A check is of the script's meaning: for an expectation, of the reply to the last call on the lines before it; for a question or a
+-- claim, of the rights or of the trusted in the flat state after the calls on the lines before it.
 abbrev pub IsOfTheMeaning : ScriptModel → NumberedLine → Check → Type 0
 IsOfTheMeaning script line check = MatchOption (asked_of line.text)
     (IsLastAnswer check.made (meaning script.accounts (calls_before (Some line.number) script.calls)))
-    (λ asked. IsSomeAnd (question_of line.number asked)
-    (λ q. check.made ≡ asked_in script.accounts (state_before (Some line.number) script) q))
+    (λ asked. IsSomeAnd (asking_of line.number asked)
+    (λ a. check.made ≡ asked_in script.accounts (state_before (Some line.number) script) a))
 
 -- each check is of the script's meaning for its line
 abbrev pub ChecksAreOfTheMeaning : Type 0
@@ -80,15 +81,21 @@ ChecksAreOfTheMeaning = (text : List ℕ) (script : ScriptModel) (test : Test) �
 pub record IsMetByReplies (script : ScriptModel) (n : ℕ) (q : Question) : Type 0 where
   pub letters : Rights
   pub answered : IsAnsweredBy script.accounts (calls_before (Some n) script.calls) q.process q.path letters
-  pub met : (is_met (question_check script.accounts (state_before (Some n) script) q) ≡ true) ↔ (q.wanted ≡ letters)
+  pub met : (is_met (asked_check script.accounts (state_before (Some n) script) (OfRights q)) ≡ true) ↔ (q.wanted ≡ letters)
 
 -- a question is met exactly if four more lines would give its answers
 abbrev pub QuestionsAreOfReplies : Type 0
 QuestionsAreOfReplies = (script : ScriptModel) (n : ℕ) (q : Question) → IsMetByReplies script n q
 
+-- a claim is met exactly if it names the processes that are trusted after the calls on the lines before it
+abbrev pub ClaimsAreMet : Type 0
+ClaimsAreMet = (script : ScriptModel) (n : ℕ) (c : Claim)
+    → (is_met (asked_check script.accounts (state_before (Some n) script) (OfTrust c)) ≡ true)
+    ↔ (c.wanted ≡ trusted_text script.accounts (state_before (Some n) script) c.path)
+
 -- ---- strict tests
 
--- the check is of what a test says: of an expectation, or of a question
+-- the check is of what a test says: of an expectation, of a question, or of a claim
 abbrev pub has_expectation : Check → Bool
 has_expectation check = is_some check.wanted
 

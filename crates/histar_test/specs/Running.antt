@@ -1,5 +1,5 @@
 -- Relations of a run of a test: a machine takes its steps, and the checks are written.
-use Rattle.std.specs.Prelude.{◌≡◌, ℕ, ◌+◌, ◌&&◌, Bool, List, [], ◌∷◌, length, Option, None, Some, option_to_list}
+use Rattle.std.specs.Prelude.{◌≡◌, ℕ, ◌+◌, ◌&&◌, Bool, List, [], ◌∷◌, codes, filter, length, map, Option, None, Some, option_to_list, if◌then◌else◌}
 use Rattle.std.specs.List.{list_all}
 use Rattle.std.specs.Io.KnownBytes.{Appends}
 use Rattle.histar_io.specs.Writing.{AppendsFront}
@@ -15,10 +15,21 @@ use Rattle.histar_test.specs.declared.checks.Check.{Check}
 use Rattle.histar_test.specs.declared.checks.Made.{Made}
 use Rattle.histar_test.specs.declared.running.Run.{Run}
 use Rattle.histar_test.specs.declared.running.Tally.{Tally}
-use Rattle.histar_test.specs.declared.questions.Question.{Question}
+use Rattle.histar_flat.specs.Words.{Path}
+use Rattle.histar_flat.specs.Accounts.{Group}
+use Rattle.histar_flat.specs.Classes.{Class}
+use Rattle.histar_layout.specs.Listing.{is_directory}
+use Rattle.histar_readout.specs.declared.tree.TreeNode.{TreeNode}
+use Rattle.histar_secrecy.specs.declared.file_class.FileClass.{FileClass}
+use Rattle.histar_secrecy.specs.declared.role.Member.{Member}
+use Rattle.histar_secrecy.specs.declared.role.Role.TheVariants.{Trusted}
+use Rattle.histar_secrecy.specs.ShownRoles.{flat_class, has_role, with_user}
+use Rattle.histar_trust.specs.Findings.{AreMembers, ShowsReached}
+use Rattle.histar_trust.specs.TrustText.{is_open_way}
+use Rattle.histar_test.specs.declared.asking.Asking.{Asking}
 use Rattle.histar_test.specs.declared.steps.Step.{Step}
 use Rattle.histar_test.specs.declared.steps.Step.TheVariants.{Makes, Expects, Asks}
-use Rattle.histar_test.specs.Checks.{is_met, made_of, checks_from, checks_text, question_check, unexpected}
+use Rattle.histar_test.specs.Checks.{is_met, asked_check, made_of, checks_from, checks_text, names_text, trusted_text, unexpected}
 
 -- the tally with these checks counted too
 abbrev pub tally_with : Tally → List Check → Tally
@@ -28,13 +39,13 @@ tally_with tally checks = record { count = tally.count + length checks; are_met 
 abbrev pub flat_at : Accounts → Flat → Step → Flat
 flat_at accounts f (Makes c said) = flat_after accounts f c.process c.call
 flat_at accounts f (Expects text) = f
-flat_at accounts f (Asks q) = f
+flat_at accounts f (Asks a) = f
 
 -- the call that is open after a step, if one is, given the one before it
 abbrev pub last_at : Accounts → Flat → Option Made → Step → Option Made
 last_at accounts f last (Makes c said) = Some (made_of accounts f c said)
 last_at accounts f last (Expects text) = None
-last_at accounts f last (Asks q) = last
+last_at accounts f last (Asks a) = last
 
 -- the check of an expectation, given the open call before it, if one is
 abbrev pub reply_check : Option Made → List ℕ → List Check
@@ -45,7 +56,7 @@ reply_check (Some made) wanted = record { made = made; wanted = Some wanted } �
 abbrev pub check_at : Bool → Accounts → Flat → Option Made → Step → List Check
 check_at strict accounts f last (Makes c said) = option_to_list (unexpected strict last)
 check_at strict accounts f last (Expects text) = reply_check last text
-check_at strict accounts f last (Asks q) = question_check accounts f q ∷ []
+check_at strict accounts f last (Asks a) = asked_check accounts f a ∷ []
 
 -- the lines of the check of a step, if it has one
 abbrev pub step_text : List ℕ → Accounts → Flat → Run → Step → List ℕ
@@ -83,9 +94,25 @@ pub record IsMade (accounts : Accounts) (f : Flat) (new : MachineModel) (call : 
 abbrev pub MakesCall : MachineModel → MachineModel → CallLine → List ℕ → Made → Type 0
 MakesCall old new call said made = (accounts : Accounts) (f : Flat) → Shows accounts old f → IsMade accounts f new call said made
 
--- whatever flat state the machine represents, this is the check of the question in it
-abbrev pub AsksMachine : MachineModel → Question → Check → Type 0
-AsksMachine machine question check = (accounts : Accounts) (f : Flat) → Shows accounts machine f → check ≡ question_check accounts f question
+-- the processes among the running ones that are trusted with what a tree has at a path, by the way to it
+abbrev pub shown_trusted : List Group → List Member → Option TreeNode → List Class → List ℕ
+shown_trusted groups members None way = codes "nobody"
+shown_trusted groups members (Some node) way =
+    if is_directory node.target then codes "nobody"
+    else (if is_open_way way then codes "everyone" else names_text (map with_user (filter (has_role groups way Trusted) members)))
+
+-- the same by the running processes of a machine
+abbrev pub ShowsTrustedAt : MachineModel → Option TreeNode → List FileClass → List ℕ → Type 0
+ShowsTrustedAt m found classes text =
+    (members : List Member) × AreMembers m members × (text ≡ shown_trusted m.users.groups members found (map flat_class classes))
+
+-- whatever flat state that calls lead to the machine represents, these processes are trusted with what is at the path
+abbrev pub ShowsTrusted : MachineModel → Path → List ℕ → Type 0
+ShowsTrusted machine path text = (accounts : Accounts) (f : Flat) → ShowsReached accounts machine f → text ≡ trusted_text accounts f path
+
+-- whatever flat state that calls lead to the machine represents, this is the check of the question or the claim in it
+abbrev pub AsksMachine : MachineModel → Asking → Check → Type 0
+AsksMachine machine asking check = (accounts : Accounts) (f : Flat) → ShowsReached accounts machine f → check ≡ asked_check accounts f asking
 
 -- a check was counted, and nothing else was done
 pub record CountsCheck (old new : Run) (check : Check) : Type 0 where
@@ -111,36 +138,36 @@ pub record Calls (old new : Run) (call : CallLine) (said : List ℕ) : Type 0 wh
 -- a step was taken from a flat state, and its check was counted
 pub record IsTaken (accounts : Accounts) (f : Flat) (old new : Run) (step : Step) : Type 0 where
   pub strict : new.strict ≡ old.strict
-  pub shows : Shows accounts new.machine (flat_at accounts f step)
+  pub shows : ShowsReached accounts new.machine (flat_at accounts f step)
   pub last : new.last ≡ last_at accounts f old.last step
   pub tally : new.tally ≡ tally_with old.tally (check_at old.strict accounts f old.last step)
 
--- whatever flat state the machine represented, the step was taken from it
+-- whatever flat state that calls lead to the machine represented, the step was taken from it
 abbrev pub TakesStep : Run → Run → Step → Type 0
-TakesStep old new step = (accounts : Accounts) (f : Flat) → Shows accounts old.machine f → IsTaken accounts f old new step
+TakesStep old new step = (accounts : Accounts) (f : Flat) → ShowsReached accounts old.machine f → IsTaken accounts f old new step
 
 -- the check of the step was written
 abbrev pub WritesStep : List ℕ → Run → Step → Option (List ℕ) → Option (List ℕ) → Type 0
 WritesStep file old step before after =
-    (accounts : Accounts) (f : Flat) → Shows accounts old.machine f → Appends before after (step_text file accounts f old step)
+    (accounts : Accounts) (f : Flat) → ShowsReached accounts old.machine f → Appends before after (step_text file accounts f old step)
 
 -- a beginning of the check of the step was written
 abbrev pub BeginsStep : List ℕ → Run → Step → Option (List ℕ) → Option (List ℕ) → Type 0
 BeginsStep file old step before after =
-    (accounts : Accounts) (f : Flat) → Shows accounts old.machine f → AppendsFront before after (step_text file accounts f old step)
+    (accounts : Accounts) (f : Flat) → ShowsReached accounts old.machine f → AppendsFront before after (step_text file accounts f old step)
 
 -- steps were taken from a flat state: their checks were written, and counted
 pub record AreTaken (accounts : Accounts) (f : Flat) (file : List ℕ) (old new : Run) (steps : List Step) (before after : Option (List ℕ)) : Type 0 where
   pub written : Appends before after (checks_text file (old.tally.count + 1) (checks_ahead accounts f old steps))
   pub tally : new.tally ≡ tally_with old.tally (checks_ahead accounts f old steps)
 
--- whatever flat state the machine represented, the steps were taken from it
+-- whatever flat state that calls lead to the machine represented, the steps were taken from it
 abbrev pub TakesSteps : List ℕ → Run → Run → List Step → Option (List ℕ) → Option (List ℕ) → Type 0
 TakesSteps file old new steps before after =
-    (accounts : Accounts) (f : Flat) → Shows accounts old.machine f → AreTaken accounts f file old new steps before after
+    (accounts : Accounts) (f : Flat) → ShowsReached accounts old.machine f → AreTaken accounts f file old new steps before after
 
 -- a beginning of the checks of the steps was written
 abbrev pub BeginsSteps : List ℕ → Run → List Step → Option (List ℕ) → Option (List ℕ) → Type 0
 BeginsSteps file old steps before after =
-    (accounts : Accounts) (f : Flat) → Shows accounts old.machine f
+    (accounts : Accounts) (f : Flat) → ShowsReached accounts old.machine f
     → AppendsFront before after (checks_text file (old.tally.count + 1) (checks_ahead accounts f old steps))

@@ -1,7 +1,7 @@
--- The steps of a script that says what it expects: its calls, the expected replies after them, and questions about rights.
-use Rattle.std.specs.Prelude.{◌≡◌, ℕ, ◌+◌, Bool, true, false, List, [], ◌∷◌, ◌++◌}
-use Rattle.std.specs.Prelude.{take, drop, codes, count_by, not, Option, None, Some, Result, Ok, Err, if◌then◌else◌}
-use Rattle.std.specs.List.{filter_map}
+-- The steps of a script that says what it expects: its calls, the expected replies after them, questions about rights, and claims on trust.
+use Rattle.std.specs.Prelude.{◌≡◌, ℕ, ◌+◌, ◌==◌, ◌||◌, Bool, true, false, List, [], ◌∷◌, ◌++◌}
+use Rattle.std.specs.Prelude.{take, drop, codes, count_by, is_some, not, option_map, Option, None, Some, Result, Ok, Err, if◌then◌else◌}
+use Rattle.std.specs.List.{filter_map, list_all, slice_split}
 use Rattle.std.specs.Str.{bytes_eq}
 use Rattle.std.specs.Global.{Vec}
 use Rattle.histar_flat.specs.declared.calls.CallLine.{CallLine}
@@ -16,6 +16,9 @@ use Rattle.histar_script.specs.Script.{ScriptModel}
 use Rattle.histar_script.specs.Reading.{◌>>=◌, item_of, script_of}
 use Rattle.histar_rights.specs.declared.rights.Rights.{Rights}
 use Rattle.histar_rights.specs.Rights.{rights_spelled}
+use Rattle.histar_test.specs.declared.asking.Asking.{Asking}
+use Rattle.histar_test.specs.declared.asking.Asking.TheVariants.{OfRights, OfTrust}
+use Rattle.histar_test.specs.declared.claims.Claim.{Claim}
 use Rattle.histar_test.specs.declared.questions.Question.{Question}
 use Rattle.histar_test.specs.declared.steps.Step.{Step}
 use Rattle.histar_test.specs.declared.steps.Step.TheVariants.{Makes, Expects, Asks}
@@ -24,9 +27,17 @@ use Rattle.histar_test.specs.declared.steps.Step.TheVariants.{Makes, Expects, As
 abbrev pub expectation_of : List ℕ → Option (List ℕ)
 expectation_of line = if bytes_eq (take 3 line) (codes "#= ") then Some (drop 3 line) else None
 
--- the text of the question on a line, after `#! `
+-- the line is a question about rights: it begins with `#! `
+abbrev pub is_question : List ℕ → Bool
+is_question line = bytes_eq (take 3 line) (codes "#! ")
+
+-- the line is a claim on trust: its first word is `#trusted`
+abbrev pub is_claim : List ℕ → Bool
+is_claim line = bytes_eq (take 9 line) (codes "#trusted ") || bytes_eq line (codes "#trusted")
+
+-- the text of the question or the claim on a line, after `#`
 abbrev pub asked_of : List ℕ → Option (List ℕ)
-asked_of line = if bytes_eq (take 3 line) (codes "#! ") then Some (drop 3 line) else None
+asked_of line = if is_question line || is_claim line then Some (drop 1 line) else None
 
 -- a process and the letters of rights, with a space between them
 unfoldable pub process_and_rights_of : List ℕ → Option (ProcName × Rights)
@@ -43,6 +54,32 @@ question_of n text = do
   rest ← (split_word text).1
   wanted ← process_and_rights_of rest
   Some (record { line = n; said = text; path = path; process = wanted.0; wanted = wanted.1 })
+
+-- the word is a process
+abbrev pub is_process : List ℕ → Bool
+is_process word = is_some (process_of word)
+
+-- the words of a text are processes, with one space between two
+abbrev pub are_processes : List ℕ → Bool
+are_processes text = list_all is_process (slice_split (λ b. b == 32) text)
+
+-- the processes that a claim names behind its path, as a text: `nobody` if there are none
+abbrev pub claimed_of : Option (List ℕ) → Option (List ℕ)
+claimed_of None = Some (codes "nobody")
+claimed_of (Some text) = if are_processes text then Some text else None
+
+-- the claim in a text on line n: behind its first word a path, and processes
+unfoldable pub claim_of : ℕ → List ℕ → Option Claim
+claim_of n text = do
+  rest ← (split_word text).1
+  path ← path_of (split_word rest).0
+  claimed ← claimed_of (split_word rest).1
+  Some (record { line = n; said = text; path = path; wanted = claimed })
+
+-- what a text on line n asks: after `! ` for rights, and else who is trusted
+abbrev pub asking_of : ℕ → List ℕ → Option Asking
+asking_of n text =
+    if bytes_eq (take 2 text) (codes "! ") then option_map OfRights (question_of n (drop 2 text)) else option_map OfTrust (claim_of n text)
 
 -- the call that an item is, on line n
 abbrev pub call_in : ℕ → Option Item → Option CallLine
@@ -61,33 +98,33 @@ steps_before front (Err n) = Err n
 abbrev pub is_call : Step → Bool
 is_call (Makes call said) = true
 is_call (Expects text) = false
-is_call (Asks question) = false
+is_call (Asks asking) = false
 
--- Whether a call is open after a step, given whether one is before it; an expectation has to have an open call before it. A question leaves
--- the call open, if one is.
+-- Whether a call is open after a step, given whether one is before it; an expectation has to have an open call before it. A question and a claim
+-- leave the call open, if one is.
 abbrev pub open_after : Bool → Step → Option Bool
 open_after is_open (Makes call said) = Some true
 open_after true (Expects text) = Some false
 open_after false (Expects text) = None
-open_after is_open (Asks question) = Some is_open
+open_after is_open (Asks asking) = Some is_open
 
 -- the step that a call is, on a line with this text
 abbrev pub call_step : List ℕ → Option CallLine → Option Step
 call_step line (Some call) = Some (Makes call line)
 call_step line None = None
 
--- the step of a question on line n, or the line's number if the question can't be read
-abbrev pub asking_step : ℕ → Option Question → Result (Option Step) ℕ
-asking_step n (Some question) = Ok (Some (Asks question))
+-- the step of a question or a claim on line n, or the line's number if it can't be read
+abbrev pub asking_step : ℕ → Option Asking → Result (Option Step) ℕ
+asking_step n (Some asking) = Ok (Some (Asks asking))
 asking_step n None = Err n
 
--- the step of line n, which asks this question, or else expects this reply, or else makes this call
+-- the step of line n, which has this question or claim, or else expects this reply, or else makes this call
 abbrev pub step_by : ℕ → List ℕ → Option (List ℕ) → Option (List ℕ) → Option CallLine → Result (Option Step) ℕ
-step_by n line (Some asked) text call = asking_step n (question_of n asked)
+step_by n line (Some asked) text call = asking_step n (asking_of n asked)
 step_by n line None (Some text) call = Ok (Some (Expects text))
 step_by n line None None call = Ok (call_step line call)
 
--- the step of line n, if it has one: its question or expectation, or else its call; or its number, if it is bad
+-- the step of line n, if it has one: its question, claim or expectation, or else its call; or its number, if it is bad
 abbrev pub step_of : ℕ → List ℕ → Result (Option Step) ℕ
 step_of n line = step_by n line (asked_of line) (expectation_of line) (call_in n (item_of line))
 
@@ -103,7 +140,7 @@ steps_by n is_open (Ok None) later = later is_open
 steps_by n is_open (Ok (Some step)) later = step_then n step (open_after is_open step) later
 
 -- The steps of lines, of which the first is line n, or the number of the first bad line: its expectation has no call before it, or its
--- question can't be read. A call is open until an expectation follows it, and each expectation follows an open call.
+-- question or its claim can't be read. A call is open until an expectation follows it, and each expectation follows an open call.
 unfoldable pub steps_from : ℕ → Bool → List (List ℕ) → Result (List Step) ℕ
 steps_from n is_open [] = Ok []
 steps_from n is_open (line ∷ lines) = steps_by n is_open (step_of n line) (λ opened. steps_from (n + 1) opened lines)
@@ -119,7 +156,7 @@ test_by (Err fault) read = Err fault
 test_by (Ok script) (Ok steps) = Ok (record { accounts = script.accounts; steps = steps })
 test_by (Ok script) (Err line) = Err (BadScript line)
 
--- the test in a text: a script, whose fault comes first, in which each expectation has its call and each question can be read
+-- the test in a text: a script, whose fault comes first, in which each expectation has its call and each question and claim can be read
 abbrev pub test_of : List ℕ → Result Test Fault
 test_of text = test_by (script_of text) (steps_from 1 false (lines_of text))
 
@@ -127,7 +164,7 @@ test_of text = test_by (script_of text) (steps_from 1 false (lines_of text))
 abbrev pub call_of_step : Step → Option CallLine
 call_of_step (Makes call said) = Some call
 call_of_step (Expects text) = None
-call_of_step (Asks question) = None
+call_of_step (Asks asking) = None
 
 -- the calls of steps
 abbrev pub calls_in : List Step → List CallLine
@@ -135,7 +172,7 @@ calls_in steps = filter_map call_of_step steps
 
 -- ---- the parts
 
--- the number of expectations among steps, of replies and of rights
+-- the number of expectations among steps, of replies, of rights and of trust
 abbrev pub expectation_count : List Step → ℕ
 expectation_count steps = count_by (λ step. not (is_call step)) steps
 

@@ -1,5 +1,5 @@
-//! A check: an expectation beside the reply to its call, a question beside the rights that it asks for, or a
-//! refusal that nobody expected; and its text.
+//! A check: an expectation beside the reply to its call, a question beside the rights that it asks for, a claim
+//! beside the processes that are trusted, or a refusal that nobody expected; and its text.
 ghost use Rattle.std.specs.Prelude.{◌≡◌, ◌++◌, IfOk, OnOk, decimal};
 ghost use Rattle.std.specs.List.{flat_map};
 ghost use Rattle.histar_test.specs.Checks.{check_text, difference_text, escaped_byte};
@@ -9,14 +9,14 @@ use histar_base::Bytes;
 use itoa::Buffer;
 use std::alloc::{AllocError, Global};
 
-/// A call that was made, or a question that was asked.
+/// A call that was made, or a question or a claim that was asked.
 #[derive(Drop)]
 pub struct Made {
     /// The number of its line.
     pub line: u32,
-    /// The text of that line, without `#! ` in a question.
+    /// The text of that line, without `#! ` in a question, and without `#` in a claim.
     pub said: Bytes,
-    /// The text of the reply, or the letters of the rights.
+    /// The text of the reply, the letters of the rights, or the processes that are trusted.
     pub reply: Bytes,
     /// Whether the reply is a refusal.
     pub is_refused: bool,
@@ -31,7 +31,7 @@ pub struct Check {
 }
 
 impl Check {
-    /// Checks whether the reply or the rights have the text that is wanted.
+    /// Checks whether the reply, the rights or the trusted processes have the text that is wanted.
     pub fn is_met(&self) -> bool
         ensures { result ≡ is_met self.now }
     {

@@ -1,9 +1,9 @@
 //! Questions about rights, and their answers.
 ghost use Rattle.std.specs.Prelude.{◌≡◌, IfOk};
-ghost use Rattle.std.specs.Option.{option_copied};
 ghost use Rattle.histar_rights.specs.Rights.{rights_text};
 ghost use Rattle.histar_test.specs.Running.{AsksMachine};
-ghost use Rattle.histar_test.specs.Steps.{asked_of, process_and_rights_of, question_of};
+ghost use Rattle.histar_test.specs.declared.asking.Asking.TheVariants.{OfRights};
+ghost use Rattle.histar_test.specs.Steps.{process_and_rights_of, question_of};
 
 use crate::checks::{Check, Made};
 use histar_base::Bytes;
@@ -26,13 +26,6 @@ pub struct Question {
     pub process: ProcName,
     /// The expected rights.
     pub wanted: Rights,
-}
-
-/// Returns the text of the question on a line, if the line is one.
-pub(crate) fn asked_of(line: &[u8]) -> Option<&[u8]>
-    ensures { option_copied result ≡ asked_of line.now }
-{
-    line.strip_prefix(b"#! ".as_slice())
 }
 
 /// Reads `PROC RIGHTS`.
@@ -84,12 +77,12 @@ fn letters(alloc: Global, rights: Rights) -> Result<Bytes, AllocError>
 
 /// Returns the check of a question: the rights that the process has in a machine, beside the expected ones.
 /// No call is made.
-pub(crate) fn ask(
+pub(crate) fn ask_rights(
     alloc: Global,
     machine: &Machine<InternStore>,
     question: Question,
 ) -> Result<Check, AllocError>
-    ensures { IfOk result (AsksMachine machine.now question) }
+    ensures { IfOk result (AsksMachine machine.now (OfRights question)) }
 {
     let Question {
         line,

@@ -6,12 +6,13 @@ ghost use Rattle.histar_io.specs.Writing.{AppendsFront};
 ghost use Rattle.histar_script.specs.Runs.{IsOutputFault, is_write_failed};
 ghost use Rattle.histar_reasons.specs.Laws.{is_refusal};
 ghost use Rattle.histar_script.specs.Script.{IsDeclared};
+ghost use Rattle.histar_trust.specs.Findings.{HasState};
 ghost use Rattle.histar_test.specs.Checks.{check_text};
 ghost use Rattle.histar_test.specs.Running.{BeginsStep, BeginsSteps, Calls, Closes, CountsCheck, IsMemory, MakesCall};
 ghost use Rattle.histar_test.specs.Running.{Starts, TakesStep, TakesSteps, WritesStep, close_text};
 
+use crate::asking::{Asking, ask};
 use crate::checks::{Check, Made, check_text, unexpected};
-use crate::questions::{Question, ask};
 use crate::steps::Step;
 use histar_base::Bytes;
 use histar_flat::{Accounts, CallLine, Reply};
@@ -188,24 +189,25 @@ impl Run {
         self.count_check(alloc, file, &check, writer)
     }
 
-    /// Writes whether a process has the rights that a question expects.
-    fn check_rights<W: Sink>(
+    /// Writes whether a process has the rights that a question expects, or those are trusted that a claim names.
+    fn check_asked<W: Sink>(
         &mut self,
         alloc: Global,
         file: &[u8],
-        question: Question,
+        asking: Asking,
         writer: &mut W,
     ) -> Result<(), Fault>
-        ensures ok { OnOk result (TakesStep self.old self.new (Step.Asks question)) }
-        ensures written { OnOk result (WritesStep file.now self.old (Step.Asks question)
+        requires { HasState self.old.machine }
+        ensures ok { OnOk result (TakesStep self.old self.new (Step.Asks asking)) }
+        ensures written { OnOk result (WritesStep file.now self.old (Step.Asks asking)
             (W.written writer.old) (W.written writer.new)) }
-        ensures err { OnErr result (BeginsStep file.now self.old (Step.Asks question)
+        ensures err { OnErr result (BeginsStep file.now self.old (Step.Asks asking)
             (W.written writer.old) (W.written writer.new)) }
         ensures faults { IfErr result IsOutputFault }
         ensures count { CountsFailure (W.failures writer.old) (W.failures writer.new)
             (is_write_failed result) }
     {
-        let check = ask(alloc, &self.machine, question)?;
+        let check = ask(alloc, &self.machine, asking)?;
         self.count_check(alloc, file, &check, writer)
     }
 
@@ -217,6 +219,7 @@ impl Run {
         step: Step,
         writer: &mut W,
     ) -> Result<(), Fault>
+        requires { HasState self.old.machine }
         ensures ok { OnOk result (TakesStep self.old self.new step) }
         ensures written { OnOk result (WritesStep file.now self.old step
             (W.written writer.old) (W.written writer.new)) }
@@ -229,12 +232,12 @@ impl Run {
         match step {
             Step::Makes(call, said) => self.call_next(alloc, file, call, said, writer),
             Step::Expects(wanted) => self.check_reply(alloc, file, wanted, writer),
-            Step::Asks(question) => self.check_rights(alloc, file, question, writer),
+            Step::Asks(asking) => self.check_asked(alloc, file, asking, writer),
         }
     }
 
-    /// Takes all steps of a test in their order, and writes for each expectation and question whether it is met,
-    /// as soon as that is known.
+    /// Takes all steps of a test in their order, and writes for each expectation, question and claim whether it is
+    /// met, as soon as that is known.
     pub(crate) fn take_steps<W: Sink>(
         &mut self,
         alloc: Global,
@@ -242,6 +245,7 @@ impl Run {
         steps: Vec<Step>,
         writer: &mut W,
     ) -> Result<(), Fault>
+        requires { HasState self.old.machine }
         ensures ok { OnOk result (TakesSteps file.now self.old self.new steps.items
             (W.written writer.old) (W.written writer.new)) }
         ensures err { OnErr result (BeginsSteps file.now self.old steps.items

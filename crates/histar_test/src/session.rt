@@ -32,7 +32,7 @@ struct NamedTest {
     test: TestScript,
 }
 
-/// Checks the replies and the rights that files expect, and writes for each expectation whether it is met, in
+/// Checks the replies, the rights and the trust that files expect, and writes for each expectation whether it is met, in
 /// the form of the Test Anything Protocol, numbered through all files. It returns whether all are met.
 ///
 /// A strict test also has a check, which is not met, for each call whose reply is a refusal and which no
@@ -144,7 +144,7 @@ fn count_checks(tests: &[NamedTest]) -> Option<usize>
     Some(total)
 }
 
-/// Counts the expectations among steps, of replies and of rights.
+/// Counts the expectations among steps, of replies, of rights and of trust.
 fn count_expectations(steps: &[Step]) -> usize
     ensures { result ≡ expectation_count steps.now }
 {

@@ -7,7 +7,7 @@ ghost use Rattle.histar_script.specs.Script.{IsDeclared};
 ghost use Rattle.histar_test.specs.Steps.{GivesStep, GivesSteps, TakesLine, call_in, expectation_of};
 ghost use Rattle.histar_test.specs.Steps.{is_call, open_after, step_of, steps_from, test_of};
 
-use crate::questions::{Question, asked_of, read_question};
+use crate::asking::{Asking, asked_of, read_asking};
 use histar_base::Bytes;
 use histar_flat::{Accounts, CallLine};
 use histar_script::{Fault, Item, read_item, read_script, split_line};
@@ -21,8 +21,8 @@ pub enum Step {
     Makes(CallLine, Bytes),
     /// Expects this reply to the call before it.
     Expects(Bytes),
-    /// Asks for the rights of a process at a path.
-    Asks(Question),
+    /// Asks for the rights of a process at a path, or claims who is trusted with what is at a path.
+    Asks(Asking),
 }
 
 /// A test: the accounts of a script, and its steps.
@@ -84,7 +84,7 @@ impl TestScript {
 }
 
 /// Reads a test: a script, whose fault comes first, in which each expectation has a call before it and each
-/// question can be read.
+/// question and claim can be read.
 pub fn read_test(alloc: Global, text: &[u8]) -> Result<TestScript, Fault>
     ensures { Gives result (test_of text.now) }
 {
@@ -137,10 +137,10 @@ fn read_step(alloc: Global, number: u32, line: &[u8]) -> Result<Option<Step>, Fa
     ensures { GivesStep number result (step_of number line.now) }
 {
     if let Some(asked) = asked_of(line) {
-        let Some(question) = read_question(alloc, number, asked)? else {
+        let Some(asking) = read_asking(alloc, number, asked)? else {
             return Err(Fault::BadScript(number));
         };
-        return Ok(Some(Step::Asks(question)));
+        return Ok(Some(Step::Asks(asking)));
     }
     if let Some(text) = expectation_of(line) {
         let text = Bytes::copy_of(alloc, text)?;

@@ -1,5 +1,5 @@
 //! What a test checks. Each law is the contract of a function that does nothing.
-ghost use Rattle.histar_test.specs.Laws.{ChecksAreOfTheMeaning, ExpectationsAreChecked};
+ghost use Rattle.histar_test.specs.Laws.{ChecksAreOfTheMeaning, ClaimsAreMet, ExpectationsAreChecked};
 ghost use Rattle.histar_test.specs.Laws.{QuestionsAreOfReplies, StrictTestsAreMet};
 ghost use Rattle.histar_test.specs.Laws.{StrictTestsKeepTheChecks, TestsMakeTheCalls};
 ghost use Rattle.histar_test.specs.Laws.{UnexpectedRefusalsAreChecked};
@@ -10,12 +10,14 @@ pub fn tests_make_the_calls()
 {}
 
 /// Shows that the reply beside an expectation is the one that the script's meaning gives to the last call
-/// before it, and the rights beside a question are those in the flat state after the calls before it.
+/// before it, and the rights beside a question and the trusted beside a claim are those in the flat state after
+/// the calls before it.
 pub fn checks_are_of_the_meaning()
     ensures { ChecksAreOfTheMeaning }
 {}
 
-/// Shows that each line of a test that expects a reply or asks for rights is checked, once and in its order.
+/// Shows that each line of a test that expects a reply, asks for rights or claims who is trusted is checked,
+/// once and in its order.
 pub fn expectations_are_checked()
     ensures { ExpectationsAreChecked }
 {}
@@ -24,6 +26,12 @@ pub fn expectations_are_checked()
 /// as `letters_are_replies` of `histar_rights` says.
 pub fn questions_are_of_replies()
     ensures { QuestionsAreOfReplies }
+{}
+
+/// Shows that a claim is met exactly if it names the processes that are trusted in the flat state after the calls
+/// before it, in the order of their names.
+pub fn claims_are_met()
+    ensures { ClaimsAreMet }
 {}
 
 /// Shows that a strict test has the checks of the same test that isn't strict, and others that expect nothing.

@@ -10,13 +10,16 @@ use Rattle.histar_flat.specs.Accounts.{Accounts}
 use Rattle.histar_test.specs.declared.steps.Step.{Step}
 use Rattle.histar_test.specs.Checks.{checks_from, checks_text}
 use Rattle.histar_test.specs.Running.{tally_with}
-use Rattle.histar_test.proofs.RunLemmas.{test_begun, test_taken}
+use Rattle.histar_test.proofs.RunLemmas.{start_has_state, test_begun, test_taken}
 use Rattle.histar_test.proofs.session.test_file.Goals as goal
 
 pub returns-in_err-run-clause-err : goal.returns-in_err-run-clause-err
 returns-in_err-run-clause-err g c =
     let p = err_from_is_err_and c.from_residual.result c.from_residual.ensures.1 in
     rw p.1 (_, sent_none (g.W.Sink.written c.args.writer.now) _)
+
+pub take_steps-outcome-requires : goal.take_steps-outcome-requires
+take_steps-outcome-requires g c = start_has_state c.in_ok-run.ensures.ok
 
 pub returns-in_err-outcome-clause-err : goal.returns-in_err-outcome-clause-err
 returns-in_err-outcome-clause-err g c =

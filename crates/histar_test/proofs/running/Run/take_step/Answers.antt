@@ -40,11 +40,11 @@ returns-in-Expects-clause-err g c =
 
 pub returns-in-Asks-clause-ok : goal.returns-in-Asks-clause-ok
 returns-in-Asks-clause-ok g c =
-    subst (λ (s : Step). OnOk c.check_rights.result (TakesStep c.args.self.now c.check_rights.new.self s))
-    (sym c.in-Asks.is) c.check_rights.ensures.ok
+    subst (λ (s : Step). OnOk c.check_asked.result (TakesStep c.args.self.now c.check_asked.new.self s))
+    (sym c.in-Asks.is) c.check_asked.ensures.ok
 
 pub returns-in-Asks-clause-err : goal.returns-in-Asks-clause-err
 returns-in-Asks-clause-err g c =
-    let Begun : Step → Type 0 = λ s. OnErr c.check_rights.result
-    (BeginsStep c.args.file.now c.args.self.now s (g.W.Sink.written c.args.writer.now) (g.W.Sink.written c.check_rights.new.writer)) in
-    subst Begun (sym c.in-Asks.is) c.check_rights.ensures.err
+    let Begun : Step → Type 0 = λ s. OnErr c.check_asked.result
+    (BeginsStep c.args.file.now c.args.self.now s (g.W.Sink.written c.args.writer.now) (g.W.Sink.written c.check_asked.new.writer)) in
+    subst Begun (sym c.in-Asks.is) c.check_asked.ensures.err

@@ -1,6 +1,6 @@
--- Proves the goals of `ask` of src/questions.rt that the search leaves open.
+-- Proves the goals of `ask_rights` of src/questions.rt that the search leaves open.
 use Rattle.histar_test.proofs.RunLemmas.{asked_so}
-use Rattle.histar_test.proofs.questions.ask.Goals as goal
+use Rattle.histar_test.proofs.questions.ask_rights.Goals as goal
 
 pub returns : goal.returns
 returns c =
