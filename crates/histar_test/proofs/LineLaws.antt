@@ -29,7 +29,8 @@ use Rattle.histar_test.specs.declared.asking.Asking.{Asking}
 use Rattle.histar_test.specs.declared.steps.Step.{Step}
 use Rattle.histar_test.specs.declared.steps.Step.TheVariants.{Makes, Expects, Asks}
 use Rattle.histar_test.specs.Checks.{asked_check, asked_in, checks_from, checks_of, made_of, trusted_text, wanted_text}
-use Rattle.histar_test.specs.Laws.{ChecksAreOfTheMeaning, ClaimsAreMet, ExpectationsAreChecked, IsExpectedOn, IsLastAnswer, IsOfTheMeaning, NumberedLine}
+use Rattle.histar_test.specs.Laws.{ChecksAreOfTheMeaning, ClaimsAreMet, ExpectationsAreChecked, IsExpectedOn, IsLastAnswer}
+use Rattle.histar_test.specs.Laws.{IsOfTheMeaning, NumberedLine}
 use Rattle.histar_test.specs.Laws.{QuestionsAreOfReplies, wanting_from, wanting_in, wants}
 use Rattle.histar_test.specs.Steps.{Test, asked_of, asking_of, call_in, calls_in, expectation_of, open_after, step_of, steps_from, test_of}
 use Rattle.histar_test.proofs.StepLaws.{OpensTo, call_wanted, calls_by, calls_on, none_wanted, on_line, read_as, rights_wanted, tests_make_the_calls}

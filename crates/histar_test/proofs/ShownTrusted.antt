@@ -23,7 +23,8 @@ use Rattle.histar_trust.proofs.ShownTrust.{chosen, each, trusted_same}
 use Rattle.histar_test.specs.Checks.{names_text, trusted_at, trusted_text}
 use Rattle.histar_test.specs.Running.{shown_trusted}
 
-module _ {accounts : Accounts} {m : MachineModel} {f : Flat} (r : ShowsReached accounts m f) (members : List Member) (found_members : AreMembers m members) where
+module _ {accounts : Accounts} {m : MachineModel} {f : Flat} (r : ShowsReached accounts m f) (members : List Member)
+    (found_members : AreMembers m members) where
   abbrev s : State
   s = state m.kernel
 
