@@ -332,6 +332,9 @@ pub(crate) fn test<'a>() -> Form<'a>
 A comment that begins with `#! ` says which rights a process is to have at a path there, as `access` prints them:
   #! /tmp/diary 0.1 s---
 
+A comment that begins with `#trusted ` says which processes are to be trusted with a file there, and no others:
+  #trusted /tmp/diary 0.1
+
 The output has the form of the Test Anything Protocol: the number of expectations, and a line for each. With
 --strict each call that is refused and has no expectation is `not ok` too; the number is then on the last line.
 
