@@ -1,5 +1,6 @@
 -- The table by users of a machine: line by line, and that it is the table of the flat state that the machine represents.
-use Rattle.std.proofs.Common.{◌≡◌, ℕ, ◌&&◌, Bool, true, false, List, [], ◌∷◌, ◌++◌, take, length, sym, ap, ◌∙◌, refl, append_assoc, append-nil, get_or, ◌+◌}
+use Rattle.std.proofs.Common.{◌≡◌, ℕ, ◌&&◌, Bool, true, false, List, [], ◌∷◌, ◌++◌, take, length, sym, ap, ◌∙◌, refl, append_assoc}
+use Rattle.std.proofs.Common.{append-nil, get_or, ◌+◌}
 use Rattle.std.specs.Prelude.{map, slice_get, suc, ◌≤◌, Option, None, Some}
 use Rattle.std.specs.List.{list_all}
 use Rattle.std.proofs.lemmas.List.{map-append, take-map, take_more}
@@ -37,7 +38,8 @@ use Rattle.histar_shell.specs.Machine.{MachineModel}
 use Rattle.histar_prefix.proofs.Listed.{flat_tree, tree_here}
 use Rattle.histar_cells.proofs.FlatTrees.{are_tree, few_bytes}
 use Rattle.histar_access.specs.Rows.{last_or, rows_from}
-use Rattle.histar_access.specs.Users.{IsUsersText, class_reads, class_writes, from_above, is_none, starting, user_below, users_below, users_from, users_line_at}
+use Rattle.histar_access.specs.Users.{IsUsersText, class_reads, class_writes, from_above, is_none, starting, user_below, users_below}
+use Rattle.histar_access.specs.Users.{users_from, users_line_at}
 use Rattle.histar_access.proofs.Descent.{descent, found_above, found_at}
 use Rattle.histar_access.proofs.Tables.{last_made, map_twice}
 
