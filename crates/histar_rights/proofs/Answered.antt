@@ -54,7 +54,7 @@ writers_make_entries accounts f me p n d mode free room made =
     )
 
 -- the first elements of equal lists are equal
-first_reply : (a b : RepliedCall) → (a ∷ []) ≡ (b ∷ []) → a ≡ b
+pub first_reply : (a b : RepliedCall) → (a ∷ []) ≡ (b ∷ []) → a ≡ b
 first_reply a b e = ap first e
   where
     first : List RepliedCall → RepliedCall
@@ -62,7 +62,7 @@ first_reply a b e = ap first e
     first (x ∷ xs) = x
 
 -- a reply is an answer exactly if there is no refusal
-answer_passes : (refusal : Option Errno) (reply : Reply) → is_answer (reply_or refusal reply) ≡ true → passes refusal ≡ true
+pub answer_passes : (refusal : Option Errno) (reply : Reply) → is_answer (reply_or refusal reply) ≡ true → passes refusal ≡ true
 answer_passes None reply h = refl
 answer_passes (Some e) reply h = absurd (true≢false (sym h))
 

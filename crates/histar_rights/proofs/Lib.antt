@@ -6,3 +6,4 @@ pub mod Named
 pub mod Listed
 pub mod Spelling
 pub mod ByUser
+pub mod AfterLogin

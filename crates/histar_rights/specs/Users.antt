@@ -2,9 +2,10 @@
 use Rattle.std.specs.Prelude.{◌≡◌, ℕ, List, [], ◌∷◌, ◌++◌, codes, map, Some}
 use Rattle.std.specs.List.{flat_map}
 use Rattle.histar_flat.specs.declared.calls.CallLine.{CallLine}
+use Rattle.histar_flat.specs.declared.calls.UnixCall.TheVariants.{Login}
 use Rattle.histar_flat.specs.declared.calls.User.{User}
 use Rattle.histar_flat.specs.declared.replies.Stat.{Stat}
-use Rattle.histar_flat.specs.Words.{Name, Path, ProcName}
+use Rattle.histar_flat.specs.Words.{Name, Password, Path, ProcName}
 use Rattle.histar_flat.specs.Accounts.{Accounts}
 use Rattle.histar_flat.specs.Classes.{Process, class_mode, class_owner, nobody}
 use Rattle.histar_flat.specs.Files.{get}
@@ -15,7 +16,7 @@ use Rattle.histar_flat.specs.Texts.{path_text, stat_text}
 use Rattle.histar_rights.specs.declared.rights.Rights.{Rights}
 use Rattle.histar_rights.specs.declared.users.UserRights.{UserRights}
 use Rattle.histar_rights.specs.Rights.{rights_at, rights_text}
-use Rattle.histar_rights.specs.Laws.{LettersAre}
+use Rattle.histar_rights.specs.Laws.{IsAnswered, LettersAre}
 
 -- a process of this user that is in no job and holds none
 abbrev pub process_of : Name → Process
@@ -72,3 +73,13 @@ LettersOfUsersAreReplies =
     → p.chain ≡ [] → p.held ≡ []
     → (q : Path) (node : Node) → get (flat_end accounts (boot accounts) calls).files q ≡ Some node
     → (number : ℕ) → LettersAre accounts calls me number q node (rights_of_user accounts (flat_end accounts (boot accounts) calls) p.user q node)
+
+-- After the calls of a script, a letter of a user at a path is there exactly if, after a login of this user that is answered, one more line
+-- of the same process is answered.
+abbrev pub LettersAreThoseAfterLogin : Type 0
+LettersAreThoseAfterLogin =
+    (accounts : Accounts) (calls : List CallLine) (me : ProcName) (line : ℕ) (user : Name) (password : Password)
+    → IsAnswered accounts calls (record { line = line; process = me; call = Login user password })
+    → (q : Path) (node : Node) → get (flat_end accounts (boot accounts) calls).files q ≡ Some node
+    → (number : ℕ) → LettersAre accounts (calls ++ record { line = line; process = me; call = Login user password } ∷ []) me number q node
+    (rights_of_user accounts (flat_end accounts (boot accounts) calls) user q node)

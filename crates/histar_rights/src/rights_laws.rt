@@ -1,6 +1,6 @@
 //! What rights mean. Each law is the contract of a function that does nothing.
 ghost use Rattle.histar_rights.specs.Laws.{DirectoriesGiveRights, LettersAreReplies, LettersSpellRights};
-ghost use Rattle.histar_rights.specs.Users.{LettersOfUsersAreReplies};
+ghost use Rattle.histar_rights.specs.Users.{LettersAreThoseAfterLogin, LettersOfUsersAreReplies};
 ghost use Rattle.histar_rights.specs.Laws.{ProcessesHaveShownNames, RunningAreListed, WritersMakeEntries};
 
 /// Shows that the rights at a path are those that its directory gives and that its class allows the process.
@@ -36,7 +36,13 @@ pub fn letters_spell_rights()
 {}
 
 /// Shows that a letter of a user is there exactly if one more line, by which a process of this user in no job
-/// and with none uses the right, is answered and not refused: so of a process that has just logged in.
+/// and with none uses the right, is answered and not refused.
 pub fn letters_of_users_are_replies()
     ensures { LettersOfUsersAreReplies }
+{}
+
+/// Shows that a letter of a user is there exactly if, after an answered login of a process as this user, one
+/// more line of that process, by which it uses the right, is answered and not refused.
+pub fn letters_are_those_after_login()
+    ensures { LettersAreThoseAfterLogin }
 {}
