@@ -6,4 +6,6 @@ pub mod StrictLaws
 pub mod CheckLemmas
 pub mod RunLemmas
 pub mod ShownTrusted
+pub mod ChildNames
+pub mod ClaimNames
 pub mod FileLemmas

@@ -28,8 +28,8 @@ use Rattle.histar_test.specs.declared.checks.Made.{Made}
 use Rattle.histar_test.specs.declared.asking.Asking.{Asking}
 use Rattle.histar_test.specs.declared.steps.Step.{Step}
 use Rattle.histar_test.specs.declared.steps.Step.TheVariants.{Makes, Expects, Asks}
-use Rattle.histar_test.specs.Checks.{asked_check, asked_in, checks_from, checks_of, made_of, trusted_text, wanted_text}
-use Rattle.histar_test.specs.Laws.{ChecksAreOfTheMeaning, ClaimsAreMet, ExpectationsAreChecked, IsExpectedOn, IsLastAnswer}
+use Rattle.histar_test.specs.Checks.{asked_check, asked_in, checks_from, checks_of, made_of, wanted_text}
+use Rattle.histar_test.specs.Laws.{ChecksAreOfTheMeaning, ExpectationsAreChecked, IsExpectedOn, IsLastAnswer}
 use Rattle.histar_test.specs.Laws.{IsOfTheMeaning, NumberedLine}
 use Rattle.histar_test.specs.Laws.{QuestionsAreOfReplies, wanting_from, wanting_in, wants}
 use Rattle.histar_test.specs.Steps.{Test, asked_of, asking_of, call_in, calls_in, expectation_of, open_after, step_of, steps_from, test_of}
@@ -299,9 +299,3 @@ questions_are_of_replies script n q =
       answered = rights_answered script.accounts (calls_before (Some n) script.calls) q.process q.path;
       met = (λ e. sym (same_letters letters q.wanted (decides.0 e)), λ e. decides.1 (ap rights_text (sym e)));
     }
-
--- a claim is met exactly if it names the processes that are trusted
-pub claims_are_met : ClaimsAreMet
-claims_are_met script n c =
-    let decides = bytes_eq-Decides (trusted_text script.accounts (state_before (Some n) script) c.path) c.wanted in
-    (λ e. sym (decides.0 e), λ e. decides.1 (sym e))

@@ -1,7 +1,7 @@
 -- The checks of a test: each expectation beside the reply to its call, each question beside the rights that it asks for, each claim beside
 -- the processes that are trusted, each refusal that nobody expected if the test is strict, and their text in the form of the Test Anything
 -- Protocol.
-use Rattle.std.specs.Prelude.{ℕ, ◌+◌, Bool, true, false, List, [], ◌∷◌, ◌++◌, codes, decimal, Option, None, Some, ◌==◌, ◌||◌, if◌then◌else◌, option_to_list}
+use Rattle.std.specs.Prelude.{ℕ, ◌+◌, Bool, true, false, List, [], ◌∷◌, ◌++◌, codes, decimal, Option, None, Some, ◌==◌, ◌||◌, if◌then◌else◌, option_to_list, map}
 use Rattle.std.specs.List.{flat_map}
 use Rattle.std.specs.Str.{bytes_eq}
 use Rattle.histar_flat.specs.declared.calls.CallLine.{CallLine}
@@ -41,22 +41,32 @@ made_of accounts f c said =
 abbrev pub rights_in : Accounts → Flat → Question → Made
 rights_in accounts f q = record { line = q.line; said = q.said; reply = rights_text (rights_of accounts f q.path q.process); is_refused = false }
 
--- these processes, with a space between two
-abbrev pub names_text : List (ProcName × Name) → List ℕ
+-- processes with a space between two, or `nobody`
+abbrev pub names_text : List ProcName → List ℕ
 names_text [] = codes "nobody"
-names_text (p ∷ ps) = process_text p.0 ++ flat_map (λ (q : ProcName × Name). codes " " ++ process_text q.0) ps
+names_text (p ∷ ps) = process_text p ++ flat_map (λ (q : ProcName). codes " " ++ process_text q) ps
 
--- the running processes that are trusted with the file there, in the order of names: `everyone` if each process reaches the file, and
--- `nobody` if there is none
-abbrev pub trusted_at : Accounts → Flat → Path → Option Node → List ℕ
-trusted_at accounts f path None = codes "nobody"
+-- the text of who is trusted: these processes, or `everyone`
+abbrev pub answer_text : Option (List ProcName) → List ℕ
+answer_text None = codes "everyone"
+answer_text (Some names) = names_text names
+
+-- The running processes that are trusted with the file there, in the order of names: none if there is no file. There is no such list where
+-- each process reaches the file.
+abbrev pub trusted_at : Accounts → Flat → Path → Option Node → Option (List ProcName)
+trusted_at accounts f path None = Some []
 trusted_at accounts f path (Some node) =
-    if is_dir node then codes "nobody"
-    else (if is_open_way (way_to f path) then codes "everyone" else names_text (trusted_with accounts f (way_to f path)))
+    if is_dir node then Some []
+    else (if is_open_way (way_to f path) then None
+    else Some (map (λ (p : ProcName × Name). p.0) (trusted_with accounts f (way_to f path))))
 
 -- the same for what is at the path
+abbrev pub trusted_names : Accounts → Flat → Path → Option (List ProcName)
+trusted_names accounts f path = trusted_at accounts f path (get f.files path)
+
+-- the text of those who are trusted with what is at the path
 abbrev pub trusted_text : Accounts → Flat → Path → List ℕ
-trusted_text accounts f path = trusted_at accounts f path (get f.files path)
+trusted_text accounts f path = answer_text (trusted_names accounts f path)
 
 -- a claim in a flat state, beside the processes that are trusted
 abbrev pub trust_in : Accounts → Flat → Claim → Made

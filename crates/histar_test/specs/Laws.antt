@@ -5,6 +5,7 @@ use Rattle.std.specs.Option.{IsSomeAnd}
 use Rattle.histar_flat.specs.Meaning.{RepliedCall, meaning}
 use Rattle.histar_flat.specs.Texts.{reply_text}
 use Rattle.histar_reasons.specs.Laws.{is_refusal}
+use Rattle.histar_flat.specs.Words.{ProcName}
 use Rattle.histar_script.specs.Lines.{lines_of}
 use Rattle.histar_script.specs.Script.{ScriptModel}
 use Rattle.histar_script.specs.Reading.{item_of, script_of}
@@ -16,8 +17,8 @@ use Rattle.histar_test.specs.declared.checks.Made.{Made}
 use Rattle.histar_test.specs.declared.asking.Asking.TheVariants.{OfRights, OfTrust}
 use Rattle.histar_test.specs.declared.claims.Claim.{Claim}
 use Rattle.histar_test.specs.declared.questions.Question.{Question}
-use Rattle.histar_test.specs.Steps.{Test, asked_of, asking_of, call_in, calls_in, expectation_of, test_of}
-use Rattle.histar_test.specs.Checks.{asked_check, asked_in, checks_of, is_met, trusted_text, wanted_text}
+use Rattle.histar_test.specs.Steps.{Test, asked_of, asking_of, call_in, calls_in, claim_of, expectation_of, test_of}
+use Rattle.histar_test.specs.Checks.{asked_check, asked_in, checks_of, is_met, names_text, trusted_names, wanted_text}
 
 -- the calls of a test are those of its script, in their order
 abbrev pub TestsMakeTheCalls : Type 0
@@ -87,11 +88,17 @@ pub record IsMetByReplies (script : ScriptModel) (n : ℕ) (q : Question) : Type
 abbrev pub QuestionsAreOfReplies : Type 0
 QuestionsAreOfReplies = (script : ScriptModel) (n : ℕ) (q : Question) → IsMetByReplies script n q
 
--- a claim is met exactly if it names the processes that are trusted after the calls on the lines before it
+-- The claim is of these processes, and is met exactly if they are those that are trusted after the calls on the lines before line n, in the
+-- order of names.
+pub record IsMetByTheTrusted (script : ScriptModel) (n : ℕ) (c : Claim) : Type 0 where
+  pub names : List ProcName
+  pub wanted : c.wanted ≡ names_text names
+  pub met : (is_met (asked_check script.accounts (state_before (Some n) script) (OfTrust c)) ≡ true)
+      ↔ (trusted_names script.accounts (state_before (Some n) script) c.path ≡ Some names)
+
+-- a claim that can be read is met exactly if it names the processes that are trusted
 abbrev pub ClaimsAreMet : Type 0
-ClaimsAreMet = (script : ScriptModel) (n : ℕ) (c : Claim)
-    → (is_met (asked_check script.accounts (state_before (Some n) script) (OfTrust c)) ≡ true)
-    ↔ (c.wanted ≡ trusted_text script.accounts (state_before (Some n) script) c.path)
+ClaimsAreMet = (script : ScriptModel) (n : ℕ) (text : List ℕ) (c : Claim) → claim_of n text ≡ Some c → IsMetByTheTrusted script n c
 
 -- ---- strict tests
 

@@ -230,7 +230,7 @@ fn shown_text(
 
 /// Returns processes with a space between two.
 fn names_text(alloc: Global, processes: &[(ProcName, Name)]) -> Result<Bytes, AllocError>
-    ensures { IfOk result (λ text. text ≡ names_text processes.now) }
+    ensures { IfOk result (λ text. text ≡ names_text (map (λ (p : ProcName × Name). p.0) processes.now)) }
 {
     let [first, rest @ ..] = processes else {
         return Bytes::copy_of(alloc, b"nobody");
@@ -244,7 +244,8 @@ fn names_text(alloc: Global, processes: &[(ProcName, Name)]) -> Result<Bytes, Al
 /// Adds each process after a space.
 fn push_more(text: &mut Vec<u8>, processes: &[(ProcName, Name)]) -> Result<(), AllocError>
     ensures { OnOk result (text.new.items ≡ text.old.items
-        ++ flat_map (λ (p : ProcName × Name). codes " " ++ process_text p.0) processes.now) }
+        ++ flat_map (λ (p : ProcName). codes " " ++ process_text p)
+        (map (λ (p : ProcName × Name). p.0) processes.now)) }
 {
     for process in processes {
         text.extend_from_slice(b" ")?;
