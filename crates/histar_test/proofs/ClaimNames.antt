@@ -69,7 +69,8 @@ numbers_right : (p : ProcName) → is_name p ≡ true → list_all is_child_numb
 numbers_right p h = (and_parts (nat_le (length p) most_numbers) (list_all is_child_number p) h).1
 
 -- a process is read from its text, in front of others
-read_first : (p : ProcName) (words : List (List ℕ)) → is_name p ≡ true → filter_map process_of (process_text p ∷ words) ≡ p ∷ filter_map process_of words
+read_first : (p : ProcName) (words : List (List ℕ)) → is_name p ≡ true
+    → filter_map process_of (process_text p ∷ words) ≡ p ∷ filter_map process_of words
 read_first p words h = ap (λ (o : Option ProcName). cons_option o (filter_map process_of words)) (process_again p h)
 
 -- the names are read from their text
