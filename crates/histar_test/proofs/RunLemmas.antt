@@ -367,7 +367,8 @@ reached_start : {accounts : Accounts} {strict : Bool} {tally : Tally} {start : R
 reached_start starts = record { shows = starts.shows; reached = ([], refl) }
 
 -- it has a state
-pub start_has_state : {accounts : Accounts} {strict : Bool} {tally : Tally} {start : Run} → Starts accounts strict tally start → HasState start.machine
+pub start_has_state : {accounts : Accounts} {strict : Bool} {tally : Tally} {start : Run} → Starts accounts strict tally start
+    → HasState start.machine
 start_has_state {accounts = accounts} starts = (accounts, boot accounts, reached_start starts)
 
 -- the steps of a test were taken from its start

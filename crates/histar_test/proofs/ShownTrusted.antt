@@ -35,7 +35,8 @@ shown_case groups members o node way there file closed =
     sym (ap (λ (x : Option TreeNode). shown_trusted groups members x way) there
     ∙ (λ i. if file i then codes "nobody" else (if closed i then codes "everyone" else names)))
 
-module _ {accounts : Accounts} {m : MachineModel} {f : Flat} (r : ShowsReached accounts m f) (members : List Member) (found_members : AreMembers m members) where
+module _ {accounts : Accounts} {m : MachineModel} {f : Flat} (r : ShowsReached accounts m f) (members : List Member)
+    (found_members : AreMembers m members) where
   abbrev s : State
   s = state m.kernel
 
