@@ -27,7 +27,7 @@ use Rattle.histar_trust.proofs.Runners.{AllOf, each_runs}
 use Rattle.histar_test.specs.declared.claims.Claim.{Claim}
 use Rattle.histar_test.specs.Checks.{answer_text, names_text, trusted_at, trusted_names, trusted_text}
 use Rattle.histar_test.specs.Laws.{ClaimsAreMet}
-use Rattle.histar_test.specs.Steps.{are_processes, claim_of, claimed_of, is_process}
+use Rattle.histar_test.specs.Steps.{are_processes, claim_of, claimed_of, is_process_word}
 use Rattle.histar_test.proofs.ChildNames.{running_is_named}
 
 -- a line can say each of these names
@@ -121,10 +121,10 @@ record AreOfWords (words : List (List ℕ)) : Type 0 where
   pub right : AreSayable names
   pub spelled : map process_text names ≡ words
 
-of_words : (words : List (List ℕ)) → list_all is_process words ≡ true → AreOfWords words
+of_words : (words : List (List ℕ)) → list_all is_process_word words ≡ true → AreOfWords words
 of_words [] all = record { names = []; right = tt; spelled = refl }
 of_words (w ∷ words) all =
-    let parts = and_parts (is_process w) (list_all is_process words) all in
+    let parts = and_parts (is_process_word w) (list_all is_process_word words) all in
     by (process_of w) refl parts.0 (of_words words parts.1)
   where
     by : (o : Option ProcName) → process_of w ≡ o → is_some (process_of w) ≡ true → AreOfWords words → AreOfWords (w ∷ words)
@@ -143,7 +143,7 @@ record AreNamed (wanted : List ℕ) : Type 0 where
   pub right : AreSayable names
   pub text : wanted ≡ names_text names
 
-named_in : (text : List ℕ) → (words : List (List ℕ)) → slice_split (λ b. b == 32) text ≡ words → list_all is_process words ≡ true → AreNamed text
+named_in : (text : List ℕ) → (words : List (List ℕ)) → slice_split (λ b. b == 32) text ≡ words → list_all is_process_word words ≡ true → AreNamed text
 named_in text [] e all =
     let none : length (slice_split (λ b. b == 32) text) ≡ 0 = ap length e in
     absurd (omega (arith, none, length-slice_split (λ b. b == 32) text))

@@ -1,7 +1,6 @@
 -- The calls and the expectations of a test are those of its lines.
-use Rattle.std.proofs.Common.{◌≡◌, ℕ, ◌+◌, Bool, true, false, List, [], ◌∷◌, ◌++◌, take, drop, length}
-use Rattle.std.proofs.Common.{Option, Some, None, Result, Ok, Err, ◌&&◌, ◌||◌}
-use Rattle.std.proofs.Common.{refl, sym, ap, ◌∙◌, append-nil, append_assoc, arith}
+use Rattle.std.proofs.Common.{◌≡◌, ℕ, ◌+◌, Bool, true, false, List, [], ◌∷◌, ◌++◌, take, drop, length, Option, Some, None, Result, Ok, Err}
+use Rattle.std.proofs.Common.{◌&&◌, ◌||◌, refl, sym, ap, ◌∙◌, append-nil, append_assoc, arith}
 use Rattle.std.specs.Prelude.{codes, is_some, option_to_list, if◌then◌else◌, ◌==◌}
 use Rattle.std.specs.Option.{option_and_then}
 use Rattle.std.specs.Str.{bytes_eq}
@@ -28,9 +27,8 @@ use Rattle.histar_test.specs.declared.steps.Step.{Step}
 use Rattle.histar_test.specs.declared.steps.Step.TheVariants.{Makes, Expects, Asks}
 use Rattle.histar_test.specs.Checks.{checks_from, checks_of, made_of}
 use Rattle.histar_test.specs.Laws.{TestsMakeTheCalls}
-use Rattle.histar_test.specs.Steps.{Test, asked_of, asking_of, asking_step, call_in, call_of_step, calls_in, expectation_count}
-use Rattle.histar_test.specs.Steps.{expectation_of, open_after}
-use Rattle.histar_test.specs.Steps.{step_by, step_of, step_then, steps_before, steps_by, steps_from, test_by, test_of}
+use Rattle.histar_test.specs.Steps.{Test, asked_of, asking_of, asking_step, call_in, call_of_step, calls_in, expectation_count, expectation_of}
+use Rattle.histar_test.specs.Steps.{open_after, step_by, step_of, step_then, steps_before, steps_by, steps_from, test_by, test_of}
 use Rattle.histar_test.proofs.StepLemmas.{Read, by_step}
 
 -- ---- the step of a line, and the line

@@ -99,7 +99,8 @@ abbrev pub shown_trusted : List Group → List Member → Option TreeNode → Li
 shown_trusted groups members None way = codes "nobody"
 shown_trusted groups members (Some node) way =
     if is_directory node.target then codes "nobody"
-    else (if is_open_way way then codes "everyone" else names_text (map (λ (p : ProcName × Name). p.0) (map with_user (filter (has_role groups way Trusted) members))))
+    else (if is_open_way way then codes "everyone"
+    else names_text (map (λ (p : ProcName × Name). p.0) (map with_user (filter (has_role groups way Trusted) members))))
 
 -- the same by the running processes of a machine
 abbrev pub ShowsTrustedAt : MachineModel → Option TreeNode → List FileClass → List ℕ → Type 0

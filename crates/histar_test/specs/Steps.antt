@@ -56,12 +56,12 @@ question_of n text = do
   Some (record { line = n; said = text; path = path; process = wanted.0; wanted = wanted.1 })
 
 -- the word is a process
-abbrev pub is_process : List ℕ → Bool
-is_process word = is_some (process_of word)
+abbrev pub is_process_word : List ℕ → Bool
+is_process_word word = is_some (process_of word)
 
 -- the words of a text are processes, with one space between two
 abbrev pub are_processes : List ℕ → Bool
-are_processes text = list_all is_process (slice_split (λ b. b == 32) text)
+are_processes text = list_all is_process_word (slice_split (λ b. b == 32) text)
 
 -- the processes that a claim names behind its path, as a text: `nobody` if there are none
 abbrev pub claimed_of : Option (List ℕ) → Option (List ℕ)

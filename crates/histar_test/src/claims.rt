@@ -10,7 +10,7 @@ ghost use Rattle.histar_trust.specs.Findings.{HasState};
 ghost use Rattle.histar_test.specs.declared.asking.Asking.TheVariants.{OfTrust};
 ghost use Rattle.histar_test.specs.Checks.{names_text};
 ghost use Rattle.histar_test.specs.Running.{AsksMachine, ShowsTrusted, ShowsTrustedAt, shown_trusted};
-ghost use Rattle.histar_test.specs.Steps.{are_processes, claim_of, claimed_of, is_process};
+ghost use Rattle.histar_test.specs.Steps.{are_processes, claim_of, claimed_of, is_process_word};
 
 use crate::checks::{Check, Made};
 use histar_base::Bytes;
@@ -46,19 +46,19 @@ fn split_at_spaces(alloc: Global, text: &[u8]) -> Result<Vec<&[u8]>, AllocError>
 }
 
 /// Checks whether a word is a process.
-fn is_process(word: &[u8]) -> bool
-    ensures { result ≡ is_process word.now }
+fn is_process_word(word: &[u8]) -> bool
+    ensures { result ≡ is_process_word word.now }
 {
     read_process(word).is_some()
 }
 
 /// Checks whether all of these words are processes.
 fn are_all(words: &[&[u8]]) -> bool
-    ensures { result ≡ list_all is_process (map (λ word. word.now) words.now) }
+    ensures { result ≡ list_all is_process_word (map (λ word. word.now) words.now) }
 {
     let mut rest = words;
     'words: while let [word, more @ ..] = rest {
-        if !is_process(word) {
+        if !is_process_word(word) {
             return false;
         }
         rest = more;
@@ -230,7 +230,8 @@ fn shown_text(
 
 /// Returns processes with a space between two.
 fn names_text(alloc: Global, processes: &[(ProcName, Name)]) -> Result<Bytes, AllocError>
-    ensures { IfOk result (λ text. text ≡ names_text (map (λ (p : ProcName × Name). p.0) processes.now)) }
+    ensures { IfOk result (λ text.
+        text ≡ names_text (map (λ (p : ProcName × Name). p.0) processes.now)) }
 {
     let [first, rest @ ..] = processes else {
         return Bytes::copy_of(alloc, b"nobody");
