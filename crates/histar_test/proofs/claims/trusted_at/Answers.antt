@@ -21,6 +21,7 @@ returns c =
       c.in_ok-members.members.items,
       record { processes = c.in_ok-processes.processes.items; are = c.in_ok-processes.ensures; runners = runners },
       is
-          ∙ (λ i. shown_trusted ((c.groups.ensures.groups ∙ ap (λ users. users.groups) c.users.ensures) i) (c.as_slice-2.ensures.value i) (option_copied c.args.found) way),
+          ∙ (λ i. shown_trusted ((c.groups.ensures.groups ∙ ap (λ users. users.groups) c.users.ensures) i)
+          (c.as_slice-2.ensures.value i) (option_copied c.args.found) way),
     ))
     c.shown_text.ensures
