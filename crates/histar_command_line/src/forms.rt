@@ -267,7 +267,7 @@ pub(crate) fn flows<'a>() -> Form<'a>
     Form {
         name: "flows",
         about: "Run a script and print which process can pass on what it knows to which others",
-        after_help: "The processes that are in no job can tell everyone: they are on the first line. Each other line is a running
+        after_help: "Everyone can observe the processes that are in no job: they are on the first line. Each other line is a running
 process in a job, its user, and the running processes that know every job that it is in. An exclamation mark
 is behind those that hold one of these jobs: they may pass on what the job made.
 

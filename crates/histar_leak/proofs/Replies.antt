@@ -108,7 +108,7 @@ module _ (accounts : Accounts) (f : Flat) (reached : IsReached accounts f) (path
         (sym (roles_are_shown accounts f reached path me p runs).trusted ∙ trusted)).0;
   }
 
-  -- an outsider that knows all jobs of a process can be told by it
+  -- an outsider that knows all jobs of a process can observe it
   listener : (me : ProcName) (p : Process) → running f me ≡ Some p → (other : ProcName)
       → (is_outside accounts f path other && knows_all_of accounts f path other me) ≡ true → (q : Process) × IsListener accounts f path p other q
   listener me p runs other passes =

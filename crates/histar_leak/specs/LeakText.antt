@@ -1,4 +1,4 @@
--- How each process that is trusted with a file tells what is in it, and to whom; how each login reads it; and how each
+-- How each process that is trusted with a file reveals what is in it, and to whom; how each login reads it; and how each
 -- changer changes what is at a path: the text of a flat state.
 use Rattle.std.specs.Prelude.{ℕ, Bool, false, not, ◌&&◌, ◌||◌, List, [], ◌∷◌, ◌++◌, Option, None, Some, codes}
 use Rattle.std.specs.Prelude.{if◌then◌else◌}

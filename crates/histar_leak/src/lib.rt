@@ -1,4 +1,4 @@
-//! How each process that is trusted with a file tells what is in it, how each login reads it, and
+//! How each process that is trusted with a file reveals what is in it, how each login reads it, and
 //! how each changer changes what is at a path: lines of a script, with the replies that are
 //! expected of them.
 #![tactic(auto)]

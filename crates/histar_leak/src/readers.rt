@@ -1,4 +1,4 @@
-//! The paragraphs of those who tell what is in a file: the trusted processes, and the logins.
+//! The paragraphs of those who reveal what is in a file: the trusted processes, and the logins.
 ghost use Rattle.std.specs.Prelude.{◌≡◌, ◌&&◌, ◌++◌, codes, filter, IfOk, map, OnOk};
 ghost use Rattle.std.specs.List.{flat_map};
 ghost use Rattle.histar_secrecy.specs.declared.role.Role.TheVariants.{Trusted};
@@ -49,7 +49,7 @@ pub fn push_readers(
 
 /// Adds a paragraph for each process that is trusted with a file.
 ///
-/// Those that a process in no job can tell are all outsiders, and are listed once.
+/// Those that observe a process in no job are all outsiders, and are listed once.
 fn push_each_trusted(alloc: Global, text: &mut Vec<u8>, secret: &Secret) -> Result<(), AllocError>
     ensures { OnOk result (text.new.items ≡ text.old.items
         ++ flat_map (shown_trusted secret.now.groups.now secret.now.classes.now secret.now.path.now
@@ -82,8 +82,8 @@ fn push_trusted(
     push_listening(alloc, text, secret, outsiders, member)
 }
 
-/// Adds the paragraph of a trusted process, where these are the outsiders: a process in no job can
-/// tell each.
+/// Adds the paragraph of a trusted process, where these are the outsiders: each can observe a
+/// process in no job.
 fn push_listening(
     alloc: Global,
     text: &mut Vec<u8>,
@@ -105,7 +105,7 @@ fn push_listening(
     push_trusted_paragraph(text, secret, member, listeners.as_slice())
 }
 
-/// Adds the paragraph of a trusted process, which can tell these.
+/// Adds the paragraph of a trusted process, which these can observe.
 fn push_trusted_paragraph(
     text: &mut Vec<u8>,
     secret: &Secret,

@@ -16,7 +16,7 @@ use histar_shell::Machine;
 use std::alloc::Global;
 
 /// Reads a script, runs it on a machine of its own, and writes how each process that is trusted
-/// with the file at a path tells what is in it, how each login reads it, and how each changer
+/// with the file at a path reveals what is in it, how each login reads it, and how each changer
 /// changes what is at the path: lines of a script, each with the reply that is expected of it. With
 /// a line number it runs the calls on the lines before that one, and else all.
 ///

@@ -30,7 +30,7 @@ use Rattle.histar_secrecy.specs.Release.{DifferAt}
 use Rattle.histar_secrecy.proofs.Flowing.{only_knowers_are_told}
 use Rattle.histar_secrecy.proofs.Knowers.{knowers_can_be_told, knowers_see}
 use Rattle.histar_trust.specs.FlowsText.{is_listed, is_observer}
-use Rattle.histar_trust.specs.FlowLaws.{ListedAreKnowers, ListedCanBeTold, OnlyListedAreTold, may_learn_of}
+use Rattle.histar_trust.specs.FlowLaws.{ListedAreKnowers, ListedCanObserve, OnlyListedObserve, may_learn_of}
 use Rattle.histar_trust.proofs.Pieces.{from_not}
 use Rattle.histar_trust.proofs.Runners.{AllOf, Runs, each_runs}
 
@@ -173,8 +173,8 @@ module _ (accounts : Accounts) (f : Flat) (reached : IsReached accounts f) (me :
 pub listed_are_knowers : ListedAreKnowers
 listed_are_knowers accounts f reached me p runs x = listed_is accounts f reached me p runs x
 
-pub listed_can_be_told : ListedCanBeTold
-listed_can_be_told accounts f reached me p runs x listed n = by (running f x) refl (sym (listed_is accounts f reached me p runs x) ∙ listed)
+pub listed_can_observe : ListedCanObserve
+listed_can_observe accounts f reached me p runs x listed n = by (running f x) refl (sym (listed_is accounts f reached me p runs x) ∙ listed)
   where
     by : (o : Option Process) → running f x ≡ o
         → (is_some (running f x) && not (same me x) && list_all (λ job. knows_by_name f job x) p.chain) ≡ true
@@ -219,8 +219,8 @@ apart_from me (n ∷ x) h = by (same me (n ∷ x)) (from_not (same me (n ∷ x) 
     by true h = absurd (true≢false h)
     by false h = refl
 
-pub only_listed_are_told : OnlyListedAreTold
-only_listed_are_told accounts f reached me p runs calls others program follows too =
+pub only_listed_observe : OnlyListedObserve
+only_listed_observe accounts f reached me p runs calls others program follows too =
     differ_so (λ x. not (under_process me x)) (λ x. list_all (λ job. knows_by_name f job x) p.chain) (may_learn_of f (me, p))
     (λ x apart. learns_is accounts f reached me p runs x (apart_from me x apart))
     (others_than me accounts f calls) (others_than me accounts f others)

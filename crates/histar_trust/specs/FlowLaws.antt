@@ -23,9 +23,9 @@ ListedAreKnowers = (accounts : Accounts) (f : Flat) → IsReached accounts f
     → (me : ProcName) (p : Process) → running f me ≡ Some p → (x : ProcName) → is_listed f (me, p) x
     ≡ (is_some (running f x) && not (same me x) && list_all (λ job. knows_by_name f job x) p.chain)
 
--- Each process that is listed behind another one can be told by it: it can ask for the number with which that one exits.
-abbrev pub ListedCanBeTold : Type 0
-ListedCanBeTold = (accounts : Accounts) (f : Flat) → IsReached accounts f
+-- Each process that is listed behind another one can observe it: it can ask for the number with which that one exits.
+abbrev pub ListedCanObserve : Type 0
+ListedCanObserve = (accounts : Accounts) (f : Flat) → IsReached accounts f
     → (me : ProcName) (p : Process) → running f me ≡ Some p → (x : ProcName) → is_listed f (me, p) x ≡ true
     → (n : ℕ) → reply_to accounts (flat_after accounts f me (Exit n)) x (Status me) ≡ Exited n
 
@@ -37,8 +37,8 @@ may_learn_of f p x =
 -- Two runs go on from one state. A process and those below it call anything in each, and all others follow one program.
 -- Then the first of their replies that differs is one to a process that is listed behind the first one, or to one that comes
 -- later in all its jobs.
-abbrev pub OnlyListedAreTold : Type 0
-OnlyListedAreTold = (accounts : Accounts) (f : Flat) → IsReached accounts f
+abbrev pub OnlyListedObserve : Type 0
+OnlyListedObserve = (accounts : Accounts) (f : Flat) → IsReached accounts f
     → (me : ProcName) (p : Process) → running f me ≡ Some p
     → (calls others : List CallLine) (program : Program)
     → IsOf program [] (others_than me accounts f calls) → IsOf program [] (others_than me accounts f others)

@@ -1,6 +1,6 @@
 //! What `run` prints to processes that may not read a secret, and what the lines of `flows` mean. Each law is
 //! the contract of a function that does nothing.
-ghost use Rattle.histar_trust.specs.FlowLaws.{ListedAreKnowers, ListedCanBeTold, OnlyListedAreTold};
+ghost use Rattle.histar_trust.specs.FlowLaws.{ListedAreKnowers, ListedCanObserve, OnlyListedObserve};
 ghost use Rattle.histar_trust.specs.Printed.{OutsidersReadTheSame};
 
 /// Shows that the replies to outsiders that `run` prints for a script are the same texts, whatever bytes a
@@ -15,13 +15,13 @@ pub fn listed_are_knowers()
     ensures { ListedAreKnowers }
 {}
 
-/// Shows that each process that is listed behind another one can be told any number by it.
-pub fn listed_can_be_told()
-    ensures { ListedCanBeTold }
+/// Shows that each process that is listed behind another one can observe any number with which it exits.
+pub fn listed_can_observe()
+    ensures { ListedCanObserve }
 {}
 
 /// Shows that whatever a process and those below it call, the first reply to others by which they learn of it
 /// is one to a process that is listed behind it, or to one that comes later in all its jobs.
-pub fn only_listed_are_told()
-    ensures { OnlyListedAreTold }
+pub fn only_listed_observe()
+    ensures { OnlyListedObserve }
 {}
