@@ -1,6 +1,7 @@
 -- The lemmas of this crate.
 pub mod WordLemmas
 pub mod OwnLemmas
+pub mod StoryLemmas
 pub mod SessionLemmas
 pub mod PageLemmas
 pub mod ViewLemmas

@@ -9,7 +9,7 @@ use Rattle.std.proofs.lemmas.List.Sums.{take_while-cons}
 use Rattle.std.proofs.Math.Seq.{drop-nil, take-add}
 use Rattle.histar_script.specs.Lines.{split_word}
 use Rattle.histar_page.specs.Lines.{is_own, mark_number}
-use Rattle.histar_page.specs.Order.{Follow, left_over, past_own, reply_numbers, session_numbers}
+use Rattle.histar_page.specs.Order.{Follow, left_over, past_own, reply_numbers, session_numbers, taken_own}
 use Rattle.histar_page.specs.Session.{other_item}
 
 -- all that is taken while a test passes passes the test
@@ -39,6 +39,27 @@ pub boot_whole : {A B : Type 0} (f : A → B) (lines own later : List A)
 boot_whole f lines own later taken behind =
     let front : take (length own) (map f lines) ≡ map f own = ap (λ k. take k (map f lines)) (sym (zero-add (length own))) ∙ taken in
     ap (λ l. l ++ map f later) (sym front) ∙ sym (rest_whole f lines later (length own) behind)
+
+-- the lines of a number at the front are as many as pass its test in a row
+pub taken_is : (number : List ℕ) (lines : List (List ℕ)) → taken_own number lines ≡ take (prefix_len (is_own number) lines) lines
+taken_is number [] = refl
+taken_is number (line ∷ lines) = by (is_own number line) (taken_is number lines)
+  where
+    by : (b : Bool) → taken_own number lines ≡ take (prefix_len (is_own number) lines) lines
+        → (if b then line ∷ taken_own number lines else []) ≡ take (cond b (1 + prefix_len (is_own number) lines) 0) (line ∷ lines)
+    by true e =
+        ap (λ l. line ∷ l) e
+        ∙ ap (λ n. take n (line ∷ lines)) (let e : suc (prefix_len (is_own number) lines)
+        ≡ 1 + prefix_len (is_own number) lines = omega arith in e)
+    by false e = refl
+
+-- what was taken of the lines after a place is all that the number has there, element by element
+pub taken_front : {A : Type 0} (f : A → List ℕ) (number : List ℕ) (lines own : List A) (from n : ℕ)
+    → n ≡ prefix_len (is_own number) (map f (drop from lines)) → own ≡ take n (drop from lines)
+    → map f own ≡ taken_own number (drop from (map f lines))
+taken_front f number lines own from n is taken =
+    ap (map f) taken ∙ sym (take-map f n (drop from lines)) ∙ ap (λ k. take k (map f (drop from lines))) is
+    ∙ sym (taken_is number (map f (drop from lines))) ∙ ap (taken_own number) (sym (drop-map f from lines))
 
 -- ---- what is left
 

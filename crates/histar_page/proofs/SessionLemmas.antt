@@ -1,36 +1,35 @@
 -- A session's items, one call after another.
 use Rattle.std.proofs.Common.{◌≡◌, ℕ, List, [], ◌∷◌, ◌++◌, refl, sym, ap, ap₂, ◌∙◌, true, false, append_assoc, append-nil, map, subst}
-use Rattle.std.specs.Prelude.{Bool, ◌||◌, codes, filter, if◌then◌else◌}
+use Rattle.std.specs.Prelude.{Bool, codes, filter, if◌then◌else◌}
 use Rattle.std.specs.List.{flat_map, list_all}
 use Rattle.std.proofs.lemmas.Bool.{and_parts}
 use Rattle.std.proofs.lemmas.Slice.Eq.{bytes_eq-Decides}
 use Rattle.std.proofs.lemmas.List.{map-append}
-use Rattle.std.proofs.lemmas.List.Elements.{filter-append}
-use Rattle.std.proofs.lemmas.List.Concat.{flat_map-append}
-use Rattle.histar_script.specs.Lines.{split_word}
 use Rattle.histar_page.specs.declared.kind.Kind.{Kind}
-use Rattle.histar_page.specs.declared.kind.Kind.TheVariants.{Reply, Refusal, RawCall, DeniedCall}
+use Rattle.histar_page.specs.declared.kind.Kind.TheVariants.{RawCall, DeniedCall, HiddenBytes}
 use Rattle.histar_page.specs.Items.{Item}
-use Rattle.histar_page.specs.Lines.{after_word, is_denied, is_explanation, is_own, is_raw_call, is_refused, is_reply, mark_number}
-use Rattle.histar_page.specs.Session.{AddsSession, AreOwn, IsSession, answer_items, boot_items, call_items, is_answer_kind, is_number_kind}
-use Rattle.histar_page.specs.Session.{is_other_kind, is_raw_kind, is_why_kind, of_kinds, other_call_items, other_item, other_why_items, raw_item}
-use Rattle.histar_page.specs.Session.{raw_kind, reply_kind, why_item}
+use Rattle.histar_page.specs.Lines.{is_denied, is_explanation, is_own, is_raw_call, is_reason, is_reply, mark_number}
+use Rattle.histar_page.specs.Session.{AddsSession, AreOwn, IsSession, at_bytes, boot_items, hides_bytes, is_number_kind, is_other_kind, is_raw_kind}
+use Rattle.histar_page.specs.Session.{is_why_kind, kernel_items, of_kinds, other_call_items, other_item, other_why_items, raw_item}
+use Rattle.histar_page.specs.Session.{raw_kind, why_item}
+use Rattle.histar_page.specs.Story.{is_story_kind, story_from}
 use Rattle.histar_page.specs.Order.{session_numbers}
 use Rattle.histar_page.proofs.OwnLemmas.{boot_alone}
+use Rattle.histar_page.proofs.StoryLemmas.{IsPlain, IsStory, never, of-append}
 
 -- ---- kinds
 
--- a property of both kinds of replies holds of the kind of each reply
-by_reply : (P : Kind → Type 0) → P Refusal → P Reply → (line : List ℕ) → P (reply_kind line)
-by_reply P refused granted line = elim (is_refused line) as (λ b. P (if b then Refusal else Reply)) [ true ↦ refused | false ↦ granted ]
+-- the item of a raw call, by whether its bytes are hidden
+abbrev raw_by : List ℕ → Bool → Item
+raw_by line hidden = if hidden then (HiddenBytes, (at_bytes line).0) else (raw_kind line, line)
 
--- a property of both kinds of raw calls holds of the kind of each raw call
-by_raw : (P : Kind → Type 0) → P DeniedCall → P RawCall → (line : List ℕ) → P (raw_kind line)
-by_raw P denied made line = elim (is_denied line) as (λ b. P (if b then DeniedCall else RawCall)) [ true ↦ denied | false ↦ made ]
-
--- the items of these kinds in two lists in a row are those of each
-of-append : (test : Kind → Bool) (xs ys : List Item) → of_kinds test (xs ++ ys) ≡ of_kinds test xs ++ of_kinds test ys
-of-append test xs ys = filter-append (λ (item : Item). test item.0) xs ys
+-- a property of all kinds of raw calls holds of the kind of each raw call
+by_raw : (P : Kind → Type 0) → P HiddenBytes → P DeniedCall → P RawCall → (line : List ℕ) → P (raw_item line).0
+by_raw P hidden denied made line =
+    elim (hides_bytes line) as (λ b. P (raw_by line b).0) [
+      | true ↦ hidden
+      | false ↦ elim (is_denied line) as (λ b. P (if b then DeniedCall else RawCall)) [ true ↦ denied | false ↦ made ]
+    ]
 
 -- no item is of these kinds
 of_none : (test : Kind → Bool) (f : List ℕ → Item) → ((line : List ℕ) → test (f line).0 ≡ false)
@@ -44,9 +43,10 @@ of_all : (test : Kind → Bool) (f : List ℕ → Item) → ((line : List ℕ) �
 of_all test f passes [] = refl
 of_all test f passes (line ∷ lines) = rw (passes line) (ap (λ l. f line ∷ l) (of_all test f passes lines))
 
--- the items of raw calls have none of these kinds, if neither kind of raw calls is one
-raw_none : (test : Kind → Bool) → test DeniedCall ≡ false → test RawCall ≡ false → (lines : List (List ℕ)) → of_kinds test (map raw_item lines) ≡ []
-raw_none test denied made lines = of_none test raw_item (by_raw (λ k. test k ≡ false) denied made) lines
+-- the items of raw calls have none of these kinds, if no kind of raw calls is one
+raw_none : (test : Kind → Bool) → test HiddenBytes ≡ false → test DeniedCall ≡ false → test RawCall ≡ false → (lines : List (List ℕ))
+    → of_kinds test (map raw_item lines) ≡ []
+raw_none test hidden denied made lines = of_none test raw_item (by_raw (λ k. test k ≡ false) hidden denied made) lines
 
 -- ---- the raw calls and explanations after a call
 
@@ -56,7 +56,7 @@ behind_raw : (raw_calls explanations : List (List ℕ))
 behind_raw raw_calls explanations =
     of-append is_raw_kind (map raw_item raw_calls) (map why_item explanations)
     ∙ ap₂ (λ (a b : List Item). a ++ b)
-    (of_all is_raw_kind raw_item (by_raw (λ k. is_raw_kind k ≡ true) refl refl) raw_calls)
+    (of_all is_raw_kind raw_item (by_raw (λ k. is_raw_kind k ≡ true) refl refl refl) raw_calls)
     (of_none is_raw_kind why_item (λ line. refl) explanations)
     ∙ append-nil (map raw_item raw_calls)
 
@@ -64,43 +64,19 @@ behind_why : (raw_calls explanations : List (List ℕ))
     → of_kinds is_why_kind (map raw_item raw_calls ++ map why_item explanations) ≡ map why_item explanations
 behind_why raw_calls explanations =
     of-append is_why_kind (map raw_item raw_calls) (map why_item explanations)
-    ∙ ap₂ (λ (a b : List Item). a ++ b) (raw_none is_why_kind refl refl raw_calls) (of_all is_why_kind why_item (λ line. refl) explanations)
+    ∙ ap₂ (λ (a b : List Item). a ++ b) (raw_none is_why_kind refl refl refl raw_calls) (of_all is_why_kind why_item (λ line. refl) explanations)
 
-behind_answers : (raw_calls explanations : List (List ℕ)) → of_kinds is_answer_kind (map raw_item raw_calls ++ map why_item explanations) ≡ []
-behind_answers raw_calls explanations =
-    of-append is_answer_kind (map raw_item raw_calls) (map why_item explanations)
-    ∙ ap₂ (λ (a b : List Item). a ++ b) (raw_none is_answer_kind refl refl raw_calls) (of_none is_answer_kind why_item (λ line. refl) explanations)
+behind_story : (raw_calls explanations : List (List ℕ)) → of_kinds is_story_kind (map raw_item raw_calls ++ map why_item explanations) ≡ []
+behind_story raw_calls explanations =
+    of-append is_story_kind (map raw_item raw_calls) (map why_item explanations)
+    ∙ ap₂ (λ (a b : List Item). a ++ b) (raw_none is_story_kind refl refl refl raw_calls) (of_none is_story_kind why_item (λ line. refl) explanations)
 
 behind_others : (raw_calls explanations : List (List ℕ)) → of_kinds is_other_kind (map raw_item raw_calls ++ map why_item explanations) ≡ []
 behind_others raw_calls explanations =
     of-append is_other_kind (map raw_item raw_calls) (map why_item explanations)
-    ∙ ap₂ (λ (a b : List Item). a ++ b) (raw_none is_other_kind refl refl raw_calls) (of_none is_other_kind why_item (λ line. refl) explanations)
-
--- ---- a call
-
-call_answers : (script : List (List ℕ)) (line : List ℕ) (raw_calls explanations : List (List ℕ))
-    → of_kinds is_answer_kind (call_items script line raw_calls explanations) ≡ flat_map (answer_items script) (line ∷ [])
-call_answers script line raw_calls explanations =
-    rw (by_reply (λ k. is_answer_kind k ≡ true) refl refl line) (rw (behind_answers raw_calls explanations) refl)
-
-call_raw : (script : List (List ℕ)) (line : List ℕ) (raw_calls explanations : List (List ℕ))
-    → of_kinds is_raw_kind (call_items script line raw_calls explanations) ≡ map raw_item raw_calls
-call_raw script line raw_calls explanations = rw (by_reply (λ k. is_raw_kind k ≡ false) refl refl line) (behind_raw raw_calls explanations)
-
-call_why : (script : List (List ℕ)) (line : List ℕ) (raw_calls explanations : List (List ℕ))
-    → of_kinds is_why_kind (call_items script line raw_calls explanations) ≡ map why_item explanations
-call_why script line raw_calls explanations = rw (by_reply (λ k. is_why_kind k ≡ false) refl refl line) (behind_why raw_calls explanations)
-
-call_others : (script : List (List ℕ)) (line : List ℕ) (raw_calls explanations : List (List ℕ))
-    → of_kinds is_other_kind (call_items script line raw_calls explanations) ≡ []
-call_others script line raw_calls explanations =
-    rw (by_reply (λ k. is_other_kind k ≡ false) refl refl line) (behind_others raw_calls explanations)
+    ∙ ap₂ (λ (a b : List Item). a ++ b) (raw_none is_other_kind refl refl refl raw_calls) (of_none is_other_kind why_item (λ line. refl) explanations)
 
 -- ---- numbers
-
--- false is not true
-never : {P : Type 0} → false ≡ true → P
-never h = absurd cc
 
 -- items after their own numbers stay so after any others
 own-append : (number : List ℕ) (xs ys : List Item) → AreOwn number xs → ((n : List ℕ) → AreOwn n ys) → AreOwn number (xs ++ ys)
@@ -111,13 +87,25 @@ own-append number (x ∷ xs) ys h all = (h.0, own-append (if is_number_kind x.0 
 has_number : (number line : List ℕ) → is_own number line ≡ true → mark_number line ≡ number
 has_number number line h = (bytes_eq-Decides (mark_number line) number).0 h
 
+-- the text of a raw call has the number of its line
+raw_number : (line : List ℕ) → mark_number (raw_item line).1 ≡ mark_number line
+raw_number line = by (hides_bytes line) refl
+  where
+    by : (b : Bool) → hides_bytes line ≡ b → mark_number (raw_by line b).1 ≡ mark_number line
+    by true e =
+        let parts = and_parts (is_own (codes "0") line) _ e in
+        has_number (codes "0") (at_bytes line).0 (and_parts (is_own (codes "0") (at_bytes line).0) _ parts.1).0
+        ∙ sym (has_number (codes "0") line parts.0)
+    by false e = refl
+
 -- raw calls that have a number are after it, and so is what follows them
 own_raw : (number : List ℕ) (lines : List (List ℕ)) (more : List Item) → list_all (is_own number) lines ≡ true → AreOwn number more
     → AreOwn number (map raw_item lines ++ more)
 own_raw number [] more h rest = rest
 own_raw number (line ∷ lines) more h rest =
     let parts = and_parts (is_own number line) (list_all (is_own number) lines) h in
-    (λ is. has_number number line parts.0, rw (by_raw (λ k. is_number_kind k ≡ false) refl refl line) (own_raw number lines more parts.1 rest))
+    let later = own_raw number lines more parts.1 rest in
+    (λ is. raw_number line ∙ has_number number line parts.0, rw (by_raw (λ k. is_number_kind k ≡ false) refl refl refl line) later)
 
 -- explanations that have a number are after it
 own_why : (number : List ℕ) (lines : List (List ℕ)) → list_all (is_own number) lines ≡ true → AreOwn number (map why_item lines)
@@ -126,28 +114,11 @@ own_why number (line ∷ lines) h =
     let parts = and_parts (is_own number line) (list_all (is_own number) lines) h in
     (λ is. has_number number line parts.0, own_why number lines parts.1)
 
--- a call, and the lines of its number, are after it
-own_call : (script : List (List ℕ)) (line : List ℕ) (raw_calls explanations : List (List ℕ))
-    → list_all (is_own (split_word line).0) raw_calls ≡ true → list_all (is_own (split_word line).0) explanations ≡ true
-    → (number : List ℕ) → AreOwn number (call_items script line raw_calls explanations)
-own_call script line raw_calls explanations raw why number =
-    let word = (split_word line).0 in
-    let behind = own_raw word raw_calls (map why_item explanations) raw (own_why word explanations why) in (
-      never,
-      (
-        never,
-        (
-          by_reply (λ k. (is_raw_kind k || is_why_kind k) ≡ true → mark_number (after_word line) ≡ word) never never line,
-          rw (by_reply (λ k. is_number_kind k ≡ false) refl refl line) behind,
-        ),
-      ),
-    )
-
 -- raw calls are after their own numbers
 own_other_calls : (lines : List (List ℕ)) (number : List ℕ) → AreOwn number (flat_map other_call_items lines)
 own_other_calls [] number = tt
 own_other_calls (line ∷ lines) number =
-    (never, (λ is. refl, rw (by_raw (λ k. is_number_kind k ≡ false) refl refl line) (own_other_calls lines (mark_number line))))
+    (never, (λ is. raw_number line, rw (by_raw (λ k. is_number_kind k ≡ false) refl refl refl line) (own_other_calls lines (mark_number line))))
 
 -- explanations are after their own numbers
 own_other_why : (lines : List (List ℕ)) (number : List ℕ) → AreOwn number (flat_map other_why_items lines)
@@ -156,21 +127,21 @@ own_other_why (line ∷ lines) number = (never, (λ is. refl, own_other_why line
 
 -- ---- lines without a reply
 
-other_answers : (lines : List (List ℕ)) → of_kinds is_answer_kind (flat_map other_call_items lines) ≡ []
-other_answers [] = refl
-other_answers (line ∷ lines) = rw (by_raw (λ k. is_answer_kind k ≡ false) refl refl line) (other_answers lines)
+other_story : (lines : List (List ℕ)) → of_kinds is_story_kind (flat_map other_call_items lines) ≡ []
+other_story [] = refl
+other_story (line ∷ lines) = rw (by_raw (λ k. is_story_kind k ≡ false) refl refl refl line) (other_story lines)
 
 other_raw : (lines : List (List ℕ)) → of_kinds is_raw_kind (flat_map other_call_items lines) ≡ map raw_item lines
 other_raw [] = refl
-other_raw (line ∷ lines) = rw (by_raw (λ k. is_raw_kind k ≡ true) refl refl line) (ap (λ l. raw_item line ∷ l) (other_raw lines))
+other_raw (line ∷ lines) = rw (by_raw (λ k. is_raw_kind k ≡ true) refl refl refl line) (ap (λ l. raw_item line ∷ l) (other_raw lines))
 
 other_none : (lines : List (List ℕ)) → of_kinds is_why_kind (flat_map other_call_items lines) ≡ []
 other_none [] = refl
-other_none (line ∷ lines) = rw (by_raw (λ k. is_why_kind k ≡ false) refl refl line) (other_none lines)
+other_none (line ∷ lines) = rw (by_raw (λ k. is_why_kind k ≡ false) refl refl refl line) (other_none lines)
 
-why_answers : (lines : List (List ℕ)) → of_kinds is_answer_kind (flat_map other_why_items lines) ≡ []
-why_answers [] = refl
-why_answers (line ∷ lines) = why_answers lines
+why_story : (lines : List (List ℕ)) → of_kinds is_story_kind (flat_map other_why_items lines) ≡ []
+why_story [] = refl
+why_story (line ∷ lines) = why_story lines
 
 why_raw : (lines : List (List ℕ)) → of_kinds is_raw_kind (flat_map other_why_items lines) ≡ []
 why_raw [] = refl
@@ -183,14 +154,14 @@ why_all (line ∷ lines) = ap (λ l. why_item line ∷ l) (why_all lines)
 calls_numbers : (lines : List (List ℕ)) → of_kinds is_other_kind (flat_map other_call_items lines) ≡ map other_item (map mark_number lines)
 calls_numbers [] = refl
 calls_numbers (line ∷ lines) =
-    rw (by_raw (λ k. is_other_kind k ≡ false) refl refl line) (ap (λ l. other_item (mark_number line) ∷ l) (calls_numbers lines))
+    rw (by_raw (λ k. is_other_kind k ≡ false) refl refl refl line) (ap (λ l. other_item (mark_number line) ∷ l) (calls_numbers lines))
 
 whys_numbers : (lines : List (List ℕ)) → of_kinds is_other_kind (flat_map other_why_items lines) ≡ map other_item (map mark_number lines)
 whys_numbers [] = refl
 whys_numbers (line ∷ lines) = ap (λ l. other_item (mark_number line) ∷ l) (whys_numbers lines)
 
 boot_number : (boot : List (List ℕ)) → of_kinds is_other_kind (boot_items boot) ≡ other_item (codes "0") ∷ []
-boot_number boot = ap (λ l. other_item (codes "0") ∷ l) (raw_none is_other_kind refl refl boot)
+boot_number boot = ap (λ l. other_item (codes "0") ∷ l) (raw_none is_other_kind refl refl refl boot)
 
 -- ---- what is added
 
@@ -199,47 +170,70 @@ joined : (test : Kind → Bool) (xs ys a b : List Item) → of_kinds test xs ≡
 joined test xs ys a b x y = of-append test xs ys ∙ ap₂ (λ (a b : List Item). a ++ b) x y
 
 -- nothing was added
-pub adds_none : (script : List (List ℕ)) (old : List Item) → AddsSession script [] [] [] [] old old
-adds_none script old =
+pub adds_none : (old : List Item) → AddsSession [] [] [] [] old old
+adds_none old =
     record {
       added = [];
       is_added = sym (append-nil old);
-      answers = refl;
+      story = refl;
       raw = refl;
       why = refl;
       own = λ number. tt;
       others = refl;
     }
 
--- a call was added
-pub adds_call : {script done raw why numbers : List (List ℕ)} {old mid new : List Item} (line : List ℕ) (raw_calls explanations : List (List ℕ))
-    → AddsSession script done raw why numbers old mid → new ≡ mid ++ call_items script line raw_calls explanations
-    → list_all (is_own (split_word line).0) raw_calls ≡ true → list_all (is_own (split_word line).0) explanations ≡ true
-    → AddsSession script (done ++ line ∷ []) (raw ++ raw_calls) (why ++ explanations) numbers old new
-adds_call {script} {done} {raw} {why} {numbers} {old} line raw_calls explanations h e own_calls own_explanations =
-    let call = call_items script line raw_calls explanations in
+-- a turn was added, with these raw calls and explanations
+pub adds_turn : {shown turn old mid new : List Item} {raw why numbers : List (List ℕ)} {word : List ℕ} (raw_calls explanations : List (List ℕ))
+    → IsStory word turn → AddsSession shown raw why numbers old mid → new ≡ mid ++ turn ++ kernel_items raw_calls explanations
+    → list_all (is_own word) raw_calls ≡ true → list_all (is_own word) explanations ≡ true
+    → AddsSession (shown ++ turn) (raw ++ raw_calls) (why ++ explanations) numbers old new
+adds_turn {shown} {turn} {old} {raw = raw} {why} {numbers} {word} raw_calls explanations is h e own_calls own_explanations =
+    let kernel = kernel_items raw_calls explanations in
+    let more = turn ++ kernel in
     record {
-      added = h.added ++ call;
-      is_added = e ∙ ap (λ l. l ++ call) h.is_added ∙ append_assoc old h.added call;
-      answers =
-          joined is_answer_kind h.added call _ _ h.answers (call_answers script line raw_calls explanations)
-          ∙ sym (flat_map-append (answer_items script) done (line ∷ []));
-      raw = joined is_raw_kind h.added call _ _ h.raw (call_raw script line raw_calls explanations) ∙ sym (map-append raw_item raw raw_calls);
-      why = joined is_why_kind h.added call _ _ h.why (call_why script line raw_calls explanations) ∙ sym (map-append why_item why explanations);
-      own = λ number. own-append number h.added call (h.own number) (own_call script line raw_calls explanations own_calls own_explanations);
-      others = joined is_other_kind h.added call _ _ h.others (call_others script line raw_calls explanations) ∙ append-nil (map other_item numbers);
+      added = h.added ++ more;
+      is_added = e ∙ append_assoc _ turn kernel ∙ ap (λ l. l ++ more) h.is_added ∙ append_assoc old h.added more;
+      story =
+          joined is_story_kind h.added more _ _ h.story (joined is_story_kind turn kernel _ _ is.story (behind_story raw_calls explanations))
+          ∙ ap (λ l. shown ++ l) (append-nil turn);
+      raw =
+          joined is_raw_kind h.added more _ _ h.raw (joined is_raw_kind turn kernel _ _ is.raw (behind_raw raw_calls explanations))
+          ∙ sym (map-append raw_item raw raw_calls);
+      why =
+          joined is_why_kind h.added more _ _ h.why (joined is_why_kind turn kernel _ _ is.why (behind_why raw_calls explanations))
+          ∙ sym (map-append why_item why explanations);
+      own =
+          λ number. own-append number h.added more (h.own number)
+          (λ n. is.own n kernel (own_raw word raw_calls (map why_item explanations) own_calls (own_why word explanations own_explanations)));
+      others =
+          joined is_other_kind h.added more _ _ h.others (joined is_other_kind turn kernel _ _ is.others (behind_others raw_calls explanations))
+          ∙ append-nil (map other_item numbers);
+    }
+
+-- comments were added
+pub adds_notes : {shown notes old mid new : List Item} {raw why numbers : List (List ℕ)} → IsPlain notes
+    → AddsSession shown raw why numbers old mid → new ≡ mid ++ notes → AddsSession (shown ++ notes) raw why numbers old new
+adds_notes {shown} {notes} {old} {raw = raw} {why} {numbers} is h e =
+    record {
+      added = h.added ++ notes;
+      is_added = e ∙ ap (λ l. l ++ notes) h.is_added ∙ append_assoc old h.added notes;
+      story = joined is_story_kind h.added notes _ _ h.story is.story;
+      raw = joined is_raw_kind h.added notes _ _ h.raw is.raw ∙ append-nil _;
+      why = joined is_why_kind h.added notes _ _ h.why is.why ∙ append-nil _;
+      own = λ number. own-append number h.added notes (h.own number) is.own;
+      others = joined is_other_kind h.added notes _ _ h.others is.others ∙ append-nil _;
     }
 
 -- raw calls without a reply were added
-pub adds_calls : {script done raw why numbers : List (List ℕ)} {old mid new : List Item} (raw_calls : List (List ℕ))
-    → AddsSession script done raw why numbers old mid → new ≡ mid ++ flat_map other_call_items raw_calls
-    → AddsSession script done (raw ++ raw_calls) why (numbers ++ map mark_number raw_calls) old new
-adds_calls {script} {done} {raw} {why} {numbers} {old} raw_calls h e =
+pub adds_calls : {shown old mid new : List Item} {raw why numbers : List (List ℕ)} (raw_calls : List (List ℕ))
+    → AddsSession shown raw why numbers old mid → new ≡ mid ++ flat_map other_call_items raw_calls
+    → AddsSession shown (raw ++ raw_calls) why (numbers ++ map mark_number raw_calls) old new
+adds_calls {shown} {old} {raw = raw} {why} {numbers} raw_calls h e =
     let others = flat_map other_call_items raw_calls in
     record {
       added = h.added ++ others;
       is_added = e ∙ ap (λ l. l ++ others) h.is_added ∙ append_assoc old h.added others;
-      answers = joined is_answer_kind h.added others _ _ h.answers (other_answers raw_calls) ∙ append-nil _;
+      story = joined is_story_kind h.added others _ _ h.story (other_story raw_calls) ∙ append-nil _;
       raw = joined is_raw_kind h.added others _ _ h.raw (other_raw raw_calls) ∙ sym (map-append raw_item raw raw_calls);
       why = joined is_why_kind h.added others _ _ h.why (other_none raw_calls) ∙ append-nil _;
       own = λ number. own-append number h.added others (h.own number) (own_other_calls raw_calls);
@@ -249,15 +243,15 @@ adds_calls {script} {done} {raw} {why} {numbers} {old} raw_calls h e =
     }
 
 -- explanations without a reply were added
-pub adds_whys : {script done raw why numbers : List (List ℕ)} {old mid new : List Item} (explanations : List (List ℕ))
-    → AddsSession script done raw why numbers old mid → new ≡ mid ++ flat_map other_why_items explanations
-    → AddsSession script done raw (why ++ explanations) (numbers ++ map mark_number explanations) old new
-adds_whys {script} {done} {raw} {why} {numbers} {old} explanations h e =
+pub adds_whys : {shown old mid new : List Item} {raw why numbers : List (List ℕ)} (explanations : List (List ℕ))
+    → AddsSession shown raw why numbers old mid → new ≡ mid ++ flat_map other_why_items explanations
+    → AddsSession shown raw (why ++ explanations) (numbers ++ map mark_number explanations) old new
+adds_whys {shown} {old} {raw = raw} {why} {numbers} explanations h e =
     let others = flat_map other_why_items explanations in
     record {
       added = h.added ++ others;
       is_added = e ∙ ap (λ l. l ++ others) h.is_added ∙ append_assoc old h.added others;
-      answers = joined is_answer_kind h.added others _ _ h.answers (why_answers explanations) ∙ append-nil _;
+      story = joined is_story_kind h.added others _ _ h.story (why_story explanations) ∙ append-nil _;
       raw = joined is_raw_kind h.added others _ _ h.raw (why_raw explanations) ∙ append-nil _;
       why = joined is_why_kind h.added others _ _ h.why (why_all explanations) ∙ sym (map-append why_item why explanations);
       own = λ number. own-append number h.added others (h.own number) (own_other_why explanations);
@@ -267,20 +261,20 @@ adds_whys {script} {done} {raw} {why} {numbers} {old} explanations h e =
     }
 
 -- what was added after the raw calls of boot
-pub adds_boot : {script done raw why numbers : List (List ℕ)} {old mid new : List Item} (boot : List (List ℕ))
-    → mid ≡ old ++ boot_items boot → list_all (is_own (codes "0")) boot ≡ true → AddsSession script done raw why numbers mid new
-    → AddsSession script done (boot ++ raw) why (codes "0" ∷ numbers) old new
-adds_boot {script} {done} {raw} {why} {numbers} {old} boot e is_boot h =
+pub adds_boot : {shown old mid new : List Item} {raw why numbers : List (List ℕ)} (boot : List (List ℕ))
+    → mid ≡ old ++ boot_items boot → list_all (is_own (codes "0")) boot ≡ true → AddsSession shown raw why numbers mid new
+    → AddsSession shown (boot ++ raw) why (codes "0" ∷ numbers) old new
+adds_boot {shown} {old} {raw = raw} {why} {numbers} boot e is_boot h =
     let items = boot_items boot in
     record {
       added = items ++ h.added;
       is_added = h.is_added ∙ ap (λ l. l ++ h.added) e ∙ append_assoc old items h.added;
-      answers = joined is_answer_kind items h.added _ _ (raw_none is_answer_kind refl refl boot) h.answers;
+      story = joined is_story_kind items h.added _ _ (raw_none is_story_kind refl refl refl boot) h.story;
       raw =
           joined is_raw_kind items h.added _ _
-          (of_all is_raw_kind raw_item (by_raw (λ k. is_raw_kind k ≡ true) refl refl) boot) h.raw
+          (of_all is_raw_kind raw_item (by_raw (λ k. is_raw_kind k ≡ true) refl refl refl) boot) h.raw
           ∙ sym (map-append raw_item boot raw);
-      why = joined is_why_kind items h.added _ _ (raw_none is_why_kind refl refl boot) h.why;
+      why = joined is_why_kind items h.added _ _ (raw_none is_why_kind refl refl refl boot) h.why;
       own = λ number. own-append number items h.added
           (never, subst_nil (codes "0") boot is_boot) h.own;
       others = joined is_other_kind items h.added _ _ (boot_number boot) h.others;
@@ -290,18 +284,20 @@ adds_boot {script} {done} {raw} {why} {numbers} {old} boot e is_boot h =
     subst_nil number lines is = let P : List Item → Type 0 = AreOwn number in rw (← append-nil (map raw_item lines)) (own_raw number lines [] is tt)
 
 -- the same was added for equal lists
-pub adds_as : {script done raw why numbers all raws whys others : List (List ℕ)} {old new : List Item} → all ≡ done → raws ≡ raw → whys ≡ why
-    → others ≡ numbers → AddsSession script done raw why numbers old new → AddsSession script all raws whys others old new
+pub adds_as : {shown all old new : List Item} {raw why numbers raws whys others : List (List ℕ)} → all ≡ shown → raws ≡ raw → whys ≡ why
+    → others ≡ numbers → AddsSession shown raw why numbers old new → AddsSession all raws whys others old new
 adds_as is_all are_raws are_whys are_others h = rw (is_all, are_raws, are_whys, are_others) h
 
 -- a session that was added to an empty list
-pub session_is : {script replies raw why lines output : List (List ℕ)} {old new : List Item}
-    → script ≡ lines → replies ≡ filter is_reply output → raw ≡ filter is_raw_call output → why ≡ filter is_explanation output → old ≡ []
-    → AddsSession script replies raw why (session_numbers replies raw why) old new → IsSession lines output new
-session_is is_script are_replies are_raw are_why is_empty h =
+pub session_is : {script replies reasons raw why lines output : List (List ℕ)} {old new : List Item}
+    → script ≡ lines → replies ≡ filter is_reply output → reasons ≡ filter is_reason output → raw ≡ filter is_raw_call output
+    → why ≡ filter is_explanation output → old ≡ []
+    → AddsSession (story_from script [] replies reasons) raw why (session_numbers replies raw why) old new → IsSession lines output new
+session_is is_script are_replies are_reasons are_raw are_why is_empty h =
     let all = h.is_added ∙ ap (λ l. l ++ h.added) is_empty in
     record {
-      answers = ap (of_kinds is_answer_kind) all ∙ h.answers ∙ ap₂ (λ (s r : List (List ℕ)). flat_map (answer_items s) r) is_script are_replies;
+      story =
+          ap (of_kinds is_story_kind) all ∙ h.story ∙ (λ i. story_from (is_script i) [] (are_replies i) (are_reasons i));
       raw_calls = ap (of_kinds is_raw_kind) all ∙ h.raw ∙ ap (map raw_item) are_raw;
       explanations = ap (of_kinds is_why_kind) all ∙ h.why ∙ ap (map why_item) are_why;
       own = let P : List Item → Type 0 = AreOwn [] in subst P (sym all) (h.own []);

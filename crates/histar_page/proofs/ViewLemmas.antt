@@ -3,10 +3,13 @@ use Rattle.std.proofs.Common.{◌≡◌, ◌<◌, ℕ, List, [], ◌∷◌, ◌+
 use Rattle.std.specs.Borrow.{Bor}
 use Rattle.std.specs.List.{flat_map}
 use Rattle.histar_page.specs.declared.views.View.{View}
-use Rattle.histar_page.specs.declared.views.View.TheVariants.{RawCalls, Explanations, OtherCalls, OtherExplanations, Users, Stats, Members}
+use Rattle.histar_page.specs.declared.views.View.TheVariants.{RawCalls, Explanations, Reasons, GroupMembers, OtherCalls, OtherExplanations}
+use Rattle.histar_page.specs.declared.views.View.TheVariants.{Users, Stats, Members}
 use Rattle.histar_page.specs.Texts.{texts}
 use Rattle.histar_page.specs.Items.{Item}
 use Rattle.histar_page.specs.Session.{raw_item, why_item}
+use Rattle.histar_page.specs.Story.{reason_item}
+use Rattle.histar_page.specs.Who.{group_member_item}
 use Rattle.histar_page.specs.Files.{stat_item, user_item}
 use Rattle.histar_page.specs.Secrets.{member_item}
 use Rattle.histar_page.specs.Views.{view_items, views}
@@ -20,6 +23,8 @@ one_each f (line ∷ lines) = ap (λ items. f line ∷ items) (one_each f lines)
 pub views_are : (view : View) (lines : List (List ℕ)) → flat_map (view_items view) lines ≡ views view lines
 views_are RawCalls lines = one_each raw_item lines
 views_are Explanations lines = one_each why_item lines
+views_are Reasons lines = one_each reason_item lines
+views_are GroupMembers lines = one_each group_member_item lines
 views_are OtherCalls lines = refl
 views_are OtherExplanations lines = refl
 views_are Users lines = one_each user_item lines

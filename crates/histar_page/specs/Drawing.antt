@@ -10,9 +10,8 @@ use Rattle.histar_page.specs.declared.kind.Kind.TheVariants.{DrawnHeight, Proces
 use Rattle.histar_page.specs.declared.kind.Kind.TheVariants.{EdgeFile, ProcessNode, FileNode, NodeName}
 use Rattle.histar_page.specs.declared.places.TheConstants.{MOST_DRAWN_FILES, MOST_DRAWN_PROCESSES}
 use Rattle.histar_page.specs.Items.{Item}
-use Rattle.histar_page.specs.Lines.{after_word, is_reply, words_of}
+use Rattle.histar_page.specs.Lines.{after_word, call_on, is_reply, words_of}
 use Rattle.histar_page.specs.Places.{drawn_height, file_top, half_height, process_top}
-use Rattle.histar_page.specs.Session.{call_on}
 
 -- ---- the rows of the table
 

@@ -1,8 +1,19 @@
 -- The head of a page.
-use Rattle.std.specs.Prelude.{ℕ, List, [], ◌∷◌, ◌++◌, decimal, filter, length}
-use Rattle.histar_page.specs.declared.kind.Kind.TheVariants.{Title, FileName, Calls, Refusals, Denials, Version}
+use Rattle.std.specs.Prelude.{ℕ, Bool, List, [], ◌∷◌, ◌++◌, ◌&&◌, codes, decimal, filter, length, if◌then◌else◌}
+use Rattle.std.specs.Str.{bytes_eq}
+use Rattle.histar_script.specs.Lines.{split_word}
+use Rattle.histar_page.specs.declared.kind.Kind.TheVariants.{Title, MainTitle, FileName, Calls, Refusals, Denials, Version}
 use Rattle.histar_page.specs.Items.{Item}
-use Rattle.histar_page.specs.Lines.{is_denied, is_raw_call, is_refused, is_reply}
+use Rattle.histar_page.specs.Lines.{after_word, is_denied, is_raw_call, is_refused, is_reply}
+
+-- a line of a script is a comment that is a heading
+abbrev pub is_heading : List ℕ → Bool
+is_heading line = bytes_eq (split_word line).0 (codes "#") && bytes_eq (split_word (after_word line)).0 (codes "#")
+
+-- the title of a session: the first heading of its script, or the name of its file
+abbrev pub title_of : List ℕ → List (List ℕ) → List ℕ
+title_of name [] = name
+title_of name (line ∷ lines) = if is_heading line then after_word (after_word line) else title_of name lines
 
 -- how many calls were answered, how many of them refused, and how many raw calls denied
 abbrev pub count_items : List (List ℕ) → List Item
@@ -13,6 +24,7 @@ count_items output =
     ∷ (Denials, decimal (length (filter is_denied (filter is_raw_call output))))
     ∷ []
 
--- the name, twice; what was counted; and the version
-abbrev pub head_items : List ℕ → List ℕ → List (List ℕ) → List Item
-head_items name version output = (Title, name) ∷ (FileName, name) ∷ count_items output ++ (Version, version) ∷ []
+-- the title, twice; the name; what was counted; and the version
+abbrev pub head_items : List ℕ → List ℕ → List ℕ → List (List ℕ) → List Item
+head_items title name version output =
+    (Title, title) ∷ (MainTitle, title) ∷ (FileName, name) ∷ count_items output ++ (Version, version) ∷ []

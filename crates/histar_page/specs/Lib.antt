@@ -6,6 +6,8 @@ pub mod Lines
 pub mod LineKinds
 pub mod Order
 pub mod Head
+pub mod Who
+pub mod Story
 pub mod Session
 pub mod Files
 pub mod Secrets

@@ -1,5 +1,5 @@
 -- The lines of a run's output, by what they begin with.
-use Rattle.std.specs.Prelude.{ℕ, Bool, true, false, not, List, [], ◌∷◌, ◌==◌, codes, nat_eq, nat_le, Option, is_some, unwrap_or, if◌then◌else◌}
+use Rattle.std.specs.Prelude.{ℕ, ◌-◌, None, Some, slice_index_or, Bool, true, false, not, List, [], ◌∷◌, ◌==◌, codes, nat_eq, nat_le, Option, is_some, unwrap_or, if◌then◌else◌}
 use Rattle.std.specs.Str.{bytes_eq}
 use Rattle.std.specs.List.{ends_with}
 use Rattle.histar_flat.specs.Words.{number_of}
@@ -8,6 +8,10 @@ use Rattle.histar_script.specs.Lines.{most_script_lines, onto_line, split_word}
 -- the number that a line begins with, if it is that of a line of a script
 abbrev pub front_number : List ℕ → Option ℕ
 front_number line = number_of (λ n. nat_le n most_script_lines) (split_word line).0
+
+-- the line of a script that a reply answers
+abbrev pub call_on : List (List ℕ) → List ℕ → List ℕ
+call_on script line = elim (front_number line) [ None ↦ [] | Some n ↦ slice_index_or script (n - 1) [] ]
 
 -- a reply begins with the number of its call's line
 abbrev pub is_reply : List ℕ → Bool
@@ -30,7 +34,11 @@ is_raw_call line = has_mark 64 line
 abbrev pub is_explanation : List ℕ → Bool
 is_explanation line = has_mark 63 line
 
--- the word after a mark: the number of the line that a raw call or an explanation belongs to
+-- a reason of a refusal begins with `!`
+abbrev pub is_reason : List ℕ → Bool
+is_reason line = has_mark 33 line
+
+-- the word after a mark: the number of the line that a raw call, an explanation or a reason belongs to
 abbrev pub mark_number : List ℕ → List ℕ
 mark_number [] = []
 mark_number (b ∷ bs) = (split_word bs).0

@@ -21,6 +21,11 @@ pub record FollowsReplies (output : List (List ℕ)) : Type 0 where
 
 -- ---- what is left
 
+-- the lines at the front that have this number
+abbrev pub taken_own : List ℕ → List (List ℕ) → List (List ℕ)
+taken_own number [] = []
+taken_own number (line ∷ lines) = if is_own number line then line ∷ taken_own number lines else []
+
 -- lines without those at the front that have this number
 abbrev pub past_own : List ℕ → List (List ℕ) → List (List ℕ)
 past_own number [] = []

@@ -5,7 +5,8 @@ use Rattle.histar_page.specs.declared.piece.Piece.{Piece}
 use Rattle.histar_page.specs.declared.page.Texts.{Texts}
 use Rattle.histar_page.specs.Items.{Item, items_of}
 use Rattle.histar_page.specs.Rendering.{rendered}
-use Rattle.histar_page.specs.Head.{head_items}
+use Rattle.histar_page.specs.Head.{head_items, title_of}
+use Rattle.histar_page.specs.Who.{who_items}
 use Rattle.histar_page.specs.Session.{IsSession}
 use Rattle.histar_page.specs.Files.{files_items, runners_of}
 use Rattle.histar_page.specs.Secrets.{secrets_items}
@@ -37,10 +38,16 @@ rights_shown sources =
     files_shown sources ++ secrets_items (lines_of sources.secrets) ++ flows_items (lines_of sources.flows)
     ++ drawing_items (lines_of sources.script) (lines_of sources.output) (lines_of sources.table)
 
--- What a page shows: its head, the session, the files, the secrets, the flows and the drawing.
+-- the head, with the title of the script, and then its users and groups
+abbrev pub head_shown : Sources → List Item
+head_shown sources =
+    head_items (title_of sources.name (lines_of sources.script)) sources.name sources.version (lines_of sources.output)
+    ++ who_items (lines_of sources.script)
+
+-- What a page shows: its head, the users and groups, the session, the files, the secrets, the flows and the drawing.
 pub record IsReport (sources : Sources) (items : List Item) : Type 0 where
   pub session : List Item
-  pub parts : items ≡ head_items sources.name sources.version (lines_of sources.output) ++ session ++ rights_shown sources
+  pub parts : items ≡ head_shown sources ++ session ++ rights_shown sources
   pub is_session : IsSession (lines_of sources.script) (lines_of sources.output) session
 
 -- The page is written of pieces that show the session. All else in it is fixed text of the program.

@@ -4,13 +4,15 @@ use Rattle.std.specs.List.{flat_map}
 use Rattle.histar_html.specs.Escape.{escaped}
 use Rattle.histar_page.specs.declared.markup.TheConstants.{STYLE}
 use Rattle.histar_page.specs.declared.kind.Kind.{Kind}
-use Rattle.histar_page.specs.declared.kind.Kind.TheVariants.{Title, FileName, Calls, Refusals, Denials, Version, LineNumber, OtherLine, Call, Reply}
+use Rattle.histar_page.specs.declared.kind.Kind.TheVariants.{Title, MainTitle, FileName, Calls, Refusals, Denials, Version, LineNumber, OtherLine, Call, Reply}
 use Rattle.histar_page.specs.declared.kind.Kind.TheVariants.{Refusal, RawCall, DeniedCall, Explanation, ColumnUser, Column, JobColumn, Path, Stat}
 use Rattle.histar_page.specs.declared.kind.Kind.TheVariants.{Process, JobProcess, Granted, Withheld, Secret, Trusted, Confined, LoginReader}
 use Rattle.histar_page.specs.declared.kind.Kind.TheVariants.{DrawnHeight, ProcessBand, FileBand, ReadEdge, WriteEdge, BothEdge, EdgeEnd, EdgeProcess}
+use Rattle.histar_page.specs.declared.kind.Kind.TheVariants.{LoginBy, LoginAs, Reason, Prose, Heading, Mark, ClaimMet, ClaimMissed}
+use Rattle.histar_page.specs.declared.kind.Kind.TheVariants.{HiddenBytes, UserName, GroupName, MemberName}
 use Rattle.histar_page.specs.declared.kind.Kind.TheVariants.{EdgeFile, ProcessNode, FileNode, NodeName, Flow}
 use Rattle.histar_page.specs.declared.markup.Markup.{Markup}
-use Rattle.histar_page.specs.declared.markup.Markup.TheVariants.{Begin, Style, BeginCounts, EndHead, BeginSession, BeginBoot, BeginOther, BeginCall}
+use Rattle.histar_page.specs.declared.markup.Markup.TheVariants.{Begin, Style, EndHead, BeginWho, EndWho, BeginSession, BeginBoot, BeginOther, BeginCall}
 use Rattle.histar_page.specs.declared.markup.Markup.TheVariants.{BeginBehind, EndCall, BeginBare, EndBare, EndSession, BeginFiles, EndUsers}
 use Rattle.histar_page.specs.declared.markup.Markup.TheVariants.{EndColumns, BeginRow, EndCell, EndRow, EndFiles, BeginSecrets, NoSecrets, OnSecrets}
 use Rattle.histar_page.specs.declared.markup.Markup.TheVariants.{BeginSecret, EndSecret, EndSecrets, BeginLabels, NotDrawn, BeginDrawing, Arrows}
@@ -21,7 +23,8 @@ use Rattle.histar_page.specs.declared.piece.Piece.TheVariants.{Fixed, Shown, Cou
 -- the markup before a text of a kind
 abbrev pub opening : Kind → List ℕ
 opening Title = codes "<title>"
-opening FileName = codes "<h1>"
+opening MainTitle = codes "<h1>"
+opening FileName = codes "<p>\n<span>file: <b>"
 opening Calls = codes "<span>calls: <b>"
 opening Refusals = codes "<span>refusals: <b>"
 opening Denials = codes "<span>denied raw calls: <b>"
@@ -29,11 +32,23 @@ opening Version = codes "<span>histar <b>"
 opening LineNumber = codes "<span class=\"number\">"
 opening OtherLine = codes "<b>"
 opening Call = codes "<code class=\"call\">"
+opening LoginBy = codes "<code class=\"call\">"
+opening LoginAs = codes " login "
 opening Reply = codes "<code class=\"reply\">"
 opening Refusal = codes "<code class=\"refusal\">"
+opening Reason = codes "<span class=\"reason\">"
+opening Prose = codes "<p class=\"prose\">"
+opening Heading = codes "<h3>"
+opening Mark = codes "<p class=\"mark\"><code>"
+opening ClaimMet = codes "<p class=\"met\">expected <code>"
+opening ClaimMissed = codes "<p class=\"missed\">expected <code>"
 opening RawCall = codes "<code class=\"raw\">"
+opening HiddenBytes = codes "<code class=\"raw\">"
 opening DeniedCall = codes "<code class=\"raw denied\">"
 opening Explanation = codes "<code class=\"why\">"
+opening UserName = codes "<span class=\"user\">user <b>"
+opening GroupName = codes "<span class=\"group\">group <b>"
+opening MemberName = codes "<span class=\"member\">with <b>"
 opening ColumnUser = codes "<th scope=\"col\">"
 opening Column = codes "<th scope=\"col\">"
 opening JobColumn = codes "<th scope=\"col\" class=\"job\">"
@@ -64,7 +79,8 @@ opening NodeName = codes "<text x=\"8\" y=\"18\">"
 -- the markup after a text of a kind
 abbrev pub closing : Kind → List ℕ
 closing Title = codes "</title>\n"
-closing FileName = codes "</h1>\n"
+closing MainTitle = codes "</h1>\n"
+closing FileName = codes "</b></span>\n"
 closing Calls = codes "</b></span>\n"
 closing Refusals = codes "</b></span>\n"
 closing Denials = codes "</b></span>\n"
@@ -72,11 +88,23 @@ closing Version = codes "</b></span>\n"
 closing LineNumber = codes "</span>\n"
 closing OtherLine = codes "</b>"
 closing Call = codes "</code>\n"
+closing LoginBy = codes ""
+closing LoginAs = codes " &bull;&bull;&bull;&bull;</code>\n"
 closing Reply = codes "</code>\n"
 closing Refusal = codes "</code>\n"
+closing Reason = codes "</span>\n"
+closing Prose = codes "</p>\n"
+closing Heading = codes "</h3>\n"
+closing Mark = codes "</code></p>\n"
+closing ClaimMet = codes "</code></p>\n"
+closing ClaimMissed = codes "</code></p>\n"
 closing RawCall = codes "</code>\n"
+closing HiddenBytes = codes "x&bull;&bull;&bull;&bull; = ok</code>\n"
 closing DeniedCall = codes "</code>\n"
 closing Explanation = codes "</code>\n"
+closing UserName = codes "</b></span>\n"
+closing GroupName = codes "</b></span>\n"
+closing MemberName = codes "</b></span>\n"
 closing ColumnUser = codes "</th>"
 closing Column = codes "</th>"
 closing JobColumn = codes "</th>"
@@ -108,8 +136,9 @@ closing NodeName = codes "</text></g>\n"
 abbrev pub markup_text : Markup → List ℕ
 markup_text Begin = codes "<!DOCTYPE html>\n<html lang=\"en\">\n<head>\n<meta charset=\"utf-8\">\n<meta name=\"viewport\" content=\"width=device-width, initial-scale=1\">\n"
 markup_text Style = STYLE.now
-markup_text BeginCounts = codes "<p>\n"
-markup_text EndHead = codes "</p>\n<nav><a href=\"#session\">Session</a> <a href=\"#files\">Files</a> <a href=\"#secrets\">Secrets</a> <a href=\"#flows\">Flows</a> <a href=\"#labels\">Labels</a></nav>\n</header>\n<main>\n"
+markup_text EndHead = codes "</p>\n<nav><a href=\"#who\">Who</a> <a href=\"#session\">Session</a> <a href=\"#files\">Files</a> <a href=\"#secrets\">Secrets</a> <a href=\"#flows\">Flows</a> <a href=\"#labels\">Labels</a></nav>\n</header>\n<main>\n"
+markup_text BeginWho = codes "<section id=\"who\">\n<h2>Who</h2>\n<p class=\"who\">\n"
+markup_text EndWho = codes "</p>\n</section>\n"
 markup_text BeginSession = codes "<section id=\"session\">\n<h2>Session</h2>\n"
 markup_text BeginBoot = codes "<details class=\"other\">\n<summary>Boot, line "
 markup_text BeginOther = codes "<details class=\"other\">\n<summary>Raw calls of line "

@@ -4,24 +4,27 @@ ghost use Rattle.histar_script.specs.Lines.{lines_of};
 ghost use Rattle.histar_page.specs.Texts.{texts};
 ghost use Rattle.histar_page.specs.Items.{items_of};
 ghost use Rattle.histar_page.specs.Lines.{is_denied, is_refused};
-ghost use Rattle.histar_page.specs.Head.{head_items};
+ghost use Rattle.histar_page.specs.Head.{head_items, is_heading, title_of};
 
 use crate::kind::Kind;
 use crate::lines::{LineKind, after_word, among, is_denied, lines_in};
 use crate::markup::Markup;
 use crate::piece::Piece;
+use crate::story::COMMENT;
+use histar_script::split_word;
 use std::alloc::{AllocError, Global};
 
-/// Returns the pieces of the head of a page: the name of the script's file, as the title and as a heading, the
-/// numbers of calls, of refusals and of denials in the output, and the version.
+/// Returns the pieces of the head of a page: the title, the name of the script's file, the numbers of calls, of
+/// refusals and of denials in the output, and the version.
 pub(crate) fn head_pieces<'a>(
     alloc: Global,
+    title: &'a [u8],
     name: &'a [u8],
     version: &'a [u8],
     output: &'a [u8],
 ) -> Result<Vec<Piece<'a>>, AllocError>
     ensures { IfOk result (λ pieces. items_of pieces.items
-        ≡ head_items name.entry.now version.entry.now (lines_of output.entry.now)) }
+        ≡ head_items title.entry.now name.entry.now version.entry.now (lines_of output.entry.now)) }
 {
     let lines = lines_in(alloc, output)?;
     let replies = among(alloc, LineKind::Reply, lines.as_slice())?;
@@ -30,10 +33,10 @@ pub(crate) fn head_pieces<'a>(
         alloc,
         &[
             Piece::Fixed(Markup::Begin),
-            Piece::Shown(Kind::Title, name),
+            Piece::Shown(Kind::Title, title),
             Piece::Fixed(Markup::Style),
+            Piece::Shown(Kind::MainTitle, title),
             Piece::Shown(Kind::FileName, name),
-            Piece::Fixed(Markup::BeginCounts),
             Piece::Counted(Kind::Calls, replies.len() as u64),
             Piece::Counted(Kind::Refusals, refusals(replies.as_slice())),
             Piece::Counted(Kind::Denials, denials(raw_calls.as_slice())),
@@ -41,6 +44,40 @@ pub(crate) fn head_pieces<'a>(
             Piece::Fixed(Markup::EndHead),
         ],
     )
+}
+
+/// Returns the title of a session: the first heading of its script, or the name of its file.
+pub(crate) fn title_of<'a>(
+    alloc: Global,
+    name: &'a [u8],
+    script: &'a [u8],
+) -> Result<&'a [u8], AllocError>
+    ensures { IfOk result (λ title.
+        title.now ≡ title_of name.entry.now (lines_of script.entry.now)) }
+{
+    let lines = lines_in(alloc, script)?;
+    Ok(title_among(name, lines.as_slice()))
+}
+
+/// Returns the first heading of these lines, or the name.
+fn title_among<'a>(name: &'a [u8], lines: &[&'a [u8]]) -> &'a [u8]
+    ensures { result.now ≡ title_of name.entry.now (texts lines.now) }
+{
+    let mut rest = lines;
+    'lines: while let [line, more @ ..] = rest {
+        if is_heading(line) {
+            return after_word(after_word(line));
+        }
+        rest = more;
+    }
+    name
+}
+
+/// Checks whether a line of a script is a comment that is a heading.
+fn is_heading(line: &[u8]) -> bool
+    ensures { result ≡ is_heading line.now }
+{
+    split_word(line).0 == COMMENT && split_word(after_word(line)).0 == COMMENT
 }
 
 /// Checks whether a reply is a refusal: it is neither `ok`, with or without more, nor bytes that were read.

@@ -8,7 +8,7 @@ ghost use Rattle.histar_page.specs.Drawing.{has_letter, is_in_a_job, is_within, 
 
 use crate::files::COLON;
 use crate::lines::{LineKind, after_word, among, lines_in, or_nothing, words_in};
-use crate::session::call_on;
+use crate::story::call_on;
 use histar_flat::split_at_first;
 use std::alloc::{AllocError, Global};
 

@@ -6,6 +6,8 @@ ghost use Rattle.histar_page.specs.Rendering.{closing, opening};
 #[derive(Clone, Copy)]
 pub enum Kind {
     Title,
+    /// The title, at the head of the page.
+    MainTitle,
     FileName,
     Calls,
     Refusals,
@@ -15,11 +17,35 @@ pub enum Kind {
     /// The number of a line without a reply, such as that of boot.
     OtherLine,
     Call,
+    /// The process of a call of `login`.
+    LoginBy,
+    /// The user of a call of `login`, whose password is hidden.
+    LoginAs,
     Reply,
     Refusal,
+    /// Why a call was refused, by the rules.
+    Reason,
+    /// A comment of the script.
+    Prose,
+    /// A comment that is a heading.
+    Heading,
+    /// A comment that is neither: a claim on rights, for example.
+    Mark,
+    /// An expected reply that was given.
+    ClaimMet,
+    /// An expected reply that was not given.
+    ClaimMissed,
     RawCall,
     DeniedCall,
+    /// A raw call of boot, up to its bytes, which are hidden.
+    HiddenBytes,
     Explanation,
+    /// A user of the script.
+    UserName,
+    /// A group of the script.
+    GroupName,
+    /// A member of the group before it.
+    MemberName,
     /// The user of the process of a column, above it.
     ColumnUser,
     /// A process at the head of a column.
@@ -77,19 +103,30 @@ impl Kind {
     {
         match self {
             Kind::Title => b"<title>",
-            Kind::FileName => b"<h1>",
+            Kind::MainTitle => b"<h1>",
+            Kind::FileName => b"<p>\n<span>file: <b>",
             Kind::Calls => b"<span>calls: <b>",
             Kind::Refusals => b"<span>refusals: <b>",
             Kind::Denials => b"<span>denied raw calls: <b>",
             Kind::Version => b"<span>histar <b>",
             Kind::LineNumber => b"<span class=\"number\">",
             Kind::OtherLine | Kind::Granted => b"<b>",
-            Kind::Call => b"<code class=\"call\">",
+            Kind::Call | Kind::LoginBy => b"<code class=\"call\">",
+            Kind::LoginAs => b" login ",
             Kind::Reply => b"<code class=\"reply\">",
             Kind::Refusal => b"<code class=\"refusal\">",
-            Kind::RawCall => b"<code class=\"raw\">",
+            Kind::Reason => b"<span class=\"reason\">",
+            Kind::Prose => b"<p class=\"prose\">",
+            Kind::Heading => b"<h3>",
+            Kind::Mark => b"<p class=\"mark\"><code>",
+            Kind::ClaimMet => b"<p class=\"met\">expected <code>",
+            Kind::ClaimMissed => b"<p class=\"missed\">expected <code>",
+            Kind::RawCall | Kind::HiddenBytes => b"<code class=\"raw\">",
             Kind::DeniedCall => b"<code class=\"raw denied\">",
             Kind::Explanation => b"<code class=\"why\">",
+            Kind::UserName => b"<span class=\"user\">user <b>",
+            Kind::GroupName => b"<span class=\"group\">group <b>",
+            Kind::MemberName => b"<span class=\"member\">with <b>",
             Kind::ColumnUser | Kind::Column => b"<th scope=\"col\">",
             Kind::JobColumn => b"<th scope=\"col\" class=\"job\">",
             Kind::Path => b"<th scope=\"row\">",
@@ -126,15 +163,25 @@ impl Kind {
     {
         match self {
             Kind::Title => b"</title>\n",
-            Kind::FileName => b"</h1>\n",
-            Kind::Calls
+            Kind::MainTitle => b"</h1>\n",
+            Kind::FileName
+            | Kind::Calls
             | Kind::Refusals
             | Kind::Denials
             | Kind::Version
             | Kind::Trusted
             | Kind::Confined
-            | Kind::LoginReader => b"</b></span>\n",
-            Kind::LineNumber => b"</span>\n",
+            | Kind::LoginReader
+            | Kind::UserName
+            | Kind::GroupName
+            | Kind::MemberName => b"</b></span>\n",
+            Kind::LineNumber | Kind::Reason => b"</span>\n",
+            Kind::LoginBy => b"",
+            Kind::LoginAs => b" &bull;&bull;&bull;&bull;</code>\n",
+            Kind::Prose => b"</p>\n",
+            Kind::Heading => b"</h3>\n",
+            Kind::Mark | Kind::ClaimMet | Kind::ClaimMissed | Kind::Flow => b"</code></p>\n",
+            Kind::HiddenBytes => b"x&bull;&bull;&bull;&bull; = ok</code>\n",
             Kind::OtherLine | Kind::Granted => b"</b>",
             Kind::Call
             | Kind::Reply
@@ -147,7 +194,6 @@ impl Kind {
             Kind::Stat => b"</td>",
             Kind::Process | Kind::JobProcess => b"</small>",
             Kind::Withheld => b"</i>",
-            Kind::Flow => b"</code></p>\n",
             Kind::DrawnHeight => b"\" role=\"img\" aria-label=\"Processes and files\">\n",
             Kind::ProcessBand | Kind::FileBand => b")\"></rect>\n",
             Kind::ReadEdge | Kind::WriteEdge | Kind::BothEdge => b"\" y2=\"",

@@ -19,7 +19,9 @@ mod piece;
 mod places;
 mod secrets;
 mod session;
+mod story;
 mod views;
+mod who;
 
 pub use kind::Kind;
 pub use markup::Markup;

@@ -17,6 +17,9 @@ const MOST_SCRIPT_LINES: u64 = 16_384;
 /// The mark of a raw call in the output of a run.
 const RAW_MARK: u8 = b'@';
 
+/// The mark of a reason in the output of a run.
+const REASON_MARK: u8 = b'!';
+
 /// The mark of an explanation in the output of a run.
 const WHY_MARK: u8 = b'?';
 
@@ -26,6 +29,7 @@ pub(crate) enum LineKind {
     Reply,
     RawCall,
     Explanation,
+    Reason,
 }
 
 /// Returns the lines of a text, without their line ends.
@@ -58,7 +62,7 @@ fn is_reply(line: &[u8]) -> bool
 }
 
 /// Checks whether a line begins with a mark.
-fn has_mark(mark: u8, line: &[u8]) -> bool
+pub(crate) fn has_mark(mark: u8, line: &[u8]) -> bool
     ensures { result ≡ has_mark mark line.now }
 {
     match line {
@@ -85,6 +89,7 @@ fn is_of(kind: LineKind, line: &[u8]) -> bool
         LineKind::Reply => is_reply(line),
         LineKind::RawCall => has_mark(RAW_MARK, line),
         LineKind::Explanation => has_mark(WHY_MARK, line),
+        LineKind::Reason => has_mark(REASON_MARK, line),
     }
 }
 

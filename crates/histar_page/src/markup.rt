@@ -29,7 +29,16 @@ details[open] > summary::before { content: '-' }
 .other > summary::before { margin-right: .6rem }
 .number { color: var(--dim); text-align: right; font-variant-numeric: tabular-nums }
 .reply { color: var(--good) }
-.refusal { color: var(--bad); background: var(--bad-panel); font-weight: bold; justify-self: start; padding: 0 .4rem; border-radius: .2rem }
+.refusal { color: var(--ink); background: var(--panel); font-weight: bold; justify-self: start; padding: 0 .4rem; border-radius: .2rem }
+.reason { grid-column: 3 / -1; color: var(--dim); font-size: .9rem }
+h3 { margin: 1.4rem 0 .3rem; font-size: 1rem }
+.prose, .mark, .met, .missed { margin: .2rem 0 .2rem 4.2rem; max-width: 46rem }
+.mark, .met, .missed { color: var(--dim); font-size: .85rem }
+.met::before { content: '\\2713  '; color: var(--good) }
+.missed { color: var(--bad); background: var(--bad-panel); font-weight: bold }
+.missed::before { content: '\\2717  ' }
+.who span { display: inline-block; margin: 0 .8rem .2rem 0; color: var(--dim) }
+.who b { color: var(--ink); font-weight: normal; font-family: ui-monospace, monospace; font-size: .9rem }
 .behind { margin: 0 0 .5rem 4.8rem; padding: .4rem .6rem; background: var(--panel); border-radius: .3rem }
 .behind code { display: block; color: inherit; padding-left: 1.2rem; text-indent: -1.2rem }
 .behind .denied, .behind .why { color: var(--bad) }
@@ -73,6 +82,8 @@ path.both { fill: var(--both) }
   summary, .bare { grid-template-columns: 1rem 2rem minmax(0, 1fr) }
   summary .reply, summary .refusal, .bare .reply, .bare .refusal { grid-column: 3 }
   .behind { margin-left: 1rem }
+  .prose, .mark, .met, .missed { margin-left: 0 }
+  .reason { grid-column: 3 }
   thead { display: none }
   table, tbody, tr, tbody th { display: block }
   tr { padding: .3rem 0; border-top: 1px solid var(--line) }
@@ -99,8 +110,9 @@ path.both { fill: var(--both) }
 pub enum Markup {
     Begin,
     Style,
-    BeginCounts,
     EndHead,
+    BeginWho,
+    EndWho,
     BeginSession,
     BeginBoot,
     BeginOther,
@@ -147,12 +159,13 @@ impl Markup {
 <meta name=\"viewport\" content=\"width=device-width, initial-scale=1\">
 ",
             Markup::Style => STYLE,
-            Markup::BeginCounts => b"<p>\n",
             Markup::EndHead => b"</p>
-<nav><a href=\"#session\">Session</a> <a href=\"#files\">Files</a> <a href=\"#secrets\">Secrets</a> <a href=\"#flows\">Flows</a> <a href=\"#labels\">Labels</a></nav>
+<nav><a href=\"#who\">Who</a> <a href=\"#session\">Session</a> <a href=\"#files\">Files</a> <a href=\"#secrets\">Secrets</a> <a href=\"#flows\">Flows</a> <a href=\"#labels\">Labels</a></nav>
 </header>
 <main>
 ",
+            Markup::BeginWho => b"<section id=\"who\">\n<h2>Who</h2>\n<p class=\"who\">\n",
+            Markup::EndWho => b"</p>\n</section>\n",
             Markup::BeginSession => b"<section id=\"session\">\n<h2>Session</h2>\n",
             Markup::BeginBoot => b"<details class=\"other\">\n<summary>Boot, line ",
             Markup::BeginOther => b"<details class=\"other\">\n<summary>Raw calls of line ",

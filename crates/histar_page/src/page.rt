@@ -2,16 +2,17 @@
 ghost use Rattle.std.specs.Prelude.{◌≡◌, ◌++◌, true, IfOk, is_ok, OnOk};
 ghost use Rattle.histar_page.specs.Items.{items_of};
 ghost use Rattle.histar_page.specs.Rendering.{rendered};
-ghost use Rattle.histar_page.specs.Page.{AddsItems, IsPage, files_shown, rights_shown, sources_of};
+ghost use Rattle.histar_page.specs.Page.{AddsItems, IsPage, files_shown, head_shown, rights_shown, sources_of};
 
 use crate::drawing::drawing_pieces;
 use crate::files::files_pieces;
 use crate::flows::flows_pieces;
-use crate::head::head_pieces;
+use crate::head::{head_pieces, title_of};
 use crate::jobs::jobs_of;
 use crate::piece::{Piece, render};
 use crate::secrets::secrets_pieces;
 use crate::session::session_pieces;
+use crate::who::who_pieces;
 use std::alloc::{AllocError, Global};
 
 /// The texts that a page is made of.
@@ -40,13 +41,23 @@ pub fn page_text(alloc: Global, texts: &Texts) -> Result<Vec<u8>, AllocError>
     ensures { IfOk result (λ page. IsPage (sources_of texts.now) page.items) }
 {
     let mut page = Vec::new(alloc);
-    render_part(
-        &mut page,
-        head_pieces(alloc, texts.name, texts.version, texts.output),
-    )?;
+    render_head(alloc, &mut page, texts)?;
     render_part(&mut page, session_pieces(alloc, texts.script, texts.output))?;
     render_rights(alloc, &mut page, texts)?;
     Ok(page)
+}
+
+/// Adds the head, and the users and groups.
+fn render_head(alloc: Global, page: &mut Vec<u8>, texts: &Texts) -> Result<(), AllocError>
+    ensures { OnOk result (AddsItems page.old.items page.new.items
+        (head_shown (sources_of texts.now))) }
+{
+    let title = title_of(alloc, texts.name, texts.script)?;
+    render_part(
+        page,
+        head_pieces(alloc, title, texts.name, texts.version, texts.output),
+    )?;
+    render_part(page, who_pieces(alloc, texts.script))
 }
 
 /// Adds the parts that show rights: the files, the secrets, the flows and the drawing.

@@ -1,22 +1,39 @@
-//! The session on a page: each call with its reply, and then its raw calls.
-ghost use Rattle.std.specs.Prelude.{◌≡◌, ◌≤◌, ◌+◌, ◌++◌, drop, length, take, true, IfOk, OnOk};
+//! The session on a page: its story, and after each call its raw calls.
+ghost use Rattle.std.specs.Prelude.{◌≡◌, ◌≤◌, ◌+◌, ◌++◌, [], drop, length, take, true, IfOk, OnOk};
 ghost use Rattle.std.specs.List.{list_all};
 ghost use Rattle.histar_script.specs.Lines.{lines_of};
 ghost use Rattle.histar_page.specs.Texts.{texts};
 ghost use Rattle.histar_page.specs.Items.{items_of};
-ghost use Rattle.histar_page.specs.Session.{AddsSession, answer_items, boot_items, call_items, call_on, IsSession};
-ghost use Rattle.histar_page.specs.Session.{reply_kind};
+ghost use Rattle.histar_page.specs.Session.{AddsSession, IsSession, boot_items, kernel_items};
+ghost use Rattle.histar_page.specs.Story.{call_items, story_from, turn_items};
 ghost use Rattle.histar_page.specs.Lines.{is_own};
-ghost use Rattle.histar_page.specs.Order.{other_numbers, past_own, session_numbers};
+ghost use Rattle.histar_page.specs.Order.{other_numbers, past_own, session_numbers, taken_own};
 
-use crate::head::is_refused;
 use crate::kind::Kind;
-use crate::lines::{LineKind, after_word, among, front_number, lines_in, own_count};
+use crate::lines::{LineKind, among, lines_in, own_count};
 use crate::markup::Markup;
 use crate::piece::{Piece, add, fix};
-use crate::views::{View, push_each};
+use crate::story::{lines_after, lines_between, push_answer, push_notes};
+use crate::views::{BOOT, View, push_each};
 use histar_script::split_word;
 use std::alloc::{AllocError, Global};
+
+/// The lines of an output, by their kinds.
+#[derive(Clone, Copy)]
+struct Lines<'s, 'a> {
+    replies: &'s [&'a [u8]],
+    reasons: &'s [&'a [u8]],
+    raw_calls: &'s [&'a [u8]],
+    explanations: &'s [&'a [u8]],
+}
+
+/// The lines of an output that belong to one reply.
+#[derive(Clone, Copy)]
+struct Own<'s, 'a> {
+    reasons: &'s [&'a [u8]],
+    raw_calls: &'s [&'a [u8]],
+    explanations: &'s [&'a [u8]],
+}
 
 /// Returns the pieces of the part of a page that shows a session.
 pub(crate) fn session_pieces<'a>(
@@ -42,65 +59,79 @@ fn line_pieces<'a>(
         IsSession (texts script.now) (texts output.now) (items_of pieces.items)) }
 {
     let replies = among(alloc, LineKind::Reply, output)?;
+    let reasons = among(alloc, LineKind::Reason, output)?;
     let raw_calls = among(alloc, LineKind::RawCall, output)?;
     let explanations = among(alloc, LineKind::Explanation, output)?;
+    let lines = Lines {
+        replies: replies.as_slice(),
+        reasons: reasons.as_slice(),
+        raw_calls: raw_calls.as_slice(),
+        explanations: explanations.as_slice(),
+    };
     let mut pieces = Vec::new(alloc);
-    push_session(
-        &mut pieces,
-        script,
-        replies.as_slice(),
-        raw_calls.as_slice(),
-        explanations.as_slice(),
-    )?;
+    push_session(&mut pieces, script, lines)?;
     Ok(pieces)
 }
 
-/// Adds the calls with their replies, each with its raw calls and explanations.
+/// Adds the story of a session, and after each call its raw calls and explanations.
 fn push_session<'a>(
     pieces: &mut Vec<Piece<'a>>,
     script: &[&'a [u8]],
-    replies: &[&'a [u8]],
-    raw_calls: &[&'a [u8]],
-    explanations: &[&'a [u8]],
+    lines: Lines<'_, 'a>,
 ) -> Result<(), AllocError>
-    ensures { OnOk result (AddsSession (texts script.now) (texts replies.now)
-        (texts raw_calls.now) (texts explanations.now)
-        (session_numbers (texts replies.now) (texts raw_calls.now) (texts explanations.now))
+    ensures { OnOk result (AddsSession
+        (story_from (texts script.now) [] (texts lines.entry.replies.now) (texts lines.entry.reasons.now))
+        (texts lines.entry.raw_calls.now) (texts lines.entry.explanations.now)
+        (session_numbers (texts lines.entry.replies.now) (texts lines.entry.raw_calls.now)
+        (texts lines.entry.explanations.now))
         (items_of pieces.old.items) (items_of pieces.new.items)) }
 {
-    let boot = own_lines(raw_calls, 0, b"0");
-    let (_, later) = raw_calls.split_at(boot.len());
+    let boot = own_lines(lines.raw_calls, 0, BOOT);
+    let (_, raw_calls) = lines.raw_calls.split_at(boot.len());
+    let later = Lines {
+        replies: lines.replies,
+        reasons: lines.reasons,
+        raw_calls,
+        explanations: lines.explanations,
+    };
     push_boot(pieces, boot)?;
-    push_calls(pieces, script, replies, later, explanations)?;
+    push_calls(pieces, script, later)?;
     fix(pieces, Markup::EndSession)
 }
 
-/// Adds the calls with their replies, each with its own raw calls and explanations, and then those that are
-/// left.
+/// Adds the story of the calls, each with its own raw calls and explanations, and then those that are left.
 fn push_calls<'a>(
     pieces: &mut Vec<Piece<'a>>,
     script: &[&'a [u8]],
-    replies: &[&'a [u8]],
-    raw_calls: &[&'a [u8]],
-    explanations: &[&'a [u8]],
+    lines: Lines<'_, 'a>,
 ) -> Result<(), AllocError>
-    ensures { OnOk result (AddsSession (texts script.now) (texts replies.now)
-        (texts raw_calls.now) (texts explanations.now)
-        (other_numbers (texts replies.now) (texts raw_calls.now) (texts explanations.now))
+    ensures { OnOk result (AddsSession
+        (story_from (texts script.now) [] (texts lines.entry.replies.now) (texts lines.entry.reasons.now))
+        (texts lines.entry.raw_calls.now) (texts lines.entry.explanations.now)
+        (other_numbers (texts lines.entry.replies.now) (texts lines.entry.raw_calls.now)
+        (texts lines.entry.explanations.now))
         (items_of pieces.old.items) (items_of pieces.new.items)) }
 {
+    let mut reason_at = 0;
     let mut raw_at = 0;
     let mut why_at = 0;
-    'replies: for reply in replies {
+    let mut before: &[u8] = &[];
+    'replies: for reply in lines.replies {
         let word = split_word(reply).0;
-        let own = own_lines(raw_calls, raw_at, word);
-        let why = own_lines(explanations, why_at, word);
-        push_call(pieces, script, reply, own, why)?;
-        raw_at += own.len();
-        why_at += why.len();
+        let own = Own {
+            reasons: own_lines(lines.reasons, reason_at, word),
+            raw_calls: own_lines(lines.raw_calls, raw_at, word),
+            explanations: own_lines(lines.explanations, why_at, word),
+        };
+        push_turn(pieces, script, before, reply, own)?;
+        reason_at += own.reasons.len();
+        raw_at += own.raw_calls.len();
+        why_at += own.explanations.len();
+        before = reply;
     }
-    let (_, other_calls) = raw_calls.split_at(raw_at);
-    let (_, other_explanations) = explanations.split_at(why_at);
+    push_notes(pieces, lines_after(script, before), before)?;
+    let (_, other_calls) = lines.raw_calls.split_at(raw_at);
+    let (_, other_explanations) = lines.explanations.split_at(why_at);
     push_each(pieces, View::OtherCalls, other_calls)?;
     push_each(pieces, View::OtherExplanations, other_explanations)
 }
@@ -112,6 +143,7 @@ fn own_lines<'b, 'a>(lines: &'b [&'a [u8]], from: usize, word: &[u8]) -> &'b [&'
     ensures taken { take (from + length result.now) (texts lines.entry.now)
         ≡ take from (texts lines.entry.now) ++ texts result.now }
     ensures own { list_all (is_own word.now) (texts result.now) ≡ true }
+    ensures front { texts result.now ≡ taken_own word.now (drop from (texts lines.entry.now)) }
     ensures rest { drop (from + length result.now) (texts lines.entry.now)
         ≡ past_own word.now (drop from (texts lines.entry.now)) }
 {
@@ -130,7 +162,7 @@ fn push_boot<'a>(pieces: &mut Vec<Piece<'a>>, boot: &[&'a [u8]]) -> Result<(), A
         &[
             Piece::Fixed(Markup::BeginSession),
             Piece::Fixed(Markup::BeginBoot),
-            Piece::Shown(Kind::OtherLine, b"0"),
+            Piece::Shown(Kind::OtherLine, BOOT),
             Piece::Fixed(Markup::BeginBehind),
         ],
     )?;
@@ -138,75 +170,54 @@ fn push_boot<'a>(pieces: &mut Vec<Piece<'a>>, boot: &[&'a [u8]]) -> Result<(), A
     fix(pieces, Markup::EndCall)
 }
 
-/// Adds a call with its reply, its raw calls and its explanations.
+/// Adds the comments after the reply before, and then a call with its reply and the lines that belong to it.
+fn push_turn<'a>(
+    pieces: &mut Vec<Piece<'a>>,
+    script: &[&'a [u8]],
+    before: &[u8],
+    reply: &'a [u8],
+    own: Own<'_, 'a>,
+) -> Result<(), AllocError>
+    ensures { OnOk result (items_of pieces.new.items ≡ items_of pieces.old.items
+        ++ turn_items (texts script.now) before.now reply.now (texts own.entry.reasons.now)
+        ++ kernel_items (texts own.entry.raw_calls.now) (texts own.entry.explanations.now)) }
+{
+    push_notes(pieces, lines_between(script, before, reply), before)?;
+    if own.raw_calls.is_empty() && own.explanations.is_empty() {
+        fix(pieces, Markup::BeginBare)?;
+        push_call(pieces, script, reply, own.reasons)?;
+        return fix(pieces, Markup::EndBare);
+    }
+    fix(pieces, Markup::BeginCall)?;
+    push_call(pieces, script, reply, own.reasons)?;
+    push_kernel(pieces, own.raw_calls, own.explanations)
+}
+
+/// Adds a call with its reply, and these reasons.
 fn push_call<'a>(
     pieces: &mut Vec<Piece<'a>>,
     script: &[&'a [u8]],
     reply: &'a [u8],
+    reasons: &[&'a [u8]],
+) -> Result<(), AllocError>
+    ensures { OnOk result (items_of pieces.new.items ≡ items_of pieces.old.items
+        ++ call_items (texts script.now) reply.now (texts reasons.now)) }
+{
+    push_answer(pieces, script, reply)?;
+    push_each(pieces, View::Reasons, reasons)
+}
+
+/// Adds the raw calls and explanations of a call, which a reader has to open.
+fn push_kernel<'a>(
+    pieces: &mut Vec<Piece<'a>>,
     raw_calls: &[&'a [u8]],
     explanations: &[&'a [u8]],
 ) -> Result<(), AllocError>
     ensures { OnOk result (items_of pieces.new.items ≡ items_of pieces.old.items
-        ++ call_items (texts script.now) reply.now (texts raw_calls.now) (texts explanations.now)) }
+        ++ kernel_items (texts raw_calls.now) (texts explanations.now)) }
 {
-    if raw_calls.is_empty() && explanations.is_empty() {
-        return push_answer(pieces, Markup::BeginBare, script, reply, Markup::EndBare);
-    }
-    push_answer(
-        pieces,
-        Markup::BeginCall,
-        script,
-        reply,
-        Markup::BeginBehind,
-    )?;
+    fix(pieces, Markup::BeginBehind)?;
     push_each(pieces, View::RawCalls, raw_calls)?;
     push_each(pieces, View::Explanations, explanations)?;
     fix(pieces, Markup::EndCall)
-}
-
-/// Adds the number of a line, its call and the reply, between two fixed texts.
-fn push_answer<'a>(
-    pieces: &mut Vec<Piece<'a>>,
-    before: Markup,
-    script: &[&'a [u8]],
-    line: &'a [u8],
-    after: Markup,
-) -> Result<(), AllocError>
-    ensures { OnOk result (items_of pieces.new.items
-        ≡ items_of pieces.old.items ++ answer_items (texts script.now) line.now) }
-{
-    add(
-        pieces,
-        &[
-            Piece::Fixed(before),
-            Piece::Shown(Kind::LineNumber, split_word(line).0),
-            Piece::Shown(Kind::Call, call_on(script, line)),
-            Piece::Shown(reply_kind(line), after_word(line)),
-            Piece::Fixed(after),
-        ],
-    )
-}
-
-/// Returns the kind of a reply: that of a call that was made, or a refusal.
-fn reply_kind(line: &[u8]) -> Kind
-    ensures { result ≡ reply_kind line.now }
-{
-    if is_refused(line) {
-        Kind::Refusal
-    } else {
-        Kind::Reply
-    }
-}
-
-/// Returns the line of a script that a reply answers.
-pub(crate) fn call_on<'a>(script: &[&'a [u8]], reply: &[u8]) -> &'a [u8]
-    ensures { result.now ≡ call_on (texts script.now) reply.now }
-{
-    let Some(number) = front_number(reply) else {
-        return &[];
-    };
-    match script.get((number as usize).saturating_sub(1)) {
-        Some(line) => line,
-        None => &[],
-    }
 }

@@ -8,6 +8,7 @@ use Rattle.histar_page.proofs.session.line_pieces.Goals as goal
 pub returns : goal.returns
 returns c =
     session_is refl (ap texts c.as_slice.ensures.value ∙ c.in_ok-replies.ensures)
-    (ap texts c.as_slice-2.ensures.value ∙ c.in_ok-raw_calls.ensures)
-    (ap texts c.as_slice-3.ensures.value ∙ c.in_ok-explanations.ensures)
+    (ap texts c.as_slice-2.ensures.value ∙ c.in_ok-reasons.ensures)
+    (ap texts c.as_slice-3.ensures.value ∙ c.in_ok-raw_calls.ensures)
+    (ap texts c.as_slice-4.ensures.value ∙ c.in_ok-explanations.ensures)
     (ap items_of c.new-pieces.ensures.items) c.in_ok-push_session.ensures

@@ -6,7 +6,7 @@ use Rattle.std.proofs.lemmas.List.{length-map, take-map}
 use Rattle.std.proofs.lemmas.List.Sums.{prefix_len-le-length}
 use Rattle.histar_page.specs.Texts.{texts}
 use Rattle.histar_page.specs.Lines.{is_own}
-use Rattle.histar_page.proofs.OwnLemmas.{own_pass, past_texts, taken_texts}
+use Rattle.histar_page.proofs.OwnLemmas.{own_pass, past_texts, taken_front, taken_texts}
 use Rattle.histar_page.proofs.session.own_lines.Goals as goal
 
 pub split_at-requires-2 : goal.split_at-requires-2
@@ -49,6 +49,14 @@ returns-clause-own c =
     ∙ ap (list_all own) (sym (take-map now c.own_count.result c.split_at.result.1.now))
     ∙ ap (λ k. list_all own (take k (texts c.split_at.result.1.now))) c.own_count.ensures
     ∙ own_pass own (texts c.split_at.result.1.now)
+
+pub returns-clause-front : goal.returns-clause-front
+returns-clause-front c =
+    let now : Bor (List ℕ) → List ℕ = λ line. line.now in
+    let word = c.args.word.now in
+    taken_front now word c.args.lines.now c.split_at-2.result.0.now c.args.from c.own_count.result
+    (c.own_count.ensures ∙ ap (λ l. prefix_len (is_own word) (texts l)) c.split_at.ensures.back)
+    (c.split_at-2.ensures.front ∙ ap (take c.own_count.result) c.split_at.ensures.back)
 
 pub returns-clause-rest : goal.returns-clause-rest
 returns-clause-rest c =
