@@ -9,8 +9,9 @@ ghost use Rattle.histar_script.specs.Reading.{script_of};
 ghost use Rattle.histar_script.specs.Script.{ScriptModel};
 
 use crate::explained::{Explained, explain_comparison};
+use crate::observation::REMEMBERED_ANSWERS;
 use histar_flat::{CallLine, ProcName, Reply, UnixCall};
-use histar_label::{LabelStore, PlainStore};
+use histar_label::{InternStore, LabelStore};
 use histar_script::{Fault, Script, read_script};
 use histar_shell::Machine;
 use histar_texts::push_process;
@@ -55,8 +56,9 @@ fn jobs_of(alloc: Global, script: Script) -> Result<Vec<ProcName>, AllocError>
     ensures { IfOk result (λ jobs. jobs.items
         ≡ jobs_started (meaning script.accounts script.calls)) }
 {
+    let store = InternStore::new(alloc, REMEMBERED_ANSWERS)?;
     let (accounts, calls) = script.into_parts();
-    let Ok(mut machine) = Machine::boot(alloc, PlainStore::new(alloc), accounts) else {
+    let Ok(mut machine) = Machine::boot(alloc, store, accounts) else {
         return Err(AllocError);
     };
     let mut jobs = Vec::new(alloc);

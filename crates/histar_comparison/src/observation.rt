@@ -7,7 +7,7 @@ ghost use Rattle.histar_shell.specs.Ending.{HasTree};
 use crate::replies::{LineReply, Replies, once_done, wrap_path};
 use histar_base::Bytes;
 use histar_flat::{CallLine, Path, ProcName};
-use histar_label::{LabelStore, PlainStore};
+use histar_label::{InternStore, LabelStore};
 use histar_script::Script;
 use histar_shell::{Machine, node_text};
 use std::alloc::{AllocError, Global};
@@ -29,13 +29,17 @@ impl Model for Observation {
     ghost view = { λ o. record { replies = o.replies; tree = o.tree.items } };
 }
 
+/// How many answers of label comparisons each machine remembers.
+pub(crate) const REMEMBERED_ANSWERS: usize = 256;
+
 /// Runs a script on a machine of its own.
 pub fn observe(alloc: Global, script: Script, job: &ProcName) -> Result<Observation, AllocError>
     requires { CanRun script }
     ensures { IfOk result (λ seen. seen ≡ observation job.now script) }
 {
+    let store = InternStore::new(alloc, REMEMBERED_ANSWERS)?;
     let (accounts, calls) = script.into_parts();
-    let Ok(mut machine) = Machine::boot(alloc, PlainStore::new(alloc), accounts) else {
+    let Ok(mut machine) = Machine::boot(alloc, store, accounts) else {
         return Err(AllocError);
     };
     let seen = observe_run(alloc, &mut machine, job, calls);
