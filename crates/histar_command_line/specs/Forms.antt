@@ -51,10 +51,11 @@ named_app = let app = new_app (codes "histar") in record app { top = record app.
 abbrev pub subcommand_app : Text → List Rule → App
 subcommand_app name arguments = fold with_rule (new_app name) arguments
 
--- `run [--tree] [--trace] [--explain] [--calls] FILE`
+-- `run [--tree] [--trace] [--why] [--explain] [--calls] FILE`
 abbrev pub run_app : App
 run_app = subcommand_app (codes "run")
-    (flag_rule (codes "tree") ∷ flag_rule (codes "trace") ∷ flag_rule (codes "explain") ∷ flag_rule (codes "calls") ∷ word_rule (codes "FILE") ∷ [])
+    (flag_rule (codes "tree") ∷ flag_rule (codes "trace") ∷ flag_rule (codes "why") ∷ flag_rule (codes "explain")
+    ∷ flag_rule (codes "calls") ∷ word_rule (codes "FILE") ∷ [])
 
 -- `try [--at LINE] FILE CALL..`
 abbrev pub try_app : App
@@ -90,6 +91,10 @@ leak_app = subcommand_app (codes "leak") (option_rule (codes "LINE") (codes "at"
 abbrev pub flows_app : App
 flows_app = subcommand_app (codes "flows") (option_rule (codes "LINE") (codes "at") ∷ word_rule (codes "FILE") ∷ [])
 
+-- `attack JOB FILE`
+abbrev pub attack_app : App
+attack_app = subcommand_app (codes "attack") (word_rule (codes "JOB") ∷ word_rule (codes "FILE") ∷ [])
+
 -- `lint [--raw] FILE..`
 abbrev pub lint_app : App
 lint_app = subcommand_app (codes "lint") (flag_rule (codes "raw") ∷ words_rule (codes "FILE") ∷ [])
@@ -106,4 +111,4 @@ report_app = subcommand_app (codes "report") (word_rule (codes "FILE") ∷ [])
 abbrev pub histar_app : App
 histar_app = fold with_subcommand named_app
     (run_app.top ∷ try_app.top ∷ raw_app.top ∷ check_app.top ∷ access_app.top ∷ diff_app.top ∷ trust_app.top ∷ leak_app.top ∷ flows_app.top
-    ∷ lint_app.top ∷ report_app.top ∷ test_app.top ∷ [])
+    ∷ attack_app.top ∷ lint_app.top ∷ report_app.top ∷ test_app.top ∷ [])

@@ -4,7 +4,7 @@ use Rattle.std.specs.Str.{bytes_eq}
 use Rattle.clap.specs.Words.{Row, Text, all_of, first_of}
 use Rattle.histar_command_line.specs.declared.task.CheckFlags.{CheckFlags}
 use Rattle.histar_command_line.specs.declared.task.Task.{Task}
-use Rattle.histar_command_line.specs.declared.task.Task.TheVariants.{Run, Try, Raw, Check, CheckAll, Access, Diff, Trust, Leak, Flows, Lint, Report, Test}
+use Rattle.histar_command_line.specs.declared.task.Task.TheVariants.{Run, Try, Raw, Check, CheckAll, Access, Diff, Trust, Leak, Flows, Attack, Lint, Report, Test}
 
 -- the value of a flag that was given
 abbrev pub is_given : Option Text → Bool
@@ -27,6 +27,7 @@ subcommand (Diff old new at more) = codes "diff"
 subcommand (Trust path file at) = codes "trust"
 subcommand (Leak path file at) = codes "leak"
 subcommand (Flows file at) = codes "flows"
+subcommand (Attack job file) = codes "attack"
 subcommand (Lint files is_raw) = codes "lint"
 subcommand (Report file) = codes "report"
 subcommand (Test files strict) = codes "test"
@@ -41,6 +42,7 @@ HasArguments (Run file flags) rows =
     (first_of (codes "FILE") rows ≡ Some file.now)
     × (flags.tree ≡ is_set (codes "tree") rows)
     × (flags.trace ≡ is_set (codes "trace") rows)
+    × (flags.why ≡ is_set (codes "why") rows)
     × (flags.explain ≡ is_set (codes "explain") rows)
     × (flags.calls ≡ is_set (codes "calls") rows)
 HasArguments (Try file calls at) rows =
@@ -80,6 +82,9 @@ HasArguments (Leak path file at) rows =
 HasArguments (Flows file at) rows =
     (first_of (codes "FILE") rows ≡ Some file.now)
     × (option_map (λ line. line.now) at ≡ first_of (codes "LINE") rows)
+HasArguments (Attack job file) rows =
+    (first_of (codes "JOB") rows ≡ Some job.now)
+    × (first_of (codes "FILE") rows ≡ Some file.now)
 HasArguments (Lint files is_raw) rows =
     (all_of (codes "FILE") rows ≡ Some (map (λ file. file.now) files.items))
     × (is_raw ≡ is_set (codes "raw") rows)

@@ -125,6 +125,7 @@ pub(crate) fn command<'a>(alloc: Global) -> Result<Command<'a>, AllocError>
         forms::trust(),
         forms::leak(),
         forms::flows(),
+        forms::attack(),
         forms::lint(),
         forms::report(),
         forms::test(),

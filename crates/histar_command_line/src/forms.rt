@@ -1,7 +1,7 @@
 //! The forms of the subcommands: their names, their arguments and their help.
 ghost use Rattle.std.specs.Prelude.{◌≡◌};
 ghost use Rattle.histar_command_line.specs.Forms.{form_app, run_app, raw_app, check_app, access_app, diff_app, lint_app};
-ghost use Rattle.histar_command_line.specs.Forms.{flows_app, leak_app, report_app, test_app, trust_app, try_app};
+ghost use Rattle.histar_command_line.specs.Forms.{attack_app, flows_app, leak_app, report_app, test_app, trust_app, try_app};
 
 /// An argument of a subcommand.
 #[derive(Clone, Copy)]
@@ -35,7 +35,7 @@ const SCRIPT: &str = "The script: users, groups, and calls of processes";
 /// The help of the flag that stops a run before a line.
 const AT: &str = "Stop before the call on this line";
 
-/// Returns `run [--tree] [--trace] [--explain] [--calls] FILE`.
+/// Returns `run [--tree] [--trace] [--why] [--explain] [--calls] FILE`.
 pub(crate) fn run<'a>() -> Form<'a>
     ensures { form_app result ≡ run_app }
 {
@@ -50,6 +50,7 @@ pub(crate) fn run<'a>() -> Form<'a>
                 "trace",
                 "Print each raw call of the kernel, and why it was denied",
             ),
+            Argument::Flag("why", "Print why each call was refused, by the rules"),
             Argument::Flag("explain", "Print why each denied raw call was denied"),
             Argument::Flag("calls", "Print each reply behind its call"),
             Argument::Word("FILE", SCRIPT),
@@ -279,6 +280,32 @@ prints
         arguments: &[
             Argument::Valued("LINE", "at", AT),
             Argument::Word("FILE", SCRIPT),
+        ],
+    }
+}
+
+/// Returns `attack JOB FILE`.
+pub(crate) fn attack<'a>() -> Form<'a>
+    ensures { form_app result ≡ attack_app }
+{
+    Form {
+        name: "attack",
+        about: "Run a script in which threads of a job bypass the Unix library by raw calls",
+        after_help: "FILE has the lines of a script, and between them lines `thread N CALL`: a raw call of the thread N, as in a raw
+session. The numbers of threads and objects are those of `run --trace`. Each line has a reply, or:
+  not confined   the thread isn't in JOB, and the raw call is not made
+  inside         after the first raw call: the process is found through what JOB may have written, and the call is not made
+Where the first process of JOB doesn't run when the first raw call comes, `no job` is printed alone.
+
+Example:
+  histar attack 0.1.1 examples/attack/deputy.attack
+prints, among others, the lines
+  21 Modify
+  25 inside
+  28 EACCES",
+        arguments: &[
+            Argument::Word("JOB", "The job: the name of its first process"),
+            Argument::Word("FILE", "The script with raw calls between its lines"),
         ],
     }
 }

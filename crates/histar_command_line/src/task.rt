@@ -14,6 +14,8 @@ use std::alloc::{AllocError, Global};
 pub struct RunFlags {
     pub tree: bool,
     pub trace: bool,
+    /// Why each call was refused, by the rules.
+    pub why: bool,
     /// Why each denied raw call was denied.
     pub explain: bool,
     /// The text of its call before each reply.
@@ -58,6 +60,8 @@ pub enum Task<'a> {
     /// Print which process can pass on what it knows to which others after the script in this file, or before
     /// the line of this number.
     Flows(&'a str, Option<&'a str>),
+    /// Run a script in which threads of a job make raw calls: first the job, then the file.
+    Attack(&'a str, &'a str),
     /// Print why the scripts in these files are bad, if they are; or the same of the raw sessions in them.
     Lint(Vec<&'a str>, bool),
     /// Print the session of the script in this file as a page.
@@ -85,11 +89,13 @@ fn task_of<'a>(matches: &ArgMatches<'a>) -> Option<Task<'a>>
         let file = run.get_str("FILE")?;
         let tree = is_set(run, "tree");
         let trace = is_set(run, "trace");
+        let why = is_set(run, "why");
         let explain = is_set(run, "explain");
         let calls = is_set(run, "calls");
         let flags = RunFlags {
             tree,
             trace,
+            why,
             explain,
             calls,
         };
@@ -162,13 +168,18 @@ fn secret_task_of<'a>(matches: &ArgMatches<'a>) -> Option<Task<'a>>
         let at = flows.get_str("LINE");
         return Some(Task::Flows(file, at));
     }
-    report_task_of(matches)
+    session_task_of(matches)
 }
 
-/// Returns the task of a matched subcommand that shows the whole session of a script.
-fn report_task_of<'a>(matches: &ArgMatches<'a>) -> Option<Task<'a>>
+/// Returns the task of a matched subcommand that attacks or shows a whole session.
+fn session_task_of<'a>(matches: &ArgMatches<'a>) -> Option<Task<'a>>
     ensures { IfSome result (λ task. IsTaskOf task (subcommand_rows_of matches.now)) }
 {
+    if let Some(attack) = matches.subcommand_matches("attack") {
+        let job = attack.get_str("JOB")?;
+        let file = attack.get_str("FILE")?;
+        return Some(Task::Attack(job, file));
+    }
     let report = matches.subcommand_matches("report")?;
     let file = report.get_str("FILE")?;
     Some(Task::Report(file))

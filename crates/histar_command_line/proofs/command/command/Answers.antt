@@ -11,5 +11,5 @@ returns c =
     (λ r added. added ∙ λ i. fold with_subcommand (c.in_ok-histar.ensures i)
     ((c.run.ensures i).top ∷ (c.try_calls.ensures i).top ∷ (c.raw.ensures i).top ∷ (c.check.ensures i).top ∷ (c.access.ensures i).top
     ∷ (c.diff.ensures i).top ∷ (c.trust.ensures i).top ∷ (c.leak.ensures i).top
-    ∷ (c.flows.ensures i).top ∷ (c.lint.ensures i).top ∷ (c.report.ensures i).top ∷ (c.test.ensures i).top ∷ []))
+    ∷ (c.flows.ensures i).top ∷ (c.attack.ensures i).top ∷ (c.lint.ensures i).top ∷ (c.report.ensures i).top ∷ (c.test.ensures i).top ∷ []))
     c.add_each.ensures

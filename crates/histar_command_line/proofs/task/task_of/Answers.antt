@@ -17,6 +17,7 @@ returns-in-Some c =
         sym (c.in_ok-file.ensures ∙ first_value-rows found (codes "FILE")),
         c.is_set-tree.ensures ∙ ap is_given (first_value-rows found (codes "tree")),
         c.is_set-trace.ensures ∙ ap is_given (first_value-rows found (codes "trace")),
+        c.is_set-why.ensures ∙ ap is_given (first_value-rows found (codes "why")),
         c.is_set-explain.ensures ∙ ap is_given (first_value-rows found (codes "explain")),
         c.is_set-calls.ensures ∙ ap is_given (first_value-rows found (codes "calls")),
       ),

@@ -1,0 +1,27 @@
+-- Proves the goals of `session_task_of` of src/task.rt that the search leaves open.
+use Rattle.std.proofs.Common.{refl, sym, ◌∙◌, codes}
+use Rattle.clap.specs.Words.{rows_of, found_of}
+use Rattle.clap.proofs.WalkLemmas.{first_value-rows}
+use Rattle.histar_command_line.proofs.Matches.{matched}
+use Rattle.histar_command_line.proofs.task.session_task_of.Goals as goal
+
+pub returns-in-Some : goal.returns-in-Some
+returns-in-Some c =
+    let m = c.in-Some in
+    let found = found_of m.attack.now in (
+      rows_of found,
+      matched c.args.matches.now (codes "attack") (rows_of found) (m.ensures.found.0 refl) m.ensures.rows,
+      (
+        sym (c.in_ok-job.ensures ∙ first_value-rows found (codes "JOB")),
+        sym (c.in_ok-file.ensures ∙ first_value-rows found (codes "FILE")),
+      ),
+    )
+
+pub returns : goal.returns
+returns c =
+    let m = c.in_ok-report in
+    let found = found_of m.report.now in (
+      rows_of found,
+      matched c.args.matches.now (codes "report") (rows_of found) (m.ensures.found.0 refl) m.ensures.rows,
+      sym (c.in_ok-file-2.ensures ∙ first_value-rows found (codes "FILE")),
+    )
