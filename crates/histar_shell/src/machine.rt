@@ -3,6 +3,7 @@ ghost use Rattle.std.specs.Prelude.{◌≡◌, IfOk};
 ghost use Rattle.histar_programs.specs.Refusals.{settled};
 ghost use Rattle.histar_script.specs.Script.{IsDeclared};
 ghost use Rattle.histar_shell.specs.Machine.{AnswersLine, IsStart, IsTraced, Makes};
+ghost use Rattle.histar_shell.specs.RawCalls.{AnswersRaw};
 ghost use Rattle.histar_shell.specs.Ending.{HasTree, IsTreeIn};
 ghost use Rattle.histar_shell.specs.Meaning.{FollowsMeaning, ShowsStart};
 ghost use Rattle.histar_syscall.specs.KernelModel.{state};
@@ -15,9 +16,11 @@ use histar_flat::{Accounts, ProcName, Reply, UnixCall, each_call_is_right};
 use histar_label::LabelStore;
 use histar_layout::UserTable;
 use histar_login::boot;
+use histar_object::ObjId;
 use histar_programs::{CallError, Roots, Stopped, Unix, find_caller, settle};
 use histar_readout::{TreeNode, bytes_of, tree_of};
-use histar_syscall::{Kernel, Trace as KernelTrace};
+use histar_rules::{Denied, RawCall, Refusal};
+use histar_syscall::{Answer, Kernel, Trace as KernelTrace};
 use std::alloc::{AllocError, Global};
 use std::marker::Model;
 
@@ -127,6 +130,32 @@ impl<S: LabelStore + Drop> Machine<S> {
         let result = settle(outcome);
         self.is_stopped = result.is_err();
         result
+    }
+
+    /// Makes a raw call of a thread as it stands, on this line of the script. It stops where memory runs out,
+    /// and after the first `Stopped` it does nothing and answers `Stopped`.
+    pub fn raw_call(
+        &mut self,
+        alloc: Global,
+        line: u32,
+        thread: ObjId,
+        call: RawCall,
+    ) -> Result<Result<Answer, Denied>, Stopped>
+        ensures { AnswersRaw self.old self.new line thread call result }
+    {
+        if self.is_stopped {
+            drop(call);
+            return Err(Stopped);
+        }
+        self.kernel.begin(line);
+        match self.kernel.call(alloc, thread, call) {
+            Ok(answer) => Ok(Ok(answer)),
+            Err(Refusal::Denied(denied)) => Ok(Err(denied)),
+            Err(Refusal::OutOfMemory) => {
+                self.is_stopped = true;
+                Err(Stopped)
+            }
+        }
     }
 
     /// Lends the raw calls made so far.
