@@ -18,11 +18,7 @@ fn write_number(alloc: Global, number: u32) -> Result<Vec<u8>, AllocError>
 }
 
 /// Prints the line of a granted call: its number, an equals sign, and its answer.
-pub fn answer_line(
-    alloc: Global,
-    number: u32,
-    answer: &Answer,
-) -> Result<Vec<u8>, AllocError>
+pub fn answer_line(alloc: Global, number: u32, answer: &Answer) -> Result<Vec<u8>, AllocError>
     ensures { IfOk result (λ line. line.items ≡ line_text number (Ok answer.now)) }
 {
     let mut line = write_number(alloc, number)?;

@@ -1,5 +1,5 @@
 -- A call that runs a program has made a run of the kernel, which is the new end of its trace.
-use Rattle.std.proofs.Common.{◌≡◌, ℕ, List, [], ◌∷◌, ◌++◌, Option, Some, None, Result, Ok, Err, inl, inr, sym, ap, ◌∙◌, subst, append_assoc}
+use Rattle.std.proofs.Common.{◌≡◌, ℕ, List, [], ◌∷◌, ◌++◌, Option, Some, None, Result, Ok, Err, inl, inr, refl, sym, ap, ◌∙◌, subst, append_assoc}
 use Rattle.std.proofs.lemmas.List.{append-nil}
 use Rattle.histar_flat.specs.Accounts.{Accounts}
 use Rattle.histar_flat.specs.declared.calls.UnixCall.{UnixCall}
@@ -72,3 +72,12 @@ traced_on accounts roots me caller old new call result traced made =
     let goes = by_program _ old new caller.thread result made in
     subst (λ (es : List TraceEntry). IsRun empty_state es (state new)) (sym goes.trace)
     (run_after empty_state (state old) (state new) old.trace goes.entries traced goes.run)
+
+-- and it does after one raw call on a line
+pub traced_raw : (old begun new : KernelModel) (line t : ℕ) (call : RawCall) (d : Option Denied) → begun ≡ record old { line = line } → IsTraced old
+    → Called begun new t call d → IsTraced new
+traced_raw old begun new line t call d same traced called =
+    let before : IsTraced begun = subst IsTraced (sym same) traced in
+    subst (λ (es : List TraceEntry). IsRun empty_state es (state new)) (sym called.trace)
+    (run_after empty_state (state begun) (state new) begun.trace (entry_of begun.line t call d ∷ []) before
+    (state new, called.outcome, called.state, refl))
