@@ -3,7 +3,7 @@ ghost use Rattle.std.specs.Prelude.{◌≡◌, IfOk};
 ghost use Rattle.histar_programs.specs.Refusals.{settled};
 ghost use Rattle.histar_script.specs.Script.{IsDeclared};
 ghost use Rattle.histar_shell.specs.Machine.{AnswersLine, IsStart, IsTraced, Makes};
-ghost use Rattle.histar_shell.specs.RawCalls.{AnswersRaw};
+ghost use Rattle.histar_shell.specs.RawCalls.{MakesRaw};
 ghost use Rattle.histar_shell.specs.Ending.{HasTree, IsTreeIn};
 ghost use Rattle.histar_shell.specs.Meaning.{FollowsMeaning, ShowsStart};
 ghost use Rattle.histar_syscall.specs.KernelModel.{state};
@@ -12,6 +12,7 @@ ghost use Rattle.histar_readout.specs.TreeEntries.{node_bytes};
 use crate::calls::{
     CallKind, kind_of, make_entry_call, make_process_call, make_reading_call, make_writing_call,
 };
+use crate::raw::make_raw;
 use histar_flat::{Accounts, ProcName, Reply, UnixCall, each_call_is_right};
 use histar_label::LabelStore;
 use histar_layout::UserTable;
@@ -19,7 +20,7 @@ use histar_login::boot;
 use histar_object::ObjId;
 use histar_programs::{CallError, Roots, Stopped, Unix, find_caller, settle};
 use histar_readout::{TreeNode, bytes_of, tree_of};
-use histar_rules::{Denied, RawCall, Refusal};
+use histar_rules::{Denied, RawCall};
 use histar_syscall::{Answer, Kernel, Trace as KernelTrace};
 use std::alloc::{AllocError, Global};
 use std::marker::Model;
@@ -141,20 +142,15 @@ impl<S: LabelStore + Drop> Machine<S> {
         thread: ObjId,
         call: RawCall,
     ) -> Result<Result<Answer, Denied>, Stopped>
-        ensures { AnswersRaw self.old self.new line thread call result }
+        ensures { MakesRaw self.old self.new line thread call result }
     {
         if self.is_stopped {
             drop(call);
-            return Err(Stopped);
-        }
-        self.kernel.begin(line);
-        match self.kernel.call(alloc, thread, call) {
-            Ok(answer) => Ok(Ok(answer)),
-            Err(Refusal::Denied(denied)) => Ok(Err(denied)),
-            Err(Refusal::OutOfMemory) => {
-                self.is_stopped = true;
-                Err(Stopped)
-            }
+            Err(Stopped)
+        } else {
+            let result = make_raw(alloc, &mut self.kernel, line, thread, call);
+            self.is_stopped = result.is_err();
+            result
         }
     }
 
