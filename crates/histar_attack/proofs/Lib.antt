@@ -2,3 +2,5 @@
 pub mod Marks
 pub mod ItemsTaken
 pub mod LinesRead
+pub mod Deciding
+pub mod JobCategories

@@ -2,8 +2,10 @@
 //! Unix calls of a script.
 #![tactic(auto)]
 
+mod confinement;
 mod items;
 mod reader;
 
+pub use confinement::{is_outside_caller, is_tainted_caller, job_category};
 pub use items::{Mark, MixedItem};
 pub use reader::{Mixed, read_mixed};
