@@ -21,15 +21,15 @@ use Rattle.histar_outside.specs.Search.{IsClear, IsClearHome, IsClearWay, IsOuts
 use Rattle.histar_attack.specs.Confinement.{Decides, IsClearInside, IsFreeThread, is_free}
 
 -- two tests say whether both are so
-pub both_decide : {P Q : Type 0} (a b : Bool) → Decides a P → Decides b Q → Decides (a && b) (P × Q)
-both_decide true true p q = (p, q)
-both_decide true false p q = λ both. q both.1
-both_decide false b p q = λ both. p both.0
+pub both_decide : (P Q : Type 0) (a b : Bool) → Decides a P → Decides b Q → Decides (a && b) (P × Q)
+both_decide P Q true true p q = (p, q)
+both_decide P Q true false p q = λ both. q both.1
+both_decide P Q false b p q = λ both. p both.0
 
 -- a test decides what is so exactly if something else is
-pub decides_too : {P Q : Type 0} (b : Bool) → (P → Q) → (Q → P) → Decides b P → Decides b Q
-decides_too true there back p = there p
-decides_too false there back p = λ q. p (back q)
+pub decides_too : (P Q : Type 0) (b : Bool) → (P → Q) → (Q → P) → Decides b P → Decides b Q
+decides_too P Q true there back p = there p
+decides_too P Q false there back p = λ q. p (back q)
 
 -- an object that has a label
 of_label : (found : Found) (L : Levels) → label_there found ≡ Some L → (o : Object Levels) × (found ≡ Some o) × (o.label ≡ L)
@@ -51,6 +51,7 @@ three L2 e = absurd (true≢false (sym e))
 three L3 e = refl
 
 star : (k : Level) → is_star k ≡ true → k ≡ Star
+unfolding is_star
 star Star e = refl
 star L0 e = absurd (true≢false (sym e))
 star L1 e = absurd (true≢false (sym e))
@@ -70,8 +71,8 @@ module _ (s : State) (v q : ℕ) where
       there = of_label (s.objects q) L at
 
       by : (b : Bool) → is_three (level_of L v) ≡ b → Decides (not b) (IsClear s v q)
-      by true is clear = clear there.0 there.1 (ap (λ (x : Levels). level_of x v) there.2 ∙ three (level_of L v) is)
-      by false is o at_q is_three_there =
+      by true is = λ clear. clear there.0 there.1 (ap (λ (x : Levels). level_of x v) there.2 ∙ three (level_of L v) is)
+      by false is = λ o at_q is_three_there.
           let same = same_object o there.0 (sym at_q ∙ there.1) in
           true≢false (ap is_three (sym is_three_there ∙ ap (λ (x : Object Levels). level_of x.label v) same
           ∙ ap (λ (x : Levels). level_of x v) there.2) ∙ is)
@@ -79,7 +80,7 @@ module _ (s : State) (v q : ℕ) where
   -- ---- the thread of a raw call
 
   pub tainted_if_no_thread : is_thread (s.objects q) ≡ false → IsTaintedCaller s v q
-  tainted_if_no_thread no o is thread = absurd (true≢false (sym thread ∙ ap is_thread (sym is) ∙ no))
+  tainted_if_no_thread none o is thread = absurd (true≢false (sym thread ∙ ap is_thread (sym is) ∙ none))
 
   pub tainted_decided : (L : Levels) → is_thread (s.objects q) ≡ true → label_there (s.objects q) ≡ Some L
       → Decides (is_three (level_of L v)) (IsTaintedCaller s v q)
@@ -89,10 +90,10 @@ module _ (s : State) (v q : ℕ) where
       there = of_label (s.objects q) L at
 
       by : (b : Bool) → is_three (level_of L v) ≡ b → Decides b (IsTaintedCaller s v q)
-      by true t o at_q thread =
+      by true t = λ o at_q thread.
           ap (λ (x : Object Levels). level_of x.label v) (same_object o there.0 (sym at_q ∙ there.1))
           ∙ ap (λ (x : Levels). level_of x v) there.2 ∙ three (level_of L v) t
-      by false t tainted =
+      by false t = λ tainted.
           true≢false (sym (ap is_three (sym (ap (λ (x : Levels). level_of x v) there.2)
           ∙ tainted there.0 there.1 (ap is_thread (sym there.1) ∙ is))) ∙ t)
 
@@ -114,6 +115,7 @@ module _ (s : State) (v : ℕ) (home : Home) where
         absurd (no_object (s.objects caller.thread) o none (ap (λ (c : Caller). s.objects c.thread) (sym (same_caller other is)) ∙ at))
 
     pub free_decided : (L : Levels) → label_there (s.objects caller.thread) ≡ Some L → Decides (is_free L v) (IsFreeThread s v home)
+    unfolding is_star
     free_decided L at = by (is_three (level_of L v)) (is_star (level_of L v)) refl refl
       where
         there : (o : Object Levels) × (s.objects caller.thread ≡ Some o) × (o.label ≡ L)
@@ -129,9 +131,9 @@ module _ (s : State) (v : ℕ) (home : Home) where
             (same_object o there.0 (sym at_it ∙ ap (λ (c : Caller). s.objects c.thread) (same_caller other is) ∙ there.1)) ∙ level_of_it
 
         by : (t w : Bool) → is_three (level_of L v) ≡ t → is_star (level_of L v) ≡ w → Decides (not t && not w) (IsFreeThread s v home)
-        by true w t_is w_is free = (free caller there.0 found there.1).0 (level_of_it ∙ three (level_of L v) t_is)
-        by false true t_is w_is free = (free caller there.0 found there.1).1 (level_of_it ∙ star (level_of L v) w_is)
-        by false false t_is w_is other o is at_it = (
+        by true w t_is w_is = λ free. (free caller there.0 found there.1).0 (level_of_it ∙ three (level_of L v) t_is)
+        by false true t_is w_is = λ free. (free caller there.0 found there.1).1 (level_of_it ∙ star (level_of L v) w_is)
+        by false false t_is w_is = λ other o is at_it. (
           λ e. true≢false (sym (ap is_three (sym (level_found other o is at_it) ∙ e)) ∙ t_is),
           λ e. true≢false (sym (ap is_star (sym (level_found other o is at_it) ∙ e)) ∙ w_is),
         )
@@ -150,7 +152,7 @@ module _ (s : State) (v : ℕ) (home : Home) where
         let no : Some k ≡ None = sym exited ∙ ap (λ (x : ProcessStatus). x.exited) (sym (same_status other is)) ∙ runs in absurd cc
 
     pub inside_decided : (b : Bool) → status.exited ≡ None → Decides b (IsClear s v status.internal) → Decides b (IsClearInside s v home)
-    inside_decided b runs = decides_too b
+    inside_decided b runs = decides_too _ _ b
         (λ clear other is runs_too. subst (λ (x : ProcessStatus). IsClear s v x.internal) (sym (same_status other is)) clear)
         (λ inside. inside status shown runs)
 
@@ -159,7 +161,7 @@ module _ (s : State) (v : ℕ) (home : Home) where
 module _ (s : State) (v : ℕ) (first : Home) where
   pub way_decided : (b : Bool) (n : ℕ) (above : ProcName) (home : Home) → IsClearWay s v first above → home_at s first (n ∷ above) ≡ Some home
       → Decides b (IsClearHome s v home) → Decides b (IsClearWay s v first (n ∷ above))
-  way_decided b n above home way at = decides_too b
+  way_decided b n above home way at = decides_too _ _ b
       (λ clear. (way, λ other is. subst (IsClearHome s v) (same_home home other (sym at ∙ is)) clear))
       (λ all. all.1 home at)
     where
@@ -181,7 +183,7 @@ module _ (s : State) (v : ℕ) (first : Home) where
 
     pub outside_decided : (b : Bool) (home : Home) → home_at s first me ≡ Some home
         → Decides b (IsClearInside s v home × IsFreeThread s v home) → Decides b (IsOutsideCaller s v first me)
-    outside_decided b home found = decides_too b
+    outside_decided b home found = decides_too _ _ b
         (λ both. record {
           way = way;
           inside = λ other status at. subst (λ (x : Home). status_at s x.segment ≡ Some status → status.exited ≡ None → IsClear s v status.internal)

@@ -130,16 +130,16 @@ module _ (category : Categories) (different : AreDifferent category) (n : ℕ) (
         ]
 
     pub job_found : has p.chain job ≡ true → has parent.chain job ≡ false → read_category_in outer inner ≡ Some (category (OfJob job))
-    job_found is no =
+    job_found is lost =
         found_in_label test (category (OfJob job)) inner L3
         (level_at job p job ∙ ap (λ b. guarded_level b false) is)
         (λ e. let wrong : L3 ≡ L1 = e ∙ default_guarded (map category (map OfJob p.chain)) (category (WritesProcess job) ∷ []) in
         true≢false (ap is_three wrong))
-        (ap (λ (k : Level). not (is_three k)) (level_at above parent job ∙ ap (λ b. guarded_level b false) no))
+        (ap (λ (k : Level). not (is_three k)) (level_at above parent job ∙ ap (λ b. guarded_level b false) lost))
         (λ d m at passes. (only d m at passes).0)
 
     pub job_lost : has p.chain job ≡ false → read_category_in outer inner ≡ None
-    job_lost no = none_in_label test inner (λ d m at passes. true≢false (sym (only d m at passes).1 ∙ no))
+    job_lost lost = none_in_label test inner (λ d m at passes. true≢false (sym (only d m at passes).1 ∙ lost))
 
 -- ---- states that represent flat states
 
@@ -212,16 +212,16 @@ module _ (accounts : Accounts) (s : State) (f : Flat) (rep : Represents accounts
               subst Has
               (sym (job_found l.category l.different n above p parent (λ j e. known j e parent there) is (no_parent is parent there)))
               ((p, here, runs, is), refl)
-          by false no =
-              subst Has (sym (job_lost l.category l.different n above p parent (λ j e. known j e parent there) no))
+          by false lost =
+              subst Has (sym (job_lost l.category l.different n above p parent (λ j e. known j e parent there) lost))
               (λ r. let same : r.0 ≡ p = same_process r.0 p (sym r.1 ∙ here) in
-              true≢false (sym r.3 ∙ ap (λ (q : Process). has q.chain me) same ∙ no))
+              true≢false (sym r.3 ∙ ap (λ (q : Process). has q.chain me) same ∙ lost))
             where
               same_process : (a b : Process) → Some a ≡ Some b → a ≡ b
               same_process a b e = cc
 
     by_search : (o : Option Caller) → caller_at s first me ≡ o → Has (by_caller o)
-    by_search None lost r =
+    by_search None lost = λ r.
         let there = callers_are_there accounts s f l me in
         let runs : is_some (running f me) ≡ true =
         ap (λ (x : Option Process). is_some (if_running x)) r.1
@@ -244,6 +244,6 @@ module _ (accounts : Accounts) (s : State) (f : Flat) (rep : Represents accounts
     below_first = subst (λ (o : Option Caller). Has (by_caller o)) refl (by_search (caller_at s first me) refl)
 
 pub jobs_have_their_categories : JobsHaveTheirCategories
-jobs_have_their_categories accounts s f rep [] reached r =
+jobs_have_their_categories accounts s f rep [] reached = λ r.
     (jobs accounts s f rep reached).child [] r.0 [] r.1 (or_left (has r.0.chain []) (has r.0.held []) r.3) refl
 jobs_have_their_categories accounts s f rep (n ∷ above) reached = below_first accounts s f rep reached n above

@@ -4,3 +4,4 @@ pub mod ItemsTaken
 pub mod LinesRead
 pub mod Deciding
 pub mod JobCategories
+pub mod HandledLines

@@ -1,5 +1,5 @@
 -- What becomes of the lines of an attack, and what is written of them.
-use Rattle.std.specs.Prelude.{◌≡◌, ℕ, List, [], ◌∷◌, ◌++◌, codes, decimal, Result, Ok}
+use Rattle.std.specs.Prelude.{◌≡◌, ℕ, List, [], ◌∷◌, ◌++◌, codes, decimal, map, Result, Ok}
 use Rattle.std.specs.List.{flat_map}
 use Rattle.histar_flat.specs.declared.calls.CallLine.{CallLine}
 use Rattle.histar_flat.specs.Calls.{IsCall}
@@ -78,3 +78,10 @@ pub record HandlesItem (v : ℕ) (old new : MachineModel) (before after : List �
   pub line : line_of handled ≡ item
   pub handles : Handles v old new handled
   pub written : after ≡ before ++ handled_text handled
+
+-- this became of lines, which were written
+pub record HandlesItems (v : ℕ) (old new : MachineModel) (before after : List ℕ) (items : List MixedItem) : Type 0 where
+  pub handled : List Handled
+  pub lines : map line_of handled ≡ items
+  pub in_turn : HandlesInTurn v old handled new
+  pub written : after ≡ before ++ handled_texts handled

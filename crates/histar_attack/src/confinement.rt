@@ -1,5 +1,7 @@
 //! Whether a line of an attack may be made: tests of labels in the kernel's own table, with no raw call.
-ghost use Rattle.std.specs.Prelude.{◌≡◌};
+ghost use Rattle.std.specs.Prelude.{◌≡◌, ◌&&◌, not};
+ghost use Rattle.histar_level.specs.Levels.{level_of};
+ghost use Rattle.histar_layout.specs.Jobs.{is_three};
 ghost use Rattle.histar_outside.specs.Search.{IsClear, IsClearHome, IsClearWay, IsOutsideCaller};
 ghost use Rattle.histar_programs.specs.Caller.{read_category_in};
 ghost use Rattle.histar_rules.specs.Visible.{IsTaintedCaller};
@@ -7,7 +9,7 @@ ghost use Rattle.histar_syscall.specs.KernelModel.{state};
 ghost use Rattle.histar_attack.specs.Confinement.{Decides, IsClearInside, IsFreeThread, is_free, job_category};
 
 use histar_flat::ProcName;
-use histar_label::{Category, Label, LabelStore};
+use histar_label::{Category, Label, LabelStore, Level};
 use histar_layout::{is_three, read_status};
 use histar_object::ObjId;
 use histar_programs::{Home, caller_in, find_caller, home_at};
@@ -55,18 +57,18 @@ fn is_clear_home<S: LabelStore + Drop>(
 fn is_clear_way<S: LabelStore + Drop>(
     kernel: &Kernel<S>,
     category: Category,
-    first: Home,
+    first: &Home,
     numbers: &[u8],
 ) -> bool
-    ensures { Decides result (IsClearWay (state kernel.now) category first numbers.now) }
+    ensures { Decides result (IsClearWay (state kernel.now) category first.now numbers.now) }
 {
     let [_, above @ ..] = numbers else {
-        return is_clear_home(kernel, category, &first);
+        return is_clear_home(kernel, category, first);
     };
     if !is_clear_way(kernel, category, first, above) {
         return false;
     }
-    match home_at(kernel, first, numbers) {
+    match home_at(kernel, *first, numbers) {
         Some(home) => is_clear_home(kernel, category, &home),
         None => true,
     }
@@ -119,20 +121,27 @@ fn is_free_thread<S: LabelStore + Drop>(
 pub fn is_outside_caller<S: LabelStore + Drop>(
     kernel: &Kernel<S>,
     category: Category,
-    first: Home,
+    first: &Home,
     process: &ProcName,
 ) -> bool
-    ensures { Decides result (IsOutsideCaller (state kernel.now) category first process.now) }
+    ensures { Decides result (IsOutsideCaller (state kernel.now) category first.now process.now) }
 {
     if !is_clear_way(kernel, category, first, process.numbers()) {
         return false;
     }
-    match home_at(kernel, first, process.numbers()) {
+    match home_at(kernel, *first, process.numbers()) {
         Some(home) => {
             is_clear_inside(kernel, category, &home) && is_free_thread(kernel, category, &home)
         }
         None => true,
     }
+}
+
+/// Checks whether a category has level 3, and hasn't in another label.
+fn is_own_secret(outer: &Label, category: Category, level: Level) -> bool
+    ensures { result ≡ (is_three level && not (is_three (level_of outer.now category))) }
+{
+    is_three(level) && !is_three(outer.get(category))
 }
 
 /// Returns the first category that a label has at 3 and another one doesn't.
@@ -141,7 +150,7 @@ fn own_category(outer: &Label, inner: &Label) -> Option<Category>
 {
     let exceptions = inner.exceptions();
     for &(category, level) in exceptions {
-        if is_three(level) && !is_three(outer.get(category)) {
+        if is_own_secret(outer, category, level) {
             return Some(category);
         }
     }
@@ -152,16 +161,16 @@ fn own_category(outer: &Label, inner: &Label) -> Option<Category>
 /// it, and that of the process above isn't.
 pub fn job_category<S: LabelStore + Drop>(
     kernel: &Kernel<S>,
-    first: Home,
+    first: &Home,
     job: &ProcName,
 ) -> Option<Category>
-    ensures { result ≡ job_category (state kernel.now) first job.now }
+    ensures { result ≡ job_category (state kernel.now) first.now job.now }
 {
     let [_, above @ ..] = job.numbers() else {
         return None;
     };
-    let caller = find_caller(kernel, first, job)?;
-    let parent = home_at(kernel, first, above)?;
+    let caller = find_caller(kernel, *first, job)?;
+    let parent = home_at(kernel, *first, above)?;
     let outer = kernel.label(parent.container)?;
     let inner = kernel.label(caller.home.container)?;
     own_category(outer, inner)

@@ -3,9 +3,13 @@
 #![tactic(auto)]
 
 mod confinement;
+mod handling;
 mod items;
 mod reader;
+mod session;
+mod texts;
 
 pub use confinement::{is_outside_caller, is_tainted_caller, job_category};
 pub use items::{Mark, MixedItem};
 pub use reader::{Mixed, read_mixed};
+pub use session::attack;
