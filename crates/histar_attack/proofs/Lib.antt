@@ -5,3 +5,5 @@ pub mod LinesRead
 pub mod Deciding
 pub mod JobCategories
 pub mod HandledLines
+pub mod Parting
+pub mod Attacked

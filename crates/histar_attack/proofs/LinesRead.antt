@@ -240,8 +240,8 @@ module _ (text rest after line : List ℕ) (count : ℕ) (old : ScriptModel) (ms
   }
 
   -- a bad line of either kind is the first one
-  pub line_bad : (fault : Fault) → IsLineFault (count + 1) (IsBadPart (raw_part line) (count + 1) line old) fault → IsMixedFault text fault
-  line_bad (BadScript n) bad = subst (IsFirstBad text) (sym bad.0) (by (raw_part line) refl bad.1)
+  pub line_bad : is_too_long text ≡ false → (fault : Fault) → IsLineFault (count + 1) (IsBadPart (raw_part line) (count + 1) line old) fault → IsMixedFault text fault
+  line_bad short (BadScript n) bad = (short, subst (IsFirstBad text) (sym bad.0) (by (raw_part line) refl bad.1))
     where
       by : (part : Option (List ℕ)) → raw_part line ≡ part → IsBadPart part (count + 1) line old → IsFirstBad text (count + 1)
       by None none not_taken =
@@ -258,10 +258,10 @@ module _ (text rest after line : List ℕ) (count : ℕ) (old : ScriptModel) (ms
                 ∙ ap (λ (l : List ℕ). with_lines old count (l ∷ map unix_line (lines_of after))) (sym (unix_if_some line call some))
                 ∙ goes_on ∙ faulty),
           )
-  line_bad TooLong bad = absurd bad
-  line_bad OutOfMemory bad = tt
-  line_bad ReadFailed bad = absurd bad
-  line_bad WriteFailed bad = absurd bad
+  line_bad short TooLong bad = absurd bad
+  line_bad short OutOfMemory bad = tt
+  line_bad short ReadFailed bad = absurd bad
+  line_bad short WriteFailed bad = absurd bad
 
 -- ---- the end of the text
 

@@ -46,9 +46,9 @@ pub record HasAnswered (accounts : Accounts) (before : List RepliedCall) (m : Ma
   pub under_way : IsUnderWay accounts m (flat_end accounts (boot accounts) (calls_of before))
 
 -- v is the category of the job, by each naming of each flat state that the machine represents and calls lead to
-abbrev pub IsJobCategory : ProcName → ℕ → MachineModel → Type 0
-IsJobCategory job v m = (accounts : Accounts) (f : Flat) (rep : Represents accounts (state m.kernel) f)
-    → IsReached accounts f → RunsJob f job → rep.matched.category (OfJob job) ≡ v
+abbrev pub IsJobCategory : Accounts → ProcName → ℕ → MachineModel → Type 0
+IsJobCategory accounts job v m = (f : Flat) (rep : Represents accounts (state m.kernel) f) → IsReached accounts f
+    → RunsJob f job → rep.matched.category (OfJob job) ≡ v
 
 -- The first process of the job runs when the first raw call comes, and v is the job's category. Each later line is
 -- handled as v says. The Unix calls that are made, with those before, are answered as the rules say for a script of these
@@ -58,7 +58,7 @@ pub record Attacks (job : ProcName) (accounts : Accounts) (before : List Replied
   pub runs : RunsJob (flat_end accounts (boot accounts) (calls_of before)) job
   pub v : ℕ
   pub job_has : HasJob accounts job v m (flat_end accounts (boot accounts) (calls_of before))
-  pub category : IsJobCategory job v m
+  pub category : IsJobCategory accounts job v m
   pub handled : List Handled
   pub lines : map line_of handled ≡ later
   pub end : MachineModel

@@ -115,7 +115,7 @@ IsLineFault n IsBad fault = ⊥
 -- the fault of a text: it is too long, or this line is the first bad one; or memory ran out
 abbrev pub IsMixedFault : List ℕ → Fault → Type 0
 IsMixedFault text TooLong = IsTrue (is_too_long text)
-IsMixedFault text (BadScript n) = IsFirstBad text n
+IsMixedFault text (BadScript n) = (is_too_long text ≡ false) × IsFirstBad text n
 IsMixedFault text OutOfMemory = Unit {0}
 IsMixedFault text fault = ⊥
 

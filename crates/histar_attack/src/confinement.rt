@@ -43,11 +43,7 @@ fn is_clear<S: LabelStore + Drop>(kernel: &Kernel<S>, category: Category, object
 }
 
 /// Checks whether neither the container nor the segment of a process is tainted.
-fn is_clear_home<S: LabelStore + Drop>(
-    kernel: &Kernel<S>,
-    category: Category,
-    home: &Home,
-) -> bool
+fn is_clear_home<S: LabelStore + Drop>(kernel: &Kernel<S>, category: Category, home: &Home) -> bool
     ensures { Decides result (IsClearHome (state kernel.now) category home.now) }
 {
     is_clear(kernel, category, home.container) && is_clear(kernel, category, home.segment)
@@ -100,11 +96,7 @@ fn is_free(own: &Label, category: Category) -> bool
 }
 
 /// Checks whether the thread of the process at a place, if it runs, neither is tainted nor owns the category.
-fn is_free_thread<S: LabelStore + Drop>(
-    kernel: &Kernel<S>,
-    category: Category,
-    home: &Home,
-) -> bool
+fn is_free_thread<S: LabelStore + Drop>(kernel: &Kernel<S>, category: Category, home: &Home) -> bool
     ensures { Decides result (IsFreeThread (state kernel.now) category home.now) }
 {
     let Some(caller) = caller_in(kernel, *home) else {

@@ -17,15 +17,18 @@ loop-rest-preserved c =
 pub returns-in_err-read_line-clause-err : goal.returns-in_err-read_line-clause-err
 returns-in_err-read_line-clause-err c =
     rw (passed_on _ _ c.from_residual.ensures.1) (line_bad c.args.text.now c.loop-rest.rest.now c.split_line.result.1.now c.split_line.result.0.now c.loop-rest.count
-    c.loop-rest.script c.loop-rest.marks.items c.loop-rest.invariant.so_far c.split_line.ensures.first c.in_err-read_line.field-0.0
+    c.loop-rest.script c.loop-rest.marks.items c.loop-rest.invariant.so_far c.split_line.ensures.first c.requires.short
+    c.in_err-read_line.field-0.0
     c.in_err-read_line.ensures)
 
 pub returns-then-is_empty-clause-err : goal.returns-then-is_empty-clause-err
 returns-then-is_empty-clause-err c =
     let none : length c.loop-rest.rest.now ≡ 0 = search rules in
-    let empty : eqb (length c.loop-rest.script.accounts.users) 0 ≡ true = search rules in
-    no_users c.args.text.now c.loop-rest.rest.now c.loop-rest.count c.loop-rest.script c.loop-rest.marks.items none
-    c.loop-rest.invariant.so_far empty
+    let empty : eqb (length c.loop-rest.script.accounts.users) 0 ≡ true = search rules in (
+      c.requires.short,
+      no_users c.args.text.now c.loop-rest.rest.now c.loop-rest.count c.loop-rest.script c.loop-rest.marks.items none
+          c.loop-rest.invariant.so_far empty,
+    )
 
 pub returns-clause-ok : goal.returns-clause-ok
 returns-clause-ok c =
