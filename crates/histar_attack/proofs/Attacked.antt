@@ -1,5 +1,5 @@
 -- The Unix calls that are made in an attack are answered as the rules say for these calls alone.
-use Rattle.std.proofs.Common.{◌≡◌, ℕ, ◌+◌, ◌*◌, ◌≤◌, ◌<◌, Bool, true, false, List, [], ◌∷◌, ◌++◌, codes, length, map, Option, None, Some, Result, Ok, Err, ◌⊎◌}
+use Rattle.std.proofs.Common.{◌≡◌, ℕ, ◌+◌, ◌*◌, ◌≤◌, ◌<◌, Bool, true, false, List, [], ◌∷◌, ◌++◌, codes, length, Option, None, Some, Result, Ok, Err, ◌⊎◌}
 use Rattle.std.proofs.Common.{refl, sym, ap, ◌∙◌, subst, inl, inr}
 use Rattle.std.specs.Prelude.{IfErr, IfOk, MatchOption}
 use Rattle.std.specs.Global.{Vec}
@@ -10,7 +10,7 @@ use Rattle.histar_flat.specs.declared.calls.CallLine.{CallLine}
 use Rattle.histar_flat.specs.Words.{ProcName}
 use Rattle.histar_flat.specs.Accounts.{Accounts, has}
 use Rattle.histar_flat.specs.FlatState.{Flat}
-use Rattle.histar_flat.specs.Meaning.{RepliedCall, answered_from, boot, flat_end, meaning}
+use Rattle.histar_flat.specs.Meaning.{RepliedCall, answered_from, boot, flat_end}
 use Rattle.histar_flat.proofs.Laws.{replies_go_on, states_go_on}
 use Rattle.histar_secrecy.specs.Noninterference.{IsReached}
 use Rattle.histar_script.specs.declared.fault.Fault.{Fault}
@@ -23,7 +23,7 @@ use Rattle.histar_programs.specs.declared.roots.Home.{Home}
 use Rattle.histar_programs.specs.Start.{declared, roots_of}
 use Rattle.histar_refinement.specs.Categories.CategoryName.{OfJob}
 use Rattle.histar_refinement.specs.Represents.{Represents}
-use Rattle.histar_shell.specs.Answers.{answers_text, calls_of}
+use Rattle.histar_shell.specs.Answers.{calls_of}
 use Rattle.histar_shell.specs.Machine.{IsStart, MachineModel}
 use Rattle.histar_shell.specs.Meaning.{ShowsStart}
 use Rattle.histar_shell.specs.RawCalls.{AnswersRaw, MakesRaw, denied_of}
@@ -36,10 +36,10 @@ use Rattle.histar_outside.proofs.JobsBegin.{booted_under_way}
 use Rattle.histar_outside.proofs.LaterNumbers.{made_later}
 use Rattle.histar_outside.proofs.Starts.{attacks_start}
 use Rattle.histar_attack.specs.declared.items.MixedItem.{MixedItem}
-use Rattle.histar_attack.specs.Answering.{AnswersEach, GivesOutput}
-use Rattle.histar_attack.specs.Attack.{Attacks, FindsNoJob, GivesAttack, HasAnswered, IsAttack, IsJobCategory, first_unix, from_raw}
+use Rattle.histar_attack.specs.Answering.{GivesOutput}
+use Rattle.histar_attack.specs.Attack.{Attacks, FindsNoJob, GivesAttack, HasAnswered, IsAttack, first_unix, from_raw}
 use Rattle.histar_attack.specs.Confinement.{RunsJob, job_category}
-use Rattle.histar_attack.specs.Handling.{Handled, Handles, HandlesInTurn, HandlesItems, handled_texts, replied_of}
+use Rattle.histar_attack.specs.Handling.{Handled, HandlesInTurn, HandlesItems, handled_texts, replied_of}
 use Rattle.histar_attack.specs.Handling.Handled.{Answered, Inside, NotConfined, Replied}
 use Rattle.histar_attack.specs.Mixed.{IsMixed}
 use Rattle.histar_attack.proofs.JobCategories.{jobs_have_their_categories}

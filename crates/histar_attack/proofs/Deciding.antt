@@ -1,5 +1,5 @@
 -- What tests of labels say.
-use Rattle.std.proofs.Common.{◌≡◌, ◌≢◌, ℕ, Bool, true, false, ◌&&◌, [], ◌∷◌, Option, None, Some, refl, sym, ap, ◌∙◌, subst}
+use Rattle.std.proofs.Common.{◌≡◌, ℕ, Bool, true, false, ◌&&◌, ◌∷◌, Option, None, Some, refl, sym, ap, ◌∙◌, subst}
 use Rattle.std.specs.Prelude.{not}
 use mathlib.Core.Bool.{true≢false}
 use Rattle.histar_flat.specs.Words.{ProcName}
@@ -8,14 +8,14 @@ use Rattle.histar_level.specs.declared.level.Level.TheVariants.{Star, L0, L1, L2
 use Rattle.histar_level.specs.Level.{is_star}
 use Rattle.histar_level.specs.Levels.{Levels, level_of}
 use Rattle.histar_object.specs.declared.objects.Object.{Object}
-use Rattle.histar_object.specs.Objects.{is_thread, kind_is_thread, label_there}
+use Rattle.histar_object.specs.Objects.{is_thread, label_there}
 use Rattle.histar_object.specs.State.{Found, State}
 use Rattle.histar_rules.specs.Visible.{IsTaintedCaller}
 use Rattle.histar_layout.specs.Jobs.{is_three}
 use Rattle.histar_layout.specs.Status.{ProcessStatus}
 use Rattle.histar_programs.specs.declared.roots.Home.{Home}
 use Rattle.histar_programs.specs.declared.caller.Caller.{Caller}
-use Rattle.histar_programs.specs.Caller.{caller_at, caller_in, home_at, status_at}
+use Rattle.histar_programs.specs.Caller.{caller_in, home_at, status_at}
 use Rattle.histar_layout.specs.Reading.{◌>>=◌}
 use Rattle.histar_outside.specs.Search.{IsClear, IsClearHome, IsClearWay, IsOutsideCaller}
 use Rattle.histar_attack.specs.Confinement.{Decides, IsClearInside, IsFreeThread, is_free}

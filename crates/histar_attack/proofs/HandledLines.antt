@@ -1,33 +1,23 @@
 -- Lines of an attack, one after another.
-use Rattle.std.proofs.Common.{◌≡◌, ℕ, ◌+◌, ◌*◌, ◌≤◌, ◌<◌, Bool, true, false, List, [], ◌∷◌, ◌++◌, map, Option, None, Some, Result, Ok, Err, refl, sym, ap}
-use Rattle.std.proofs.Common.{◌∙◌, subst, inl, inr, append_assoc, append-nil}
-use Rattle.std.specs.Prelude.{IfOk, OnOk}
+use Rattle.std.proofs.Common.{◌≡◌, ℕ, Bool, true, false, List, [], ◌∷◌, ◌++◌, Result, Ok, Err, refl, sym, ap}
+use Rattle.std.proofs.Common.{◌∙◌, subst, append_assoc, append-nil}
+use Rattle.std.specs.Prelude.{OnOk}
 use Rattle.std.proofs.lemmas.List.{map-append}
 use Rattle.std.proofs.lemmas.List.Concat.{flat_map-append}
-use mathlib.Core.Bool.{false≢true}
 use Rattle.histar_flat.specs.declared.calls.CallLine.{CallLine}
-use Rattle.histar_flat.specs.declared.replies.Reply.{Reply}
 use Rattle.histar_flat.specs.Calls.{IsCall}
 use Rattle.histar_flat.specs.Words.{ProcName}
-use Rattle.histar_flat.specs.Accounts.{Accounts}
-use Rattle.histar_flat.specs.FlatState.{Flat}
-use Rattle.histar_flat.specs.FlatCalls.{flat_after}
 use Rattle.histar_flat.specs.Meaning.{RepliedCall, answered_from, flat_end}
 use Rattle.histar_flat.proofs.Laws.{replies_go_on, states_go_on}
-use Rattle.histar_rules.specs.declared.raw.Denied.{Denied}
 use Rattle.histar_rules.specs.Visible.{IsTaintedCaller}
-use Rattle.histar_syscall.specs.declared.answers.Answer.{Answer}
 use Rattle.histar_syscall.specs.KernelModel.{KernelModel, state}
 use Rattle.histar_programs.specs.declared.roots.Roots.{Roots}
 use Rattle.histar_raw_session.specs.declared.read_session.RawLine.{RawLine}
-use Rattle.histar_raw_session.specs.Answers.{line_text as raw_line_text}
-use Rattle.histar_shell.specs.Answers.{answer_text, answers_text, calls_of, line_text}
+use Rattle.histar_shell.specs.Answers.{answer_text, answers_text, calls_of}
 use Rattle.histar_shell.specs.AnsweredCalls.{AnswersInTurn}
 use Rattle.histar_shell.specs.Machine.{AnswersLine, MachineModel}
-use Rattle.histar_shell.specs.RawCalls.{AnswersRaw, MakesRaw, denied_of}
 use Rattle.histar_shell.proofs.CallRefinements.{calls_refine}
 use Rattle.histar_shell.proofs.LineMeanings.{line_follows}
-use Rattle.histar_outside.specs.Attacks.{IsRawStep}
 use Rattle.histar_outside.specs.NamedAttacks.{IsUnderWay}
 use Rattle.histar_outside.specs.Search.{IsOutsideCaller}
 use Rattle.histar_outside.proofs.JobsBegin.{lines_lead_on}
@@ -35,7 +25,7 @@ use Rattle.histar_attack.specs.declared.items.MixedItem.{MixedItem}
 use Rattle.histar_attack.specs.declared.items.MixedItem.TheVariants as items
 use Rattle.histar_attack.specs.Answering.{AnswersEach, AnswersOne, AnswersRawLine, LeadsOn}
 use Rattle.histar_attack.specs.Confinement.{Decides}
-use Rattle.histar_attack.specs.Handling.{Handled, Handles, HandlesInTurn, HandlesItem, HandlesItems, handled_text, handled_texts, line_of}
+use Rattle.histar_attack.specs.Handling.{Handled, HandlesInTurn, HandlesItem, HandlesItems, handled_text, handled_texts, line_of}
 use Rattle.histar_attack.specs.Handling.Handled.{Answered, Inside, NotConfined, Replied}
 
 -- ---- Unix calls before an attack

@@ -1,5 +1,5 @@
 -- The category of a job is the one that its first process's container has at 3 and that of the process above hasn't.
-use Rattle.std.proofs.Common.{◌≡◌, ◌≢◌, ℕ, zero, suc, ◌⊎◌, Bool, true, false, ◌&&◌, List, [], ◌∷◌, map, Option, None, Some, Contains, length}
+use Rattle.std.proofs.Common.{◌≡◌, ℕ, zero, suc, ◌⊎◌, Bool, true, false, ◌&&◌, List, [], ◌∷◌, map, Option, None, Some, Contains, length}
 use Rattle.std.proofs.Common.{refl, sym, ap, ◌∙◌, subst, inl, inr, arith, if◌then◌else◌}
 use Rattle.std.specs.Prelude.{MatchOption, is_some, nat_eq, not, option_and_then, option_map}
 use Rattle.std.specs.Cmp.Lexicographic.{pointwise}
@@ -20,7 +20,7 @@ use Rattle.histar_secrecy.proofs.Family.{processes_are_a_tree}
 use Rattle.histar_secrecy.proofs.Knowing.{AreJobs, jobs_at_end}
 use Rattle.histar_level.specs.declared.level.Level.{Level}
 use Rattle.histar_level.specs.declared.level.Level.TheVariants.{L1, L3}
-use Rattle.histar_level.specs.Levels.{Levels, default_of, exceptions_of, level_of}
+use Rattle.histar_level.specs.Levels.{Levels, exceptions_of, level_of}
 use Rattle.histar_label.proofs.Listed.{ListsExceptions-exceptions_of}
 use Rattle.histar_object.specs.Objects.{label_there}
 use Rattle.histar_object.specs.State.{State}
@@ -35,7 +35,7 @@ use Rattle.histar_programs.specs.Start.{roots_of}
 use Rattle.histar_refinement.specs.Addresses.{home_address}
 use Rattle.histar_refinement.specs.Agrees.{bare}
 use Rattle.histar_refinement.specs.Asked.AsksFor.{AtHome}
-use Rattle.histar_refinement.specs.Categories.{AreDifferent, Categories, CategoryName}
+use Rattle.histar_refinement.specs.Categories.{AreDifferent, Categories}
 use Rattle.histar_refinement.specs.Categories.CategoryName.{OfJob, WritesProcess}
 use Rattle.histar_refinement.specs.Guards.{guard_label}
 use Rattle.histar_refinement.specs.Labels.{process_guard}

@@ -19,9 +19,9 @@ use Rattle.histar_attack.specs.declared.items.Mark.{Mark}
 use Rattle.histar_attack.specs.declared.items.Mark.TheVariants as marks
 use Rattle.histar_attack.specs.declared.items.MixedItem.{MixedItem}
 use Rattle.histar_attack.specs.declared.items.MixedItem.TheVariants.{Unix, Raw}
-use Rattle.histar_attack.specs.Mixed.{AddsRaw, AreRawBefore, IsBadRaw, IsFirstBad, IsLineFault, IsMixed, IsMixedFault, SayRaw, in_order, raw_of, raw_part}
+use Rattle.histar_attack.specs.Mixed.{AddsRaw, AreRawBefore, IsFirstBad, IsLineFault, IsMixed, IsMixedFault, SayRaw, in_order, raw_of, raw_part}
 use Rattle.histar_attack.specs.Mixed.{unix_line, unix_reading}
-use Rattle.histar_attack.specs.Taking.{AddsCall, IsBadPart, ReadsRaw, ReadsUnix, TakesLine, TakesPart, marked}
+use Rattle.histar_attack.specs.Taking.{AddsCall, IsBadPart, TakesLine, TakesPart, marked}
 use Rattle.histar_attack.proofs.Marks.{RiseWithin, marks_more, raw_more, raws_apart, rise_all, rise_later, rise_more}
 use Rattle.histar_attack.proofs.Marks.{unix_kept, unix_marks, unix_more}
 

@@ -7,7 +7,7 @@ use Rattle.histar_flat.specs.declared.calls.CallLine.{CallLine}
 use Rattle.histar_flat.specs.Words.{ProcName}
 use Rattle.histar_flat.specs.Accounts.{Accounts}
 use Rattle.histar_flat.specs.FlatState.{Flat}
-use Rattle.histar_flat.specs.Meaning.{RepliedCall, answered_from, boot, flat_end, meaning}
+use Rattle.histar_flat.specs.Meaning.{RepliedCall, boot, flat_end, meaning}
 use Rattle.histar_secrecy.specs.Noninterference.{IsReached}
 use Rattle.histar_script.specs.declared.fault.Fault.{Fault}
 use Rattle.histar_script.specs.declared.fault.Fault.TheVariants.{BadScript, TooLong, OutOfMemory, ReadFailed, WriteFailed}

@@ -1,5 +1,5 @@
 -- Proves the goals of `handle_raw` of src/handling.rt that the search leaves open.
-use Rattle.std.proofs.Common.{◌≡◌, true, false, sym, ◌∙◌, rules}
+use Rattle.std.proofs.Common.{rules}
 use Rattle.histar_attack.proofs.HandledLines.{raw_free, raw_made, tainted_there}
 use Rattle.histar_attack.proofs.handling.handle_raw.Goals as goal
 

@@ -1,5 +1,5 @@
 -- Proves the goals of `handle_unix` of src/handling.rt that the search leaves open.
-use Rattle.std.proofs.Common.{◌≡◌, true, false, sym, ◌∙◌, rules}
+use Rattle.std.proofs.Common.{rules}
 use Rattle.histar_attack.proofs.HandledLines.{outside_there, unix_inside, unix_made}
 use Rattle.histar_attack.proofs.handling.handle_unix.Goals as goal
 

@@ -1,5 +1,5 @@
 -- Proves the goals of `in_order` of src/items.rt that the search leaves open.
-use Rattle.std.proofs.Common.{◌≡◌, List, [], ◌++◌, None, sym, ap, ◌∙◌, rules}
+use Rattle.std.proofs.Common.{◌≡◌, [], None, sym, ap, ◌∙◌, rules}
 use Rattle.std.proofs.lemmas.List.{append-nil, map-id}
 use Rattle.std.proofs.lemmas.Iterator.Adapters.{YieldsList-from_vec}
 use Rattle.std.proofs.lemmas.Iterator.Consumers.{YieldsList-end}

@@ -1,7 +1,7 @@
 -- Proves the goals of `read_lines` of src/reader.rt that the search leaves open.
-use Rattle.std.proofs.Common.{◌≡◌, true, false, eqb, length, sym, arith, subst, rules, ◌∙◌}
+use Rattle.std.proofs.Common.{◌≡◌, true, false, eqb, length, arith, rules}
 use Rattle.histar_io.proofs.Residuals.{passed_on}
-use Rattle.histar_attack.proofs.LinesRead.{all_read, line_bad, line_read, no_users, nothing_so_far}
+use Rattle.histar_attack.proofs.LinesRead.{all_read, line_bad, line_read, no_users}
 use Rattle.histar_attack.proofs.reader.read_lines.Goals as goal
 
 pub loop-rest-preserved : goal.loop-rest-preserved
