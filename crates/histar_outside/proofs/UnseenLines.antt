@@ -171,8 +171,8 @@ module _ (accounts : Accounts) (v : ℕ) where
     -- a call of a program is a raw call that was made
     asked_step : (call : RawCall) (outcome : Outcome call) (old mid : KernelModel) → Asked old mid t call outcome
         → IsRawStep (with_kernel old) (with_kernel mid) t call
-    asked_step call (Ok answer) old mid asked = record { made = (None, asked.0); roots = refl; users = refl; runs = refl }
-    asked_step call (Err denied) old mid asked = record { made = (Some denied, asked); roots = refl; users = refl; runs = refl }
+    asked_step call (Ok answer) old mid asked = record { line = old.line; made = (None, asked.0); roots = refl; users = refl; runs = refl }
+    asked_step call (Err denied) old mid asked = record { line = old.line; made = (Some denied, asked); roots = refl; users = refl; runs = refl }
 
     -- a state that stays is alike to what it was alike to
     stays : (old new : KernelModel) (clean : MachineModel) → AreAlikeMachines accounts v (with_kernel old) clean f → state new ≡ state old

@@ -6,5 +6,6 @@ mod lines;
 pub mod read_session;
 mod session;
 
+pub use lines::{answer_line, denial_line};
 pub use read_session::RawLine;
 pub use session::{answer_call, empty_kernel, run_raw_script};

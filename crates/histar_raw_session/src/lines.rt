@@ -18,11 +18,7 @@ fn write_number(alloc: Global, number: u32) -> Result<Vec<u8>, AllocError>
 }
 
 /// Prints the line of a granted call: its number, an equals sign, and its answer.
-pub(crate) fn answer_line(
-    alloc: Global,
-    number: u32,
-    answer: &Answer,
-) -> Result<Vec<u8>, AllocError>
+pub fn answer_line(alloc: Global, number: u32, answer: &Answer) -> Result<Vec<u8>, AllocError>
     ensures { IfOk result (λ line. line.items ≡ line_text number (Ok answer.now)) }
 {
     let mut line = write_number(alloc, number)?;
@@ -33,7 +29,7 @@ pub(crate) fn answer_line(
 }
 
 /// Prints the line of a denied call: its number, and the name of the denial.
-pub(crate) fn denial_line(alloc: Global, number: u32, denied: Denied) -> Result<Vec<u8>, AllocError>
+pub fn denial_line(alloc: Global, number: u32, denied: Denied) -> Result<Vec<u8>, AllocError>
     ensures { IfOk result (λ line. line.items ≡ line_text number (Err denied)) }
 {
     let mut line = write_number(alloc, number)?;

@@ -19,7 +19,7 @@ pub struct RawLine {
 }
 
 /// Checks whether a line is a comment.
-fn is_comment(line: &[u8]) -> bool
+pub fn is_comment(line: &[u8]) -> bool
     ensures { result ≡ comment line.now }
 {
     match line {
@@ -29,7 +29,7 @@ fn is_comment(line: &[u8]) -> bool
 }
 
 /// Reads the raw call of line `number`, which is no comment.
-fn read_call(alloc: Global, number: u32, line: &[u8]) -> Result<RawLine, Fault>
+pub fn read_call(alloc: Global, number: u32, line: &[u8]) -> Result<RawLine, Fault>
     requires { comment line.now ≡ false }
     ensures ok { IfOk result (SaysCall number line.now) }
     ensures err { IfErr result (IsBadLineOf (λ n. (n ≡ number) × IsBadLine line.now)) }

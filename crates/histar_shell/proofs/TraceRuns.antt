@@ -1,5 +1,5 @@
 -- A call that runs a program has made a run of the kernel, which is the new end of its trace.
-use Rattle.std.proofs.Common.{◌≡◌, ℕ, List, [], ◌∷◌, ◌++◌, Option, Some, None, Result, Ok, Err, inl, inr, sym, ap, ◌∙◌, subst, append_assoc}
+use Rattle.std.proofs.Common.{◌≡◌, ℕ, List, [], ◌∷◌, ◌++◌, Option, Some, None, Result, Ok, Err, inl, inr, refl, sym, ap, ◌∙◌, subst, append_assoc}
 use Rattle.std.proofs.lemmas.List.{append-nil}
 use Rattle.histar_flat.specs.Accounts.{Accounts}
 use Rattle.histar_flat.specs.declared.calls.UnixCall.{UnixCall}
@@ -9,6 +9,7 @@ use Rattle.histar_object.specs.State.{empty_state}
 use Rattle.histar_rules.specs.declared.raw.Denied.{Denied}
 use Rattle.histar_rules.specs.declared.raw.RawCall.{RawCall}
 use Rattle.histar_trace.specs.declared.entries.TraceEntry.{TraceEntry}
+use Rattle.histar_syscall.specs.declared.answers.Answer.{Answer}
 use Rattle.histar_syscall.specs.KernelModel.{KernelModel, state, Called, IsUnchanged}
 use Rattle.histar_syscall.specs.Runs.{IsRun}
 use Rattle.histar_syscall.proofs.Runs.{entry_of}
@@ -18,6 +19,7 @@ use Rattle.histar_programs.specs.Programs.{Outcome, Program, Asked, Completes, B
 use Rattle.histar_programs.specs.Programs.Program.{Answers, Asks, Lists, Stops}
 use Rattle.histar_programs.specs.declared.caller.Caller.{Caller}
 use Rattle.histar_shell.specs.Machine.{IsTraced, Makes}
+use Rattle.histar_shell.specs.RawCalls.{MakesRawCall, denied_of}
 use Rattle.histar_shell.proofs.RefinedRuns.{run_after}
 
 -- the kernel came from the old to the new by a run, which is the new end of its trace
@@ -72,3 +74,14 @@ traced_on accounts roots me caller old new call result traced made =
     let goes = by_program _ old new caller.thread result made in
     subst (λ (es : List TraceEntry). IsRun empty_state es (state new)) (sym goes.trace)
     (run_after empty_state (state old) (state new) old.trace goes.entries traced goes.run)
+
+-- and it does after a raw call on a line
+pub traced_raw : (old new : KernelModel) (line t : ℕ) (call : RawCall) (result : Result (Result Answer Denied) Stopped) → IsTraced old
+    → MakesRawCall old new line t call result → IsTraced new
+traced_raw old new line t call (Ok outcome) traced made =
+    subst (λ (es : List TraceEntry). IsRun empty_state es (state new)) (sym made.called.trace)
+    (run_after empty_state (state old) (state new) old.trace (entry_of line t call (denied_of outcome) ∷ []) traced
+    (state new, made.called.outcome, made.called.state, refl))
+traced_raw old new line t call (Err stopped) traced made =
+    subst (λ (es : List TraceEntry). IsRun empty_state es (state new)) (sym made.trace)
+    (subst (IsRun empty_state old.trace) (sym made.state) traced)

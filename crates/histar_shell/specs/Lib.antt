@@ -2,6 +2,7 @@
 pub mod Answers
 pub mod TreeText
 pub mod Machine
+pub mod RawCalls
 pub mod AnsweredCalls
 pub mod Ending
 pub mod Outcome

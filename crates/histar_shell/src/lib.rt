@@ -5,6 +5,7 @@ mod calls;
 mod ending;
 mod machine;
 mod output;
+mod raw;
 mod session;
 pub mod trace_laws;
 

@@ -3,6 +3,7 @@ ghost use Rattle.std.specs.Prelude.{◌≡◌, IfOk};
 ghost use Rattle.histar_programs.specs.Refusals.{settled};
 ghost use Rattle.histar_script.specs.Script.{IsDeclared};
 ghost use Rattle.histar_shell.specs.Machine.{AnswersLine, IsStart, IsTraced, Makes};
+ghost use Rattle.histar_shell.specs.RawCalls.{MakesRaw};
 ghost use Rattle.histar_shell.specs.Ending.{HasTree, IsTreeIn};
 ghost use Rattle.histar_shell.specs.Meaning.{FollowsMeaning, ShowsStart};
 ghost use Rattle.histar_syscall.specs.KernelModel.{state};
@@ -11,13 +12,16 @@ ghost use Rattle.histar_readout.specs.TreeEntries.{node_bytes};
 use crate::calls::{
     CallKind, kind_of, make_entry_call, make_process_call, make_reading_call, make_writing_call,
 };
+use crate::raw::make_raw;
 use histar_flat::{Accounts, ProcName, Reply, UnixCall, each_call_is_right};
 use histar_label::LabelStore;
 use histar_layout::UserTable;
 use histar_login::boot;
+use histar_object::ObjId;
 use histar_programs::{CallError, Roots, Stopped, Unix, find_caller, settle};
 use histar_readout::{TreeNode, bytes_of, tree_of};
-use histar_syscall::{Kernel, Trace as KernelTrace};
+use histar_rules::{Denied, RawCall};
+use histar_syscall::{Answer, Kernel, Trace as KernelTrace};
 use std::alloc::{AllocError, Global};
 use std::marker::Model;
 
@@ -127,6 +131,27 @@ impl<S: LabelStore + Drop> Machine<S> {
         let result = settle(outcome);
         self.is_stopped = result.is_err();
         result
+    }
+
+    /// Makes a raw call of a thread as it stands, on this line of the script. It stops where memory runs out,
+    /// and after the first `Stopped` it does nothing and answers `Stopped`.
+    pub fn raw_call(
+        &mut self,
+        alloc: Global,
+        line: u32,
+        thread: ObjId,
+        call: RawCall,
+    ) -> Result<Result<Answer, Denied>, Stopped>
+        ensures { MakesRaw self.old self.new line thread call result }
+    {
+        if self.is_stopped {
+            drop(call);
+            Err(Stopped)
+        } else {
+            let result = make_raw(alloc, &mut self.kernel, line, thread, call);
+            self.is_stopped = result.is_err();
+            result
+        }
     }
 
     /// Lends the raw calls made so far.

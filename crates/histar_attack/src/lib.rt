@@ -1,0 +1,15 @@
+//! A process that bypasses the Unix library: sessions in which the threads of a job make raw calls between the
+//! Unix calls of a script.
+#![tactic(auto)]
+
+mod confinement;
+mod handling;
+mod items;
+mod reader;
+mod session;
+mod texts;
+
+pub use confinement::{is_outside_caller, is_tainted_caller, job_category};
+pub use items::{Mark, MixedItem};
+pub use reader::{Mixed, read_mixed};
+pub use session::attack;
