@@ -6,7 +6,7 @@ mod tasks;
 
 use crate::hints::say_why;
 use crate::tasks::{
-    access_file, check_each_job, check_file, diff_files, flows_file, leak_file, lint_files,
+    access_file, attack_file, check_each_job, check_file, diff_files, flows_file, leak_file, lint_files,
     report_file, run_file, run_raw_file, test_files, trust_file, try_file,
 };
 use histar_access::DiffOptions;
@@ -63,6 +63,12 @@ fn check_job<R: Files + Input + Print>(
 ) -> Performed {
     let job = read_job(job)?;
     Ok(check_file(rt, alloc, &job, path, flags))
+}
+
+/// Runs a script in a file in which threads of this job make raw calls.
+fn attack_by<R: Files + Input + Print>(rt: &R, alloc: Global, job: &str, path: &str) -> Performed {
+    let job = read_job(job)?;
+    Ok(attack_file(rt, alloc, &job, path))
 }
 
 /// Prints which process may do what after the script in a file, or before this line, or which user.
@@ -157,6 +163,7 @@ fn perform<R: Files + Input + Print>(rt: &R, alloc: Global, task: &Task<'_>) -> 
         Task::Trust(path, file, line) => trust_at(rt, alloc, path, file, *line),
         Task::Leak(path, file, line) => leak_at(rt, alloc, path, file, *line),
         Task::Flows(path, line) => flows_at(rt, alloc, path, *line),
+        Task::Attack(job, path) => attack_by(rt, alloc, job, path),
         Task::Lint(files, is_raw) => Ok(lint_files(rt, alloc, files.as_slice(), *is_raw)),
         Task::Report(path) => Ok(report_file(rt, alloc, path)),
         Task::Test(files, strict) => Ok(test_files(rt, alloc, files.as_slice(), *strict)),

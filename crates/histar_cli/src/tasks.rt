@@ -5,6 +5,7 @@ ghost use Rattle.histar_comparison.specs.Jobs.{job_text};
 ghost use Rattle.histar_cli.specs.Checks.{is_same_without};
 
 use histar_access::{DiffOptions, access, access_users, diff};
+use histar_attack::attack;
 use histar_command_line::{CheckFlags, RunFlags, VERSION};
 use histar_comparison::{JobVerdict, Verdict, compare, compare_all, explain_comparison};
 use histar_console::{Outcome, finish, open, output, run_plain};
@@ -233,6 +234,19 @@ pub fn flows_file<R: Files + Input + Print>(
     let mut reader = open(rt, path)?;
     let mut writer = output(rt, alloc)?;
     let done = flows(alloc, &mut reader, &mut writer, at);
+    finish(done.map(|_| Outcome::Done), writer)
+}
+
+/// Runs a script in a file in which threads of a job make raw calls, and prints what became of each call.
+pub fn attack_file<R: Files + Input + Print>(
+    rt: &R,
+    alloc: Global,
+    job: &ProcName,
+    path: &str,
+) -> Result<Outcome, Fault> {
+    let mut reader = open(rt, path)?;
+    let mut writer = output(rt, alloc)?;
+    let done = attack(alloc, job, &mut reader, &mut writer);
     finish(done.map(|_| Outcome::Done), writer)
 }
 

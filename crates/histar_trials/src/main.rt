@@ -37,6 +37,7 @@ fn run_trial(alloc: Global, trial: &Trial<'_>) -> Result<Vec<u8>, Fault> {
         Kind::Leak(path, at) => questions::leaks(alloc, trial.body, &path, at),
         Kind::Flows(at) => questions::flowing(alloc, trial.body, at),
         Kind::Try(at) => questions::tried(alloc, trial.body, at),
+        Kind::Attack(job) => questions::attacked(alloc, trial.body, &job),
         Kind::File(kind) => questions::of_file(alloc, kind, trial.title, trial.body),
         Kind::Raw => raw::answers(alloc, trial.body),
         Kind::ExplainRaw => raw::explained(alloc, trial.body),

@@ -1,6 +1,7 @@
 //! Questions to scripts: why, who may, what changes, on whom it depends, and what is wrong.
 use crate::script::with_fault;
 use crate::trial::FileKind;
+use histar_attack::attack;
 use histar_access::{DiffOptions, access, access_users, diff};
 use histar_comparison::{compare_all, explain_comparison};
 use histar_flat::{Path, ProcName, split_at_first};
@@ -125,6 +126,14 @@ pub fn tried(alloc: Global, text: &[u8], at: Option<u32>) -> Result<Vec<u8>, Fau
         Ok(Tried::BadCall(number, sentence)) => refused(alloc, number, sentence.as_slice()),
         done => with_fault(alloc, done.map(|_| ()), writer.into_inner()),
     }
+}
+
+/// Returns what becomes of the calls of a script in which threads of a job make raw calls.
+pub fn attacked(alloc: Global, script: &[u8], job: &ProcName) -> Result<Vec<u8>, Fault> {
+    let mut reader = Counted::new(script);
+    let mut writer = Counted::new(Vec::new(alloc));
+    let done = attack(alloc, job, &mut reader, &mut writer);
+    with_fault(alloc, done, writer.into_inner())
 }
 
 /// Returns the line that says what is wrong with a call.

@@ -33,6 +33,8 @@ pub enum Kind {
     Flows(Option<u32>),
     /// Calls behind a script, or before a line of it.
     Try(Option<u32>),
+    /// A script in which threads of this job make raw calls.
+    Attack(ProcName),
     /// A script or a raw session whose name is in the title.
     File(FileKind),
     /// A session of raw calls.
@@ -129,12 +131,13 @@ fn read_run(word: &[u8], rest: Option<&[u8]>) -> Option<Kind> {
     }
 }
 
-/// Reads which comparison a title asks for, by its first word and the job behind it.
+/// Reads which comparison or attack a title asks for, by its first word and the job behind it.
 fn read_check(word: &[u8], rest: Option<&[u8]>) -> Option<Kind> {
     match word {
         b"check" => Some(Kind::Check(read_process(rest?)?)),
         b"check_why" => Some(Kind::CheckWhy(read_process(rest?)?)),
         b"check_all" => Some(Kind::CheckAll),
+        b"attack" => Some(Kind::Attack(read_process(rest?)?)),
         _ => None,
     }
 }
