@@ -1,0 +1,126 @@
+-- Reasons as the code has them, and which part of a call's needs is not met, by what was seen.
+use Rattle.std.specs.Prelude.{ℕ, ◌+◌, ◌==◌, Bool, false, true, not, nat_le, nat_lt, List, [], ◌∷◌, length, Option, None, Some, is_some}
+use Rattle.std.specs.Prelude.{option_and_then, option_map}
+use Rattle.histar_base.specs.Paths.{same}
+use Rattle.histar_base.specs.Refusals.{◌orelse◌, unless}
+use Rattle.histar_flat.specs.Words.{most_children, most_numbers}
+use Rattle.histar_flat.specs.Accounts.{user_number}
+use Rattle.histar_flat.specs.Classes.{nobody, class_made}
+use Rattle.histar_flat.specs.FlatState.{is_some_and}
+use Rattle.histar_flat.specs.Needs.{is_below_root, is_child, most_bytes, most_entries}
+use Rattle.histar_flat.specs.PathOrder.{parent}
+use Rattle.histar_reasons.specs.Causes.{Cause, innermost}
+use Rattle.histar_reasons.specs.Reasons.{Reason, root_reason, unmade}
+use Rattle.histar_reasons.specs.Reasons.Reason as reasons
+use Rattle.histar_why.specs.declared.asked.Kept.{Kept}
+use Rattle.histar_why.specs.declared.asked.Kept.TheVariants.{All, Nothing}
+use Rattle.histar_why.specs.declared.asked.Part.{Part}
+use Rattle.histar_why.specs.declared.asked.Part.TheVariants as parts
+use Rattle.histar_why.specs.declared.reasons.ProcessReason.{ProcessReason as OwnReason}
+use Rattle.histar_why.specs.declared.reasons.ProcessReason.TheVariants as own
+use Rattle.histar_why.specs.declared.reasons.Reason.{Reason as Found}
+use Rattle.histar_why.specs.declared.reasons.Reason.TheVariants as found
+use Rattle.histar_why.specs.declared.ways.Spot.{Spot}
+use Rattle.histar_why.specs.declared.views.View.{View}
+use Rattle.histar_why.specs.Causes.{cause_of}
+use Rattle.histar_why.specs.Names.{process_of}
+
+-- a reason of a process, as the rules have it
+abbrev pub process_reason_of : OwnReason → Reason
+process_reason_of own.MakesOnlyOpen = reasons.MakesOnlyOpen
+process_reason_of (own.IsNoMember group) = reasons.IsNoMember group
+process_reason_of (own.HadChildren n) = reasons.HadChildren n
+process_reason_of (own.HasNumbers n) = reasons.HasNumbers n
+process_reason_of (own.NoProcess name) = reasons.NoProcess name
+process_reason_of (own.IsUnseen name job) = reasons.IsUnseen name job
+process_reason_of (own.IsNoChild name) = reasons.IsNoChild name
+process_reason_of (own.NoUser name) = reasons.NoUser name
+process_reason_of (own.WrongPassword name) = reasons.WrongPassword name
+process_reason_of (own.IsInJob job) = reasons.IsInJob job
+process_reason_of own.StartsNoJob = reasons.StartsNoJob
+
+-- a reason, as the rules have it
+abbrev pub reason_of : Found → Reason
+reason_of (found.MayNotRead q cause) = reasons.MayNotRead q (cause_of cause)
+reason_of (found.MayNotWrite q cause) = reasons.MayNotWrite q (cause_of cause)
+reason_of (found.IsMissing q) = reasons.IsMissing q
+reason_of (found.HasFile q) = reasons.HasFile q
+reason_of (found.HasDirectory q) = reasons.HasDirectory q
+reason_of (found.IsTaken q) = reasons.IsTaken q
+reason_of found.RootStays = reasons.RootStays
+reason_of (found.IsFull q n) = reasons.IsFull q n
+reason_of (found.IsNotEmpty q n) = reasons.IsNotEmpty q n
+reason_of (found.IsTooLong q n) = reasons.IsTooLong q n
+reason_of (found.OfProcess reason) = process_reason_of reason
+
+-- ---- what was seen at a path
+
+-- why the process may not read it, and why it may not write it
+abbrev pub unread_in : Option Spot → Option Cause
+unread_in None = None
+unread_in (Some spot) = option_map cause_of spot.seen.unread
+
+abbrev pub unwritten_in : Option Spot → Option Cause
+unwritten_in None = None
+unwritten_in (Some spot) = option_map cause_of spot.seen.unwritten
+
+-- a directory is there; a file is
+abbrev pub has_directory : Option Spot → Bool
+has_directory spot = is_some_and spot (λ x. x.seen.is_directory)
+
+abbrev pub has_file : Option Spot → Bool
+has_file spot = is_some_and spot (λ x. not x.seen.is_directory)
+
+-- how many bytes it has, how many of them it keeps, and how many it has with new ones
+abbrev pub bytes_of : Option Spot → ℕ
+bytes_of None = 0
+bytes_of (Some spot) = spot.seen.bytes
+
+abbrev pub bytes_kept : Kept → Option Spot → ℕ
+bytes_kept All spot = bytes_of spot
+bytes_kept Nothing spot = 0
+
+abbrev pub bytes_then : Kept → Option Spot → ℕ → ℕ
+bytes_then kept spot new = bytes_kept kept spot + new
+
+-- ---- the parts of a call's needs
+
+module _ (view : View) where
+  -- why a part that is of the process alone is not met
+  abbrev pub process_reason : Part → Option Reason
+  process_reason (parts.MayMake mode) =
+      unless (is_some (class_made view.users.now (process_of view.caller.now) mode)) (unmade mode)
+  process_reason parts.HasChildLeft = unless (nat_lt view.caller.now.born most_children) (reasons.HadChildren view.caller.now.born)
+  process_reason parts.HasNumberLeft =
+      unless (nat_lt (length view.asked.now.process) most_numbers) (reasons.HasNumbers (length view.asked.now.process + 1))
+  process_reason (parts.Found name) = option_map reason_of view.search
+  process_reason (parts.IsChild name) = unless (is_child view.asked.now.process name) (reasons.IsNoChild name)
+  process_reason (parts.IsUser name) = unless (is_some (user_number view.users.now name)) (reasons.NoUser name)
+  process_reason (parts.HasPassword name) = Some (reasons.WrongPassword name)
+  process_reason parts.InNoJob = option_map reasons.IsInJob (innermost (process_of view.caller.now))
+  process_reason parts.IsSomebody = unless (not (same view.caller.now.user nobody)) reasons.StartsNoJob
+  process_reason part = None
+
+  -- why a part is not met
+  abbrev pub part_reason : Part → Option Reason
+  part_reason (parts.NotRoot e) = unless (is_below_root view.asked.now.path) (root_reason e view.asked.now.path)
+  part_reason parts.Walk = option_map reason_of view.way.walk
+  part_reason parts.Exists = unless (is_some view.way.here) (reasons.IsMissing view.asked.now.path)
+  part_reason parts.IsFile = unless (has_file view.way.here) (reasons.HasDirectory view.asked.now.path)
+  part_reason parts.IsDirectory = unless (has_directory view.way.here) (reasons.HasFile view.asked.now.path)
+  part_reason parts.Absent = unless (not (is_some view.way.here)) (reasons.IsTaken view.asked.now.path)
+  part_reason (parts.AbsentBeside name) = unless (not view.beside) (reasons.IsTaken (name ∷ parent view.asked.now.path))
+  part_reason parts.MayRead = option_map (reasons.MayNotRead view.asked.now.path) (unread_in view.way.here)
+  part_reason parts.MayWrite = option_map (reasons.MayNotWrite view.asked.now.path) (unwritten_in view.way.here)
+  part_reason parts.MayWriteAbove = option_map (reasons.MayNotWrite (parent view.asked.now.path)) (unwritten_in view.way.above)
+  part_reason parts.HasRoomAbove =
+      unless (nat_lt (view.above) most_entries) (reasons.IsFull (parent view.asked.now.path) (view.above))
+  part_reason parts.IsEmpty = unless (view.here == 0) (reasons.IsNotEmpty view.asked.now.path (view.here))
+  part_reason (parts.Fits kept new) =
+      unless (nat_le (bytes_then kept view.way.here new) most_bytes) (reasons.IsTooLong view.asked.now.path (bytes_then kept view.way.here new))
+  part_reason part = process_reason part
+
+  -- why the first of these parts that is not met isn't
+  abbrev pub first_reason : List Part → Option Reason
+  first_reason [] = None
+  first_reason (part ∷ more) = part_reason part orelse first_reason more
