@@ -6,15 +6,15 @@ use Rattle.histar_layout.specs.Status.{ProcessStatus}
 use Rattle.histar_programs.specs.declared.roots.Home.{Home}
 use Rattle.histar_programs.specs.Caller.{home_at, status_at}
 use Rattle.histar_reasons.specs.Reasons.{Absence}
-use Rattle.histar_reasons.specs.Reasons.Absence as absences
+use Rattle.histar_reasons.specs.Reasons.Absence.{HasExited, WasKilled, WasNeverStarted}
 use Rattle.histar_why.specs.declared.absences.Absence.{Absence as Found}
 use Rattle.histar_why.specs.declared.absences.Absence.TheVariants as found
 
 -- an absence, as the rules have it
 abbrev pub absence_of : Found → Absence
-absence_of found.HasExited = absences.HasExited
-absence_of found.WasNeverStarted = absences.WasNeverStarted
-absence_of (found.WasKilled name) = absences.WasKilled name
+absence_of found.HasExited = HasExited
+absence_of found.WasNeverStarted = WasNeverStarted
+absence_of (found.WasKilled name) = WasKilled name
 
 -- a process with this status has given the number to a child
 abbrev pub given_in : Option ProcessStatus → ℕ → Bool
@@ -44,6 +44,6 @@ module _ (s : State) (first : Home) where
   -- why the process of this name doesn't run, where it doesn't
   abbrev pub absence_by : ProcName → Absence
   absence_by me =
-      if is_some (home_at s first me) then absences.HasExited
-      else if is_given_by me then absences.WasKilled (first_absent_by me)
-      else absences.WasNeverStarted
+      if is_some (home_at s first me) then HasExited
+      else if is_given_by me then WasKilled (first_absent_by me)
+      else WasNeverStarted

@@ -2,32 +2,32 @@
 use Rattle.std.specs.Prelude.{List, [], map}
 use Rattle.histar_flat.specs.Words.{ProcName}
 use Rattle.histar_flat.specs.Classes.{Class}
-use Rattle.histar_flat.specs.Classes.Class as flat
+use Rattle.histar_flat.specs.Classes.Class.{Private, Readable, Open, Scratch, Grouped}
 use Rattle.histar_layout.specs.declared.class.Class.{Class as NumberedClass}
 use Rattle.histar_layout.specs.declared.class.Class.TheVariants as numbered
 use Rattle.histar_names.specs.Births.{Births}
 use Rattle.histar_reasons.specs.Causes.{Cause}
-use Rattle.histar_reasons.specs.Causes.Cause as causes
+use Rattle.histar_reasons.specs.Causes.Cause.{IsPrivate, IsReadable, IsScratch, IsGrouped, NeedsJob, LeavesJob}
 use Rattle.histar_why.specs.declared.causes.Cause.{Cause as Found}
 use Rattle.histar_why.specs.declared.causes.Cause.TheVariants as found
 use Rattle.histar_why.specs.Names.{job_named}
 
 -- a cause, as the rules have it
 abbrev pub cause_of : Found → Cause
-cause_of (found.IsPrivate owner) = causes.IsPrivate owner
-cause_of (found.IsReadable owner) = causes.IsReadable owner
-cause_of (found.IsScratch owner) = causes.IsScratch owner
-cause_of (found.IsGrouped group) = causes.IsGrouped group
-cause_of (found.NeedsJob job) = causes.NeedsJob job
-cause_of (found.LeavesJob job) = causes.LeavesJob job
+cause_of (found.IsPrivate owner) = IsPrivate owner
+cause_of (found.IsReadable owner) = IsReadable owner
+cause_of (found.IsScratch owner) = IsScratch owner
+cause_of (found.IsGrouped group) = IsGrouped group
+cause_of (found.NeedsJob job) = NeedsJob job
+cause_of (found.LeavesJob job) = LeavesJob job
 
 -- the class of a label, with these names of its jobs
 abbrev pub class_by : List ProcName → NumberedClass → Class
-class_by jobs (numbered.Private owner) = flat.Private owner
-class_by jobs (numbered.Readable owner) = flat.Readable owner
-class_by jobs numbered.Open = flat.Open
-class_by jobs (numbered.Scratch owner chain) = flat.Scratch owner jobs
-class_by jobs (numbered.Group group) = flat.Grouped group
+class_by jobs (numbered.Private owner) = Private owner
+class_by jobs (numbered.Readable owner) = Readable owner
+class_by jobs numbered.Open = Open
+class_by jobs (numbered.Scratch owner chain) = Scratch owner jobs
+class_by jobs (numbered.Group group) = Grouped group
 
 -- the names of the jobs of a class
 abbrev pub jobs_by : Births → NumberedClass → List ProcName

@@ -11,7 +11,9 @@ use Rattle.histar_flat.specs.Needs.{is_below_root, is_child, most_bytes, most_en
 use Rattle.histar_flat.specs.PathOrder.{parent}
 use Rattle.histar_reasons.specs.Causes.{Cause, innermost}
 use Rattle.histar_reasons.specs.Reasons.{Reason, root_reason, unmade}
-use Rattle.histar_reasons.specs.Reasons.Reason as reasons
+use Rattle.histar_reasons.specs.Reasons.Reason.{MayNotRead, MayNotWrite, IsMissing, HasFile, HasDirectory, IsTaken, RootStays, IsFull, IsNotEmpty}
+use Rattle.histar_reasons.specs.Reasons.Reason.{IsTooLong, MakesOnlyOpen, IsNoMember, HadChildren, HasNumbers, NoProcess, IsUnseen, IsNoChild, NoUser}
+use Rattle.histar_reasons.specs.Reasons.Reason.{WrongPassword, IsInJob, StartsNoJob}
 use Rattle.histar_why.specs.declared.asked.Kept.{Kept}
 use Rattle.histar_why.specs.declared.asked.Kept.TheVariants.{All, Nothing}
 use Rattle.histar_why.specs.declared.asked.Part.{Part}
@@ -27,30 +29,30 @@ use Rattle.histar_why.specs.Names.{process_of}
 
 -- a reason of a process, as the rules have it
 abbrev pub process_reason_of : OwnReason → Reason
-process_reason_of own.MakesOnlyOpen = reasons.MakesOnlyOpen
-process_reason_of (own.IsNoMember group) = reasons.IsNoMember group
-process_reason_of (own.HadChildren n) = reasons.HadChildren n
-process_reason_of (own.HasNumbers n) = reasons.HasNumbers n
-process_reason_of (own.NoProcess name) = reasons.NoProcess name
-process_reason_of (own.IsUnseen name job) = reasons.IsUnseen name job
-process_reason_of (own.IsNoChild name) = reasons.IsNoChild name
-process_reason_of (own.NoUser name) = reasons.NoUser name
-process_reason_of (own.WrongPassword name) = reasons.WrongPassword name
-process_reason_of (own.IsInJob job) = reasons.IsInJob job
-process_reason_of own.StartsNoJob = reasons.StartsNoJob
+process_reason_of own.MakesOnlyOpen = MakesOnlyOpen
+process_reason_of (own.IsNoMember group) = IsNoMember group
+process_reason_of (own.HadChildren n) = HadChildren n
+process_reason_of (own.HasNumbers n) = HasNumbers n
+process_reason_of (own.NoProcess name) = NoProcess name
+process_reason_of (own.IsUnseen name job) = IsUnseen name job
+process_reason_of (own.IsNoChild name) = IsNoChild name
+process_reason_of (own.NoUser name) = NoUser name
+process_reason_of (own.WrongPassword name) = WrongPassword name
+process_reason_of (own.IsInJob job) = IsInJob job
+process_reason_of own.StartsNoJob = StartsNoJob
 
 -- a reason, as the rules have it
 abbrev pub reason_of : Found → Reason
-reason_of (found.MayNotRead q cause) = reasons.MayNotRead q (cause_of cause)
-reason_of (found.MayNotWrite q cause) = reasons.MayNotWrite q (cause_of cause)
-reason_of (found.IsMissing q) = reasons.IsMissing q
-reason_of (found.HasFile q) = reasons.HasFile q
-reason_of (found.HasDirectory q) = reasons.HasDirectory q
-reason_of (found.IsTaken q) = reasons.IsTaken q
-reason_of found.RootStays = reasons.RootStays
-reason_of (found.IsFull q n) = reasons.IsFull q n
-reason_of (found.IsNotEmpty q n) = reasons.IsNotEmpty q n
-reason_of (found.IsTooLong q n) = reasons.IsTooLong q n
+reason_of (found.MayNotRead q cause) = MayNotRead q (cause_of cause)
+reason_of (found.MayNotWrite q cause) = MayNotWrite q (cause_of cause)
+reason_of (found.IsMissing q) = IsMissing q
+reason_of (found.HasFile q) = HasFile q
+reason_of (found.HasDirectory q) = HasDirectory q
+reason_of (found.IsTaken q) = IsTaken q
+reason_of found.RootStays = RootStays
+reason_of (found.IsFull q n) = IsFull q n
+reason_of (found.IsNotEmpty q n) = IsNotEmpty q n
+reason_of (found.IsTooLong q n) = IsTooLong q n
 reason_of (found.OfProcess reason) = process_reason_of reason
 
 -- ---- what was seen at a path
@@ -90,34 +92,34 @@ module _ (view : View) where
   abbrev pub process_reason : Part → Option Reason
   process_reason (parts.MayMake mode) =
       unless (is_some (class_made view.users.now (process_of view.caller.now) mode)) (unmade mode)
-  process_reason parts.HasChildLeft = unless (nat_lt view.caller.now.born most_children) (reasons.HadChildren view.caller.now.born)
+  process_reason parts.HasChildLeft = unless (nat_lt view.caller.now.born most_children) (HadChildren view.caller.now.born)
   process_reason parts.HasNumberLeft =
-      unless (nat_lt (length view.asked.now.process) most_numbers) (reasons.HasNumbers (length view.asked.now.process + 1))
+      unless (nat_lt (length view.asked.now.process) most_numbers) (HasNumbers (length view.asked.now.process + 1))
   process_reason (parts.Found name) = option_map reason_of view.search
-  process_reason (parts.IsChild name) = unless (is_child view.asked.now.process name) (reasons.IsNoChild name)
-  process_reason (parts.IsUser name) = unless (is_some (user_number view.users.now name)) (reasons.NoUser name)
-  process_reason (parts.HasPassword name) = Some (reasons.WrongPassword name)
-  process_reason parts.InNoJob = option_map reasons.IsInJob (innermost (process_of view.caller.now))
-  process_reason parts.IsSomebody = unless (not (same view.caller.now.user nobody)) reasons.StartsNoJob
+  process_reason (parts.IsChild name) = unless (is_child view.asked.now.process name) (IsNoChild name)
+  process_reason (parts.IsUser name) = unless (is_some (user_number view.users.now name)) (NoUser name)
+  process_reason (parts.HasPassword name) = Some (WrongPassword name)
+  process_reason parts.InNoJob = option_map IsInJob (innermost (process_of view.caller.now))
+  process_reason parts.IsSomebody = unless (not (same view.caller.now.user nobody)) StartsNoJob
   process_reason part = None
 
   -- why a part is not met
   abbrev pub part_reason : Part → Option Reason
   part_reason (parts.NotRoot e) = unless (is_below_root view.asked.now.path) (root_reason e view.asked.now.path)
   part_reason parts.Walk = option_map reason_of view.way.walk
-  part_reason parts.Exists = unless (is_some view.way.here) (reasons.IsMissing view.asked.now.path)
-  part_reason parts.IsFile = unless (has_file view.way.here) (reasons.HasDirectory view.asked.now.path)
-  part_reason parts.IsDirectory = unless (has_directory view.way.here) (reasons.HasFile view.asked.now.path)
-  part_reason parts.Absent = unless (not (is_some view.way.here)) (reasons.IsTaken view.asked.now.path)
-  part_reason (parts.AbsentBeside name) = unless (not view.beside) (reasons.IsTaken (name ∷ parent view.asked.now.path))
-  part_reason parts.MayRead = option_map (reasons.MayNotRead view.asked.now.path) (unread_in view.way.here)
-  part_reason parts.MayWrite = option_map (reasons.MayNotWrite view.asked.now.path) (unwritten_in view.way.here)
-  part_reason parts.MayWriteAbove = option_map (reasons.MayNotWrite (parent view.asked.now.path)) (unwritten_in view.way.above)
+  part_reason parts.Exists = unless (is_some view.way.here) (IsMissing view.asked.now.path)
+  part_reason parts.IsFile = unless (has_file view.way.here) (HasDirectory view.asked.now.path)
+  part_reason parts.IsDirectory = unless (has_directory view.way.here) (HasFile view.asked.now.path)
+  part_reason parts.Absent = unless (not (is_some view.way.here)) (IsTaken view.asked.now.path)
+  part_reason (parts.AbsentBeside name) = unless (not view.beside) (IsTaken (name ∷ parent view.asked.now.path))
+  part_reason parts.MayRead = option_map (MayNotRead view.asked.now.path) (unread_in view.way.here)
+  part_reason parts.MayWrite = option_map (MayNotWrite view.asked.now.path) (unwritten_in view.way.here)
+  part_reason parts.MayWriteAbove = option_map (MayNotWrite (parent view.asked.now.path)) (unwritten_in view.way.above)
   part_reason parts.HasRoomAbove =
-      unless (nat_lt (view.above) most_entries) (reasons.IsFull (parent view.asked.now.path) (view.above))
-  part_reason parts.IsEmpty = unless (view.here == 0) (reasons.IsNotEmpty view.asked.now.path (view.here))
+      unless (nat_lt (view.above) most_entries) (IsFull (parent view.asked.now.path) (view.above))
+  part_reason parts.IsEmpty = unless (view.here == 0) (IsNotEmpty view.asked.now.path (view.here))
   part_reason (parts.Fits kept new) =
-      unless (nat_le (bytes_then kept view.way.here new) most_bytes) (reasons.IsTooLong view.asked.now.path (bytes_then kept view.way.here new))
+      unless (nat_le (bytes_then kept view.way.here new) most_bytes) (IsTooLong view.asked.now.path (bytes_then kept view.way.here new))
   part_reason part = process_reason part
 
   -- why the first of these parts that is not met isn't

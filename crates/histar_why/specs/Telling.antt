@@ -1,9 +1,7 @@
 -- The line of a refused call, read off the machine after the call.
-use Rattle.std.specs.Prelude.{◌≡◌, ℕ, true, false, List, [], ◌++◌, codes, Option, None, Some, MatchOption, MatchBool}
-use Rattle.std.specs.Fmt.{decimal}
+use Rattle.std.specs.Prelude.{◌≡◌, ℕ, true, false, List, [], ◌++◌, Option, None, Some, MatchOption, MatchBool}
 use Rattle.histar_flat.specs.declared.calls.UnixCall.{UnixCall}
 use Rattle.histar_flat.specs.declared.replies.Reply.{Reply}
-use Rattle.histar_flat.specs.Texts.{reply_text}
 use Rattle.histar_flat.specs.Words.{ProcName}
 use Rattle.histar_flat.specs.Accounts.{Accounts}
 use Rattle.histar_flat.specs.Classes.{Process}
@@ -13,7 +11,7 @@ use Rattle.histar_programs.specs.declared.roots.Roots.{Roots}
 use Rattle.histar_names.specs.Births.{Births}
 use Rattle.histar_reasons.specs.Laws.{is_refusal}
 use Rattle.histar_reasons.specs.Reasons.{Reason}
-use Rattle.histar_reasons.specs.Sentences.{absence_text, why_text}
+use Rattle.histar_reasons.specs.Sentences.{absence_text, line_text, why_text}
 use Rattle.histar_shell.specs.Machine.{MachineModel}
 use Rattle.histar_why.specs.declared.asked.Asked.{Asked}
 use Rattle.histar_why.specs.declared.names.Caller.{Caller}
@@ -50,7 +48,7 @@ module _ (users : Accounts) (roots : Roots) (births : Births) (s : State) where
 pub record SaysLine (m : MachineModel) (births : Births) (number : ℕ) (asked : Asked) (reply : Reply) (line : List ℕ) : Type 0 where
   pub words : List ℕ
   pub says : SaysWords m.users m.roots births (state m.kernel) asked words
-  pub is : line ≡ (codes "!" ++ decimal number ++ codes " " ++ reply_text reply ++ codes ": ") ++ words ++ codes "\n"
+  pub is : line ≡ line_text number reply (Some words)
 
 -- this is the line of a call that was refused, and there is none of another call
 abbrev pub SaysIfRefused : MachineModel → Births → ℕ → Asked → Reply → List ℕ → Type 0

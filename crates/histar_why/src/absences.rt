@@ -8,7 +8,7 @@ use crate::views::name_of;
 use histar_flat::ProcName;
 use histar_label::LabelStore;
 use histar_layout::read_status;
-use histar_programs::{Home, home_at};
+use histar_programs::{Roots, home_at};
 use histar_syscall::Kernel;
 
 /// Why a process is gone.
@@ -25,41 +25,41 @@ pub(crate) enum Absence {
 /// Returns why the process of this name doesn't run, where it doesn't.
 pub(crate) fn absence_of<S: LabelStore + Drop>(
     kernel: &Kernel<S>,
-    first: Home,
+    roots: &Roots,
     name: &ProcName,
 ) -> Absence
-    ensures { absence_of result ≡ absence_by (state kernel.now) first name.now }
+    ensures { absence_of result ≡ absence_by (state kernel.now) roots.now.home name.now }
 {
     let numbers = name.numbers();
-    if home_at(kernel, first, numbers).is_some() {
+    if home_at(kernel, roots.home, numbers).is_some() {
         Absence::HasExited
-    } else if is_given(kernel, first, numbers) {
-        Absence::WasKilled(first_absent(kernel, first, numbers))
+    } else if is_given(kernel, roots, numbers) {
+        Absence::WasKilled(first_absent(kernel, roots, numbers))
     } else {
         Absence::WasNeverStarted
     }
 }
 
 /// Checks whether each number was given to a child that was born to the process before it.
-fn is_given<S: LabelStore + Drop>(kernel: &Kernel<S>, first: Home, numbers: &[u8]) -> bool
-    ensures { result ≡ is_given_by (state kernel.now) first numbers.now }
+fn is_given<S: LabelStore + Drop>(kernel: &Kernel<S>, roots: &Roots, numbers: &[u8]) -> bool
+    ensures { result ≡ is_given_by (state kernel.now) roots.now.home numbers.now }
 {
     let [number, above @ ..] = numbers else {
         return true;
     };
-    was_given(kernel, first, above, *number) && is_given(kernel, first, above)
+    was_given(kernel, roots, above, *number) && is_given(kernel, roots, above)
 }
 
 /// Checks whether a process has given this number to a child. A process that is not there has given every number.
 fn was_given<S: LabelStore + Drop>(
     kernel: &Kernel<S>,
-    first: Home,
+    roots: &Roots,
     above: &[u8],
     number: u8,
 ) -> bool
-    ensures { result ≡ was_given_by (state kernel.now) first above.now number }
+    ensures { result ≡ was_given_by (state kernel.now) roots.now.home above.now number }
 {
-    let Some(home) = home_at(kernel, first, above) else {
+    let Some(home) = home_at(kernel, roots.home, above) else {
         return true;
     };
     match read_status(kernel.bytes(home.segment)) {
@@ -69,16 +69,16 @@ fn was_given<S: LabelStore + Drop>(
 }
 
 /// Returns the process of these numbers, or the one above it that is under a process that is there.
-fn first_absent<S: LabelStore + Drop>(kernel: &Kernel<S>, first: Home, numbers: &[u8]) -> ProcName
+fn first_absent<S: LabelStore + Drop>(kernel: &Kernel<S>, roots: &Roots, numbers: &[u8]) -> ProcName
     requires { length numbers.now ≤ most_numbers }
-    ensures { result ≡ first_absent_by (state kernel.now) first numbers.now }
+    ensures { result ≡ first_absent_by (state kernel.now) roots.now.home numbers.now }
 {
     let [_, above @ ..] = numbers else {
         return ProcName::zero();
     };
-    if home_at(kernel, first, above).is_some() {
+    if home_at(kernel, roots.home, above).is_some() {
         name_of(numbers)
     } else {
-        first_absent(kernel, first, above)
+        first_absent(kernel, roots, above)
     }
 }

@@ -2,8 +2,9 @@
 ghost use Rattle.std.specs.Prelude.{◌≡◌, option_map};
 ghost use Rattle.histar_flat.specs.Accounts.{has, is_member};
 ghost use Rattle.histar_flat.specs.Classes.{nobody};
+ghost use Rattle.histar_reasons.specs.Causes.Cause.{LeavesJob, NeedsJob};
 ghost use Rattle.histar_reasons.specs.Causes.{innermost, left, unknown, unread, unwritten};
-ghost use Rattle.histar_why.specs.Causes.{cause_of, class_by};
+ghost use Rattle.histar_why.specs.Causes.{cause_of, class_by, jobs_for};
 ghost use Rattle.histar_why.specs.Names.{process_of};
 
 use crate::names::Caller;
@@ -115,7 +116,7 @@ fn left(caller: &Caller, jobs: &[ProcName]) -> Option<ProcName>
 }
 
 /// Checks whether a job is one of these.
-fn has(jobs: &[ProcName], job: &ProcName) -> bool
+pub(crate) fn has(jobs: &[ProcName], job: &ProcName) -> bool
     ensures { result ≡ has jobs.now job.now }
 {
     jobs.iter().any(|it| *job == *it)

@@ -1,9 +1,10 @@
 //! Processes with their jobs by name, read off a kernel's own objects.
-ghost use Rattle.std.specs.Prelude.{◌≡◌, map, IfOk};
+ghost use Rattle.std.specs.Prelude.{◌≡◌, map, option_map, IfOk};
 ghost use Rattle.histar_flat.specs.Classes.{knows};
 ghost use Rattle.histar_syscall.specs.KernelModel.{state};
 ghost use Rattle.histar_why.specs.Names.{caller_by, job_named, node_at, process_of};
 
+use crate::causes::has;
 use histar_flat::{Name, ProcName};
 use histar_label::{Category, LabelStore};
 use histar_layout::UserTable;
@@ -41,7 +42,7 @@ impl Caller {
     pub fn knows(&self, job: &ProcName) -> bool
         ensures { result ≡ knows (process_of self.now) job.now }
     {
-        self.chain.iter().any(|it| *job == *it) || self.held.iter().any(|it| *job == *it)
+        has(self.chain.as_slice(), job) || has(self.held.as_slice(), job)
     }
 }
 
@@ -92,8 +93,8 @@ pub(crate) fn names_of(
     ensures { IfOk result (λ names. names.items ≡ map (job_named births.now) categories.now) }
 {
     let mut names = Vec::new(alloc);
-    for category in categories {
-        names.push(job_named(births, *category))?;
+    for &category in categories {
+        names.push(job_named(births, category))?;
     }
     Ok(names)
 }

@@ -9,6 +9,7 @@ ghost use Rattle.histar_flat.specs.PathOrder.{parent};
 ghost use Rattle.histar_reasons.specs.Causes.{innermost};
 ghost use Rattle.histar_reasons.specs.Reasons.{root_reason, unmade};
 ghost use Rattle.histar_reasons.specs.Reasons.Reason.{IsFull, IsInJob, IsNotEmpty, IsTooLong, MayNotRead, MayNotWrite};
+ghost use Rattle.histar_why.specs.Causes.{cause_of};
 ghost use Rattle.histar_why.specs.Names.{process_of};
 ghost use Rattle.histar_why.specs.Reasons.{bytes_of, bytes_then, first_reason, has_directory, has_file, part_reason};
 ghost use Rattle.histar_why.specs.Reasons.{process_reason, process_reason_of, reason_of, unread_in, unwritten_in};
@@ -164,16 +165,40 @@ fn root_reason(errno: Errno, path: Path) -> Reason
 pub(crate) fn not_read(path: Path, spot: &Option<Spot>) -> Option<Reason>
     ensures { option_map reason_of result ≡ option_map (MayNotRead path) (unread_in spot.now) }
 {
-    let cause = (*spot)?.seen.unread?;
-    Some(Reason::MayNotRead(path, cause))
+    match spot {
+        Some(spot) => denied_read(path, &spot.seen.unread),
+        None => None,
+    }
 }
 
 /// Returns why the process may not write what is at a path.
 fn not_written(path: Path, spot: &Option<Spot>) -> Option<Reason>
     ensures { option_map reason_of result ≡ option_map (MayNotWrite path) (unwritten_in spot.now) }
 {
-    let cause = (*spot)?.seen.unwritten?;
-    Some(Reason::MayNotWrite(path, cause))
+    match spot {
+        Some(spot) => denied_write(path, &spot.seen.unwritten),
+        None => None,
+    }
+}
+
+/// Returns a cause as why the process may not read what is at a path.
+fn denied_read(path: Path, cause: &Option<Cause>) -> Option<Reason>
+    ensures { option_map reason_of result ≡ option_map (MayNotRead path) (option_map cause_of cause.now) }
+{
+    match cause {
+        Some(cause) => Some(Reason::MayNotRead(path, *cause)),
+        None => None,
+    }
+}
+
+/// Returns a cause as why the process may not write what is at a path.
+fn denied_write(path: Path, cause: &Option<Cause>) -> Option<Reason>
+    ensures { option_map reason_of result ≡ option_map (MayNotWrite path) (option_map cause_of cause.now) }
+{
+    match cause {
+        Some(cause) => Some(Reason::MayNotWrite(path, *cause)),
+        None => None,
+    }
 }
 
 /// Returns why a directory has no room for an entry.

@@ -36,8 +36,12 @@ pub(crate) fn tell<S: LabelStore + Drop>(
     ensures text { OnOk result (Adds (SaysIfRefused machine.now teller.new.births.items number asked.now reply.now)
         teller.old.text.items teller.new.text.items) }
 {
-    let Teller { births, text } = teller;
-    note_births(machine.kernel(), machine.roots(), &asked.process, births)?;
+    note_births(
+        machine.kernel(),
+        machine.roots(),
+        &asked.process,
+        &mut teller.births,
+    )?;
     if !is_refusal(reply) {
         return Ok(());
     }
@@ -45,11 +49,11 @@ pub(crate) fn tell<S: LabelStore + Drop>(
         kernel: machine.kernel(),
         roots: machine.roots(),
         users: machine.users(),
-        births: births.as_slice(),
+        births: teller.births.as_slice(),
     };
-    push_head(alloc, text, number, reply)?;
-    push_words(alloc, &reader, asked, text)?;
-    text.extend_from_slice(b"\n")
+    push_head(alloc, &mut teller.text, number, reply)?;
+    push_words(alloc, &reader, asked, &mut teller.text)?;
+    teller.text.extend_from_slice(b"\n")
 }
 
 /// Checks whether a reply is a refusal.
@@ -90,7 +94,7 @@ fn push_words<S: LabelStore + Drop>(
     match find_caller(alloc, reader, &asked.process)? {
         Some(caller) => push_why(alloc, reader, &caller, asked, text),
         None => {
-            let absence = absence_of(reader.kernel, reader.roots.home, &asked.process);
+            let absence = absence_of(reader.kernel, reader.roots, &asked.process);
             push_absence(text, &asked.process, &absence)
         }
     }

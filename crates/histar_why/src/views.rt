@@ -20,11 +20,11 @@ use std::alloc::{AllocError, Global};
 
 /// What a call is about.
 #[derive(Drop)]
-pub(crate) struct View<'v> {
-    pub asked: &'v Asked,
-    pub users: &'v UserTable,
+pub(crate) struct View<'a, 'u, 'c> {
+    pub asked: &'a Asked,
+    pub users: &'u UserTable,
     /// The process that makes the call.
-    pub caller: &'v Caller,
+    pub caller: &'c Caller,
     /// The way to the path.
     pub way: Way,
     /// How many entries there are in the directory of the path, and at the path.
@@ -37,12 +37,12 @@ pub(crate) struct View<'v> {
 }
 
 /// Returns what a call of this process is about.
-pub(crate) fn view_of<'v, S: LabelStore + Drop>(
+pub(crate) fn view_of<'a, 'u, 'c, S: LabelStore + Drop>(
     alloc: Global,
-    reader: &Reader<'v, S>,
-    caller: &'v Caller,
-    asked: &'v Asked,
-) -> Result<View<'v>, AllocError>
+    reader: &Reader<'u, S>,
+    caller: &'c Caller,
+    asked: &'a Asked,
+) -> Result<View<'a, 'u, 'c>, AllocError>
     ensures { IfOk result (IsViewOf reader.now.users.now reader.now.roots.now reader.now.births.now
         (state reader.now.kernel.now) caller.entry.now asked.entry.now) }
 {

@@ -1,13 +1,12 @@
 //! The way to a path, directory by directory from `/` on, read off a kernel's own objects.
 ghost use Rattle.std.specs.Prelude.{◌≡◌, ◌≤◌, length, option_map, IfOk};
 ghost use Rattle.histar_flat.specs.Words.{most_names};
-ghost use Rattle.histar_layout.specs.Listing.{is_directory};
 ghost use Rattle.histar_readout.specs.TreeEntries.{file_bytes_at};
 ghost use Rattle.histar_syscall.specs.KernelModel.{state};
 ghost use Rattle.histar_why.specs.Causes.{jobs_by};
 ghost use Rattle.histar_why.specs.Names.{process_of};
 ghost use Rattle.histar_why.specs.Reasons.{reason_of};
-ghost use Rattle.histar_why.specs.Ways.{FindsBelow, FindsSpot, IsWayTo, seen_in, why_into_by};
+ghost use Rattle.histar_why.specs.Ways.{FindsBelow, FindsEntry, FindsSpot, IsWayTo, why_into_by};
 
 use crate::causes::{Cause, unread, unwritten};
 use crate::names::{Caller, Reader, names_of};
