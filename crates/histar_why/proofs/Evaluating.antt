@@ -1,5 +1,5 @@
 -- The first part of a call's needs that is not met, by what was read, is that of the rule.
-use Rattle.std.specs.Prelude.{◌≡◌, ℕ, ◌+◌, ◌==◌, Bool, true, false, cond, not, nat_le, nat_lt, List, [], ◌∷◌, ◌++◌, length, Option, None, Some, MatchOption}
+use Rattle.std.specs.Prelude.{◌≡◌, ℕ, suc, ◌+◌, ◌==◌, Bool, true, false, cond, not, nat_le, nat_lt, List, [], ◌∷◌, ◌++◌, length, Option, None, Some, MatchOption}
 use Rattle.std.specs.Prelude.{if◌then◌else◌, is_some, option_map, refl, T}
 use Rattle.std.specs.List.{cons_option, filter_map, position_or_len}
 use Rattle.std.specs.FinMap as maps
@@ -48,7 +48,7 @@ use Rattle.histar_refinement.proofs.Making.{count_entries}
 use Rattle.histar_readout.specs.Resolve.{LeadsNowhere, LeadsTo, Resolves}
 use Rattle.histar_names.specs.Births.{Births}
 use Rattle.histar_reasons.specs.Causes.{Cause, innermost, unwritten}
-use Rattle.histar_reasons.specs.Reasons.{Reason, not_read, not_written, root_reason, unmade, why, why_need, why_not_found, why_walk}
+use Rattle.histar_reasons.specs.Reasons.{Reason, not_read, not_written, root_reason, unmade, why, why_into, why_need, why_not_found, why_walk}
 use Rattle.histar_reasons.specs.Reasons.Reason.{MayNotRead, MayNotWrite, IsMissing, HasFile, HasDirectory, IsTaken, IsFull, IsNotEmpty}
 use Rattle.histar_reasons.specs.Reasons.Reason.{IsTooLong, HadChildren, HasNumbers, IsInJob, IsNoChild, NoUser, StartsNoJob, WrongPassword}
 use Rattle.histar_reasons.proofs.Agreeing.{directory_there}
@@ -57,6 +57,7 @@ use Rattle.histar_why.specs.declared.asked.Kept.{Kept}
 use Rattle.histar_why.specs.declared.asked.Kept.TheVariants as kepts
 use Rattle.histar_why.specs.declared.asked.Part.{Part}
 use Rattle.histar_why.specs.declared.asked.Part.TheVariants as parts
+use Rattle.histar_why.specs.declared.asked.ProcessPart.TheVariants as of_process
 use Rattle.histar_why.specs.declared.names.Caller.{Caller}
 use Rattle.histar_why.specs.declared.views.View.{View}
 use Rattle.histar_why.specs.declared.ways.Spot.{Spot}
@@ -65,7 +66,7 @@ use Rattle.histar_why.specs.Causes.{cause_of}
 use Rattle.histar_why.specs.Names.{NamesJobs, process_of}
 use Rattle.histar_why.specs.Reasons.{bytes_kept, bytes_then, first_reason, has_directory, has_file, part_reason, reason_of, unread_in, unwritten_in}
 use Rattle.histar_why.specs.Reasons.{bytes_of as spot_bytes}
-use Rattle.histar_why.specs.Views.{CountsEntries, IsBeside, IsCount, IsViewOf, listing_of}
+use Rattle.histar_why.specs.Views.{CountsEntries, CountsIn, IsBeside, IsViewOf}
 use Rattle.histar_why.specs.Ways.{IsAt, Reveals, Sight, sight_at, sight_of}
 use Rattle.histar_why.proofs.Found.{search_is}
 use Rattle.histar_why.proofs.Spots.{is_directory_is, is_there_is, led_directory, node_at, nothing_at, same_number, unread_is}
@@ -133,7 +134,10 @@ no_entries f tree d none =
 -- ---- users
 
 module _ (name : Name) where
-  longer : (a b : ℕ) → nat_lt (1 + a) (1 + b) ≡ nat_lt a b
+  some_more : (b : ℕ) → nat_lt 0 (suc b) ≡ true
+  some_more b = grind (arith, nat_tests)
+
+  longer : (a b : ℕ) → nat_lt (1 + a) (suc b) ≡ nat_lt a b
   longer a b = grind (arith, nat_tests)
 
   named_place : (users : List User) → is_some (user_named users name) ≡ nat_lt (position_or_len (λ (u : User). same u.name name) users) (length users)
@@ -142,8 +146,8 @@ module _ (name : Name) where
     where
       by : (b : Bool) → is_some (user_named users name) ≡ nat_lt (position_or_len (λ (v : User). same v.name name) users) (length users)
           → is_some (cond b (Some u) (user_named users name))
-          ≡ nat_lt (cond (not b) (1 + position_or_len (λ (v : User). same v.name name) users) 0) (1 + length users)
-      by true rest = refl
+          ≡ nat_lt (cond (not b) (1 + position_or_len (λ (v : User). same v.name name) users) 0) (suc (length users))
+      by true rest = sym (some_more (length users))
       by false rest = rest ∙ sym (longer (position_or_len (λ (v : User). same v.name name) users) (length users))
 
   some_if : (b : Bool) (k : ℕ) → is_some (option_map (λ place. place + 1) (cond b (Some k) None)) ≡ b
@@ -227,7 +231,7 @@ module _ (accounts : Accounts) (s : State) (f : Flat) (births : Births) (names :
       is ∙ sym (ap length (no_entries f tree q (sym (directory_is q None at))))
   entries_are q (Some spot) at n is = by spot.target refl is
     where
-      by : (t : Target) → spot.target ≡ t → MatchOption (listing_of t) (n ≡ 0) (IsCount s n) → n ≡ length (entries_in f q)
+      by : (t : Target) → spot.target ≡ t → CountsIn s t n → n ≡ length (entries_in f q)
       by (targets.File file) e zero_is =
           let node = node_at accounts s f births names q spot.target at.leads in
           let no_dir : is_dir_at f q ≡ false =
@@ -263,12 +267,12 @@ module _ (accounts : Accounts) (s : State) (f : Flat) (births : Births) (names :
     revealed : Reveals users roots births s accounts f
     revealed = record { users_are = refl; roots_are = refl; names = names }
 
-    way_is : (option_map reason_of view.way.walk ≡ why_walk accounts f p q) × At (parent q) view.way.above × At q view.way.here
+    way_is : (option_map reason_of view.facts.now.way.walk ≡ why_walk accounts f p q) × At (parent q) view.facts.now.way.above × At q view.facts.now.way.here
     way_is =
-        let way = is.way accounts f revealed in
-        let walked : option_map reason_of view.way.walk ≡ why_walk accounts f (process_of caller) asked.path = way.0 in
-        (subst (λ (x : Process × Path). (option_map reason_of view.way.walk ≡ why_walk accounts f x.0 x.1)
-        × IsAt users roots births s accounts f x.0 (parent x.1) view.way.above × IsAt users roots births s accounts f x.0 x.1 view.way.here)
+        let way = is.facts.way accounts f revealed in
+        let walked : option_map reason_of view.facts.now.way.walk ≡ why_walk accounts f (process_of caller) asked.path = way.0 in
+        (subst (λ (x : Process × Path). (option_map reason_of view.facts.now.way.walk ≡ why_walk accounts f x.0 x.1)
+        × IsAt users roots births s accounts f x.0 (parent x.1) view.facts.now.way.above × IsAt users roots births s accounts f x.0 x.1 view.facts.now.way.here)
         (λ i. (caller_is i, is_asked.path i)) way)
 
     abbrev reason : Part → Option Reason
@@ -281,33 +285,33 @@ module _ (accounts : Accounts) (s : State) (f : Flat) (births : Births) (names :
     root_met e = λ i. unless (is_below_root (path_is i)) (root_reason e (path_is i))
 
     exists_met : reason parts.Exists ≡ unless (is_there f q) (IsMissing q)
-    exists_met = λ i. unless (there_is q view.way.here way_is.2 i) (IsMissing (path_is i))
+    exists_met = λ i. unless (there_is q view.facts.now.way.here way_is.2 i) (IsMissing (path_is i))
 
     file_met : reason parts.IsFile ≡ unless (is_file_at f q) (HasDirectory q)
-    file_met = λ i. unless (file_is q view.way.here way_is.2 i) (HasDirectory (path_is i))
+    file_met = λ i. unless (file_is q view.facts.now.way.here way_is.2 i) (HasDirectory (path_is i))
 
     directory_met : reason parts.IsDirectory ≡ unless (is_dir_at f q) (HasFile q)
-    directory_met = λ i. unless (directory_is q view.way.here way_is.2 i) (HasFile (path_is i))
+    directory_met = λ i. unless (directory_is q view.facts.now.way.here way_is.2 i) (HasFile (path_is i))
 
     absent_met : reason parts.Absent ≡ unless (not (is_there f q)) (IsTaken q)
-    absent_met = λ i. unless (not (there_is q view.way.here way_is.2 i)) (IsTaken (path_is i))
+    absent_met = λ i. unless (not (there_is q view.facts.now.way.here way_is.2 i)) (IsTaken (path_is i))
 
     beside_met : (name : Name) → beside_of call ≡ Some name
         → reason (parts.AbsentBeside name) ≡ unless (not (is_there f (name ∷ parent q))) (IsTaken (name ∷ parent q))
     beside_met name given =
-        let beside : MatchOption (Some name) (view.beside ≡ false)
-        (λ n. (found : Option Target) × Resolves s roots (n ∷ parent asked.path) found × (view.beside ≡ is_some found)) =
-        subst (λ (o : Option Name). MatchOption o (view.beside ≡ false)
-        (λ n. (found : Option Target) × Resolves s roots (n ∷ parent asked.path) found × (view.beside ≡ is_some found))) (is_asked.beside ∙ given) is.beside in
-        let there : view.beside ≡ is_there f (name ∷ parent q) =
+        let beside : MatchOption (Some name) (view.facts.now.beside ≡ false)
+        (λ n. (found : Option Target) × Resolves s roots (n ∷ parent asked.path) found × (view.facts.now.beside ≡ is_some found)) =
+        subst (λ (o : Option Name). MatchOption o (view.facts.now.beside ≡ false)
+        (λ n. (found : Option Target) × Resolves s roots (n ∷ parent asked.path) found × (view.facts.now.beside ≡ is_some found))) (is_asked.beside ∙ given) is.facts.beside in
+        let there : view.facts.now.beside ≡ is_there f (name ∷ parent q) =
         beside.2 ∙ beside_is q name beside.0 (subst (λ (x : Path). Resolves s roots (name ∷ parent x) beside.0) is_asked.path beside.1) in
         λ i. unless (not (there i)) (IsTaken (name ∷ parent (path_is i)))
 
     read_met : reason parts.MayRead ≡ not_read accounts f p q
-    read_met = ap (λ (x : Path). option_map (MayNotRead x) (unread_in view.way.here)) path_is ∙ read_is q view.way.here way_is.2
+    read_met = ap (λ (x : Path). option_map (MayNotRead x) (unread_in view.facts.now.way.here)) path_is ∙ read_is q view.facts.now.way.here way_is.2
 
     write_met : is_there f q ≡ true → reason parts.MayWrite ≡ not_written accounts f p q
-    write_met there = ap (λ (x : Path). option_map (MayNotWrite x) (unwritten_in view.way.here)) path_is ∙ write_is q view.way.here way_is.2 there
+    write_met there = ap (λ (x : Path). option_map (MayNotWrite x) (unwritten_in view.facts.now.way.here)) path_is ∙ write_is q view.facts.now.way.here way_is.2 there
 
     -- where the process can walk to the path, its directory is there
     parent_there : (r : Path) → why_walk accounts f p r ≡ None → is_there f (parent r) ≡ true
@@ -318,18 +322,18 @@ module _ (accounts : Accounts) (s : State) (f : Flat) (births : Births) (names :
 
     write_above_met : why_walk accounts f p q ≡ None → reason parts.MayWriteAbove ≡ not_written accounts f p (parent q)
     write_above_met walked =
-        ap (λ (x : Path). option_map (MayNotWrite (parent x)) (unwritten_in view.way.above)) path_is
-        ∙ write_is (parent q) view.way.above way_is.1 (parent_there q walked)
+        ap (λ (x : Path). option_map (MayNotWrite (parent x)) (unwritten_in view.facts.now.way.above)) path_is
+        ∙ write_is (parent q) view.facts.now.way.above way_is.1 (parent_there q walked)
 
     room_met : reason parts.HasRoomAbove
         ≡ unless (nat_lt (length (entries_in f (parent q))) most_entries) (IsFull (parent q) (length (entries_in f (parent q))))
     room_met =
-        let n = entries_are (parent q) view.way.above way_is.1 view.above is.above in
+        let n = entries_are (parent q) view.facts.now.way.above way_is.1 view.facts.now.above is.facts.above in
         λ i. unless (nat_lt (n i) most_entries) (IsFull (parent (path_is i)) (n i))
 
     empty_met : reason parts.IsEmpty ≡ unless (length (entries_in f q) == 0) (IsNotEmpty q (length (entries_in f q)))
     empty_met =
-        let n = entries_are q view.way.here way_is.2 view.here is.here in
+        let n = entries_are q view.facts.now.way.here way_is.2 view.facts.now.here is.facts.here in
         λ i. unless (n i == 0) (IsNotEmpty (path_is i) (n i))
 
     -- how many bytes the file would have
@@ -337,43 +341,43 @@ module _ (accounts : Accounts) (s : State) (f : Flat) (births : Births) (names :
     made_of kepts.All bytes = bytes_at f q ++ bytes
     made_of kepts.Nothing bytes = bytes
 
-    bytes_are : (kept : Kept) (bytes : List ℕ) → bytes_then kept view.way.here (length bytes) ≡ length (made_of kept bytes)
+    bytes_are : (kept : Kept) (bytes : List ℕ) → bytes_then kept view.facts.now.way.here (length bytes) ≡ length (made_of kept bytes)
     bytes_are kepts.All bytes =
-        ap (λ (n : ℕ). n + length bytes) (bytes_is q view.way.here way_is.2) ∙ sym (length-append (bytes_at f q) bytes)
+        ap (λ (n : ℕ). n + length bytes) (bytes_is q view.facts.now.way.here way_is.2) ∙ sym (length-append (bytes_at f q) bytes)
     bytes_are kepts.Nothing bytes = omega arith
 
     fits_met : (kept : Kept) (bytes : List ℕ) → reason (parts.Fits kept (length bytes))
         ≡ unless (nat_le (length (made_of kept bytes)) most_bytes) (IsTooLong q (length (made_of kept bytes)))
     fits_met kept bytes = λ i. unless (nat_le (bytes_are kept bytes i) most_bytes) (IsTooLong (path_is i) (bytes_are kept bytes i))
 
-    make_met : (mode : Mode) → reason (parts.MayMake mode) ≡ unless (is_some (class_made accounts p mode)) (unmade mode)
+    make_met : (mode : Mode) → reason (parts.OfProcess (of_process.MayMake mode)) ≡ unless (is_some (class_made accounts p mode)) (unmade mode)
     make_met mode =
         (λ i. unless (is_some (class_made (is.users_are i) (p_is i) mode)) (unmade mode))
         ∙ ap (λ (c : Option Class). unless (is_some c) (unmade mode)) (made_is accounts p mode)
 
-    child_left_met : reason parts.HasChildLeft ≡ unless (nat_lt p.born most_children) (HadChildren p.born)
+    child_left_met : reason (parts.OfProcess of_process.HasChildLeft) ≡ unless (nat_lt p.born most_children) (HadChildren p.born)
     child_left_met = λ i. unless (nat_lt (p_is i).born most_children) (HadChildren (p_is i).born)
 
-    number_left_met : reason parts.HasNumberLeft ≡ unless (nat_lt (length me) most_numbers) (HasNumbers (length me + 1))
+    number_left_met : reason (parts.OfProcess of_process.HasNumberLeft) ≡ unless (nat_lt (length me) most_numbers) (HasNumbers (length me + 1))
     number_left_met = λ i. unless (nat_lt (length (me_is i)) most_numbers) (HasNumbers (length (me_is i) + 1))
 
-    found_met : (name : ProcName) → other_of call ≡ name → reason (parts.Found name) ≡ why_not_found accounts f p name
+    found_met : (name : ProcName) → other_of call ≡ name → reason (parts.OfProcess (of_process.Found name)) ≡ why_not_found accounts f p name
     found_met name given =
-        is.search ∙ search_is accounts s f births names (process_of caller) asked.other
+        is.facts.search ∙ search_is accounts s f births names (process_of caller) asked.other
         ∙ (λ i. why_not_found accounts f (caller_is i) ((is_asked.other ∙ given) i))
 
-    child_met : (name : ProcName) → reason (parts.IsChild name) ≡ unless (is_child me name) (IsNoChild name)
+    child_met : (name : ProcName) → reason (parts.OfProcess (of_process.IsChild name)) ≡ unless (is_child me name) (IsNoChild name)
     child_met name = λ i. unless (is_child (me_is i) name) (IsNoChild name)
 
-    user_met : (name : Name) → reason (parts.IsUser name) ≡ unless (is_some (user_named accounts.users name)) (NoUser name)
+    user_met : (name : Name) → reason (parts.OfProcess (of_process.IsUser name)) ≡ unless (is_some (user_named accounts.users name)) (NoUser name)
     user_met name =
         (λ i. unless (is_some (user_number (is.users_are i) name)) (NoUser name))
         ∙ ap (λ (b : Bool). unless b (NoUser name)) (user_is name accounts)
 
-    job_met : reason parts.InNoJob ≡ option_map IsInJob (innermost p)
+    job_met : reason (parts.OfProcess of_process.InNoJob) ≡ option_map IsInJob (innermost p)
     job_met = λ i. option_map IsInJob (innermost (p_is i))
 
-    somebody_met : reason parts.IsSomebody ≡ unless (not (same p.user nobody)) StartsNoJob
+    somebody_met : reason (parts.OfProcess of_process.IsSomebody) ≡ unless (not (same p.user nobody)) StartsNoJob
     somebody_met = λ i. unless (not (same (p_is i).user nobody)) StartsNoJob
 
     -- ---- call by call
@@ -417,8 +421,8 @@ module _ (accounts : Accounts) (s : State) (f : Flat) (births : Births) (names :
     -- the first part that is not met is that of the rule
     call_met : (c : UnixCall) → call ≡ c → is_some (why_need accounts f me p q (rule c).needs) ≡ true
         → firsts (parts_of c) ≡ why_need accounts f me p q (rule c).needs
-    call_met (Create r mode) e refused = room_first (parts.MayMake mode) _ (make_met mode)
-    call_met (Mkdir r mode) e refused = room_first (parts.MayMake mode) _ (make_met mode)
+    call_met (Create r mode) e refused = room_first (parts.OfProcess (of_process.MayMake mode)) _ (make_met mode)
+    call_met (Mkdir r mode) e refused = room_first (parts.OfProcess (of_process.MayMake mode)) _ (make_met mode)
     call_met (Read r) e refused = file_first (parts.MayRead ∷ []) _ (λ there. none_last (reason parts.MayRead) ∙ read_met)
     call_met (Write r bytes) e refused =
         file_first (parts.MayWrite ∷ parts.Fits kepts.Nothing (length bytes) ∷ []) _
@@ -436,17 +440,17 @@ module _ (accounts : Accounts) (s : State) (f : Flat) (births : Births) (names :
     call_met (Rmtree r) e refused = entry_first (parts.MayWriteAbove ∷ []) _ written_last
     call_met (Rename r name) e refused =
         entry_first (parts.AbsentBeside name ∷ parts.MayWriteAbove ∷ []) _ (λ walked. λ i. beside_met name (ap beside_of e) i orelse written_last walked i)
-    call_met Spawn e refused = λ i. child_left_met i orelse (none_last (reason parts.HasNumberLeft) ∙ number_left_met) i
+    call_met Spawn e refused = λ i. child_left_met i orelse (none_last (reason (parts.OfProcess of_process.HasNumberLeft)) ∙ number_left_met) i
     call_met (Exit n) e refused = refl
-    call_met (Status name) e refused = none_last (reason (parts.Found name)) ∙ found_met name (ap other_of e)
+    call_met (Status name) e refused = none_last (reason (parts.OfProcess (of_process.Found name))) ∙ found_met name (ap other_of e)
     call_met (Kill name) e refused =
-        λ i. found_met name (ap other_of e) i orelse (none_last (reason (parts.IsChild name)) ∙ child_met name) i
+        λ i. found_met name (ap other_of e) i orelse (none_last (reason (parts.OfProcess (of_process.IsChild name))) ∙ child_met name) i
     call_met Whoami e refused = refl
     call_met (Login name password) e refused =
         (λ i. user_met name i orelse job_met i orelse Some (WrongPassword name))
         ∙ last_refuses (unless (is_some (user_named accounts.users name)) (NoUser name)) (option_map IsInJob (innermost p)) _ (WrongPassword name) refused
     call_met (Wrap r) e refused =
-        (λ i. child_left_met i orelse number_left_met i orelse room_first parts.IsSomebody _ somebody_met i)
+        (λ i. child_left_met i orelse number_left_met i orelse room_first (parts.OfProcess of_process.IsSomebody) _ somebody_met i)
         ∙ sym (assoc (unless (nat_lt p.born most_children) (HadChildren p.born))
         (unless (nat_lt (length me) most_numbers) (HasNumbers (length me + 1))) _)
 

@@ -135,7 +135,7 @@ module _ (accounts : Accounts) (s : State) (f : Flat) (births : Births) (names :
   -- why a process doesn't find the one of a name, if it finds those above it
   unfound_is : (p : Process) (n : ℕ) (above : ProcName)
       → unfound_by births p (n ∷ above) (node_at (without_passwords accounts) s first (n ∷ above))
-      ≡ (unless (is_some (f.processes (n ∷ above))) (NoProcess (n ∷ above)) orelse unseen (n ∷ above) (f.processes (n ∷ above)))
+      ≡ (unless (is_some (f.processes (n ∷ above))) (NoProcess (n ∷ above)) orelse unseen accounts f p (n ∷ above) (f.processes (n ∷ above)))
   unfound_is p n above = ap (unfound_by births p (n ∷ above)) (node_found (n ∷ above)) ∙ by (f.processes (n ∷ above)) refl
     where
       by : (o : Option Process) → f.processes (n ∷ above) ≡ o

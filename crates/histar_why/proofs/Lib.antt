@@ -6,6 +6,7 @@ pub mod Found
 pub mod Spots
 pub mod Evaluating
 pub mod Saying
+pub mod Lines
 pub mod Turns
 pub mod WholeRuns
 pub mod TextRuns

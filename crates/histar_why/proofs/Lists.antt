@@ -3,6 +3,7 @@ use Rattle.std.specs.Prelude.{◌≡◌, ℕ, suc, ◌+◌, ◌-◌, ◌<◌, �
 use Rattle.std.specs.Prelude.{OnOk, Result, Ok, Err, if◌then◌else◌, refl}
 use Rattle.std.specs.List.{find}
 use Rattle.std.proofs.Common.{arith, ap, sym, ◌∙◌, append_assoc}
+use Rattle.histar_reasons.specs.Causes.{last_of}
 use Rattle.std.proofs.lemmas.List.{at_drop_all, at_drop_more, map-append, take_all, take_more}
 
 module _ {A : Type 0} where
@@ -45,16 +46,27 @@ module _ {A : Type 0} where
 
 -- ---- texts that are added one after another
 
-pub assoc_three : (a b c d : List ℕ) → (a ++ b ++ c) ++ d ≡ a ++ b ++ c ++ d
-assoc_three a b c d = append_assoc a (b ++ c) d ∙ ap (λ (l : List ℕ). a ++ l) (append_assoc b c d)
-
 -- two texts
-pub joined : {X E : Type 0} (r : Result X E) {old mid new x y whole : List ℕ} → mid ≡ old ++ x → OnOk r (new ≡ mid ++ y) → x ++ y ≡ whole
+pub joined : {X E : Type 0} (r : Result X E) (old mid new x y whole : List ℕ) → mid ≡ old ++ x → OnOk r (new ≡ mid ++ y) → x ++ y ≡ whole
     → OnOk r (new ≡ old ++ whole)
-joined (Ok z) {old = old} {x = x} {y = y} first second is =
+joined (Ok z) old mid new x y whole first second is =
     second ∙ ap (λ (l : List ℕ). l ++ y) first ∙ append_assoc old x y ∙ ap (λ (l : List ℕ). old ++ l) is
-joined (Err e) first second is = tt
+joined (Err e) old mid new x y whole first second is = tt
 
 -- one text after another is one
-pub both : {old mid new x y : List ℕ} → mid ≡ old ++ x → new ≡ mid ++ y → new ≡ old ++ (x ++ y)
-both {old = old} {x = x} {y = y} first second = second ∙ ap (λ (l : List ℕ). l ++ y) first ∙ append_assoc old x y
+pub both : (old mid new x y : List ℕ) → mid ≡ old ++ x → new ≡ mid ++ y → new ≡ old ++ (x ++ y)
+both old mid new x y first second = second ∙ ap (λ (l : List ℕ). l ++ y) first ∙ append_assoc old x y
+
+-- a text before three others
+pub spread : (a b c d : List ℕ) → a ++ (b ++ c ++ d) ≡ a ++ b ++ c ++ d
+spread a b c d = sym (append_assoc a (b ++ c) d) ∙ ap (λ (l : List ℕ). l ++ d) (sym (append_assoc a b c))
+
+-- the last of a list
+pub last_is : (xs : List (List ℕ)) (x : List ℕ) → 1 ≤ length xs → x ≡ get_or xs (length xs - 1) x → Some x ≡ last_of xs
+last_is [] x some e = absurd (omega (arith, some))
+last_is (y ∷ []) x some e = ap Some e
+last_is (y ∷ z ∷ zs) x some e =
+    let longer : length (y ∷ z ∷ zs) - 1 ≡ suc (length zs) = omega arith in
+    let shorter : length zs ≡ length (z ∷ zs) - 1 = omega arith in
+    let here : x ≡ get_or (z ∷ zs) (length zs) x = e ∙ ap (λ (i : ℕ). get_or (y ∷ z ∷ zs) i x) longer in
+    last_is (z ∷ zs) x (omega arith) (here ∙ ap (λ (i : ℕ). get_or (z ∷ zs) i x) shorter)

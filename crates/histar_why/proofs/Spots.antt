@@ -1,5 +1,5 @@
 -- What is found at a path of a state is what the rules say is there.
-use Rattle.std.specs.Prelude.{◌≡◌, ℕ, ◌+◌, ◌*◌, Bool, true, false, cond, not, List, [], ◌∷◌, length, map, Option, None, Some, MatchOption, is_some, option_and_then, option_map, refl}
+use Rattle.std.specs.Prelude.{◌≡◌, ℕ, ◌+◌, ◌*◌, Bool, true, false, cond, not, List, [], ◌∷◌, length, map, Option, None, Some, MatchOption, is_some, option_and_then, option_map, refl, Ok, Err}
 use Rattle.std.proofs.Common.{ap, inl, inr, sym, ◌∙◌, subst}
 use Rattle.std.proofs.lemmas.Bool.{true≢false}
 use Rattle.std.proofs.lemmas.Option.{none-some, same_Some}
@@ -17,6 +17,8 @@ use Rattle.histar_level.specs.Levels.{Levels}
 use Rattle.histar_object.specs.Objects.{label_there}
 use Rattle.histar_object.specs.State.{State}
 use Rattle.histar_syscall.specs.KernelModel.{lent_bytes}
+use Rattle.histar_layout.specs.Checked.{IsLookedUp}
+use Rattle.histar_layout.specs.declared.checked.NotADirectory.{NotADirectory}
 use Rattle.histar_layout.specs.ClassLabels.{HasJobs, IsClassLabel, IsRisingFrom, LabelsHaveOneClass, class_label, owned_label}
 use Rattle.histar_layout.specs.Categories.{group_owner, scratch_label, write_category}
 use Rattle.histar_layout.specs.Directory.{Entries, IsDirectory}
@@ -60,10 +62,11 @@ use Rattle.histar_reasons.specs.Reasons.Reason.{HasFile, IsMissing, MayNotRead}
 use Rattle.histar_why.specs.declared.ways.Spot.{Spot}
 use Rattle.histar_why.specs.declared.ways.Way.{Way}
 use Rattle.histar_why.specs.declared.reasons.Reason.{Reason as Found}
-use Rattle.histar_why.specs.Causes.{class_by, class_named}
+use Rattle.histar_why.specs.Causes.{class_by, class_named, jobs_by}
+use Rattle.histar_why.specs.Views.{CountsIn}
 use Rattle.histar_why.specs.Names.{NamesJobs, job_named}
 use Rattle.histar_why.specs.Reasons.{has_directory, reason_of, unread_in}
-use Rattle.histar_why.specs.Ways.{FindsBelow, FindsEntry, FindsSpot, HasClass, IsAt, IsSpot, IsWayTo, ListsAt, Reveals, Sight}
+use Rattle.histar_why.specs.Ways.{FindsBelow, FindsEntry, FindsSpot, HasClass, IsAt, IsSpot, IsWayTo, Lists, Reveals, Sight}
 use Rattle.histar_why.specs.Ways.{sight_at, sight_by, sight_of, why_into_by}
 use Rattle.histar_why.proofs.Found.{jobs_are}
 
@@ -241,42 +244,33 @@ module _ (accounts : Accounts) (s : State) (f : Flat) (births : Births) (names :
     at_slash found is = at_target [] _ refl p found is
 
     -- where an entry of the directory at a path leads
-    entry_leads : (d : Path) (directory : Option Spot) → At d directory → (n : Name) (target : Target) → ListsAt s directory n target
+    entry_leads : (d : Path) (above : Target) → LeadsTo s roots d above → (n : Name) (target : Target) → Lists s above n target
         → LeadsTo s roots (n ∷ d) target
-    entry_leads d None above n target lists = absurd (none-some _ lists.3)
-    entry_leads d (Some spot) above n target lists = (
-      lists.0,
-      lists.1,
-      lists.2,
-      subst (LeadsTo s roots d) (same_Some spot.target (targets.Directory lists.0 lists.1) lists.3) above.leads,
-      lists.4,
-      lists.5,
-    )
+    entry_leads d (targets.File file) led n target lists = absurd lists
+    entry_leads d (targets.Directory container listing) led n target lists = (container, listing, lists.0, led, lists.1, lists.2)
 
     -- and each path below it leads to an entry
-    listed_entry : (d : Path) (directory : Option Spot) → At d directory → (n : Name) (target : Target) → LeadsTo s roots (n ∷ d) target
-        → ListsAt s directory n target
-    listed_entry d None above n target led = absurd (above.leads _ led.3)
-    listed_entry d (Some spot) above n target led = (
-      led.0,
-      led.1,
-      led.2,
-      ap Some (paths_lead_to_one_target s roots d spot.target (targets.Directory led.0 led.1) above.leads led.3),
-      led.4,
-      led.5,
-    )
+    listed_entry : (d : Path) (above : Target) → LeadsTo s roots d above → (n : Name) (target : Target) → LeadsTo s roots (n ∷ d) target
+        → Lists s above n target
+    listed_entry d above here n target led =
+        subst (λ (t : Target). Lists s t n target) (paths_lead_to_one_target s roots d (targets.Directory led.0 led.1) above led.3 here)
+        (led.2, led.4, led.5)
+
+    -- nothing is at a path that leads nowhere
+    at_nothing : (q : Path) → LeadsNowhere s roots q → At q None
+    at_nothing q nowhere = record { leads = nowhere; seen = ap (option_map (sight_at accounts p)) (sym (nothing_at q nowhere)) }
 
     at_entry : (d : Path) (directory : Option Spot) → At d directory → (n : Name) (found : Option Spot)
         → FindsBelow (without_passwords accounts) births s p directory n found → At (n ∷ d) found
-    at_entry d directory above n found below = by below.0 below.1 below.2
+    at_entry d None above n found is = subst (At (n ∷ d)) (sym is) (at_nothing (n ∷ d) (λ target led. above.leads _ led.3))
+    at_entry d (Some spot) above n found below = by below.0 below.1 below.2
       where
-        by : (o : Option Target) → FindsEntry s directory n o
+        by : (o : Option Target) → FindsEntry s spot.target n o
             → MatchOption o (found ≡ None) (λ there. FindsSpot (without_passwords accounts) births s p there found) → At (n ∷ d) found
         by None none is =
-            let nowhere : LeadsNowhere s roots (n ∷ d) = λ target led. none target (listed_entry d directory above n target led) in
             subst (At (n ∷ d)) (sym is)
-            (record { leads = nowhere; seen = ap (option_map (sight_at accounts p)) (sym (nothing_at (n ∷ d) nowhere)) })
-        by (Some target) lists is = at_target (n ∷ d) target (entry_leads d directory above n target lists) p found is
+            (at_nothing (n ∷ d) (λ target led. none target (listed_entry d spot.target above.leads n target led)))
+        by (Some target) lists is = at_target (n ∷ d) target (entry_leads d spot.target above.leads n target lists) p found is
 
     -- ---- the walk
 
@@ -361,3 +355,45 @@ module _ (users : Accounts) (roots : Roots) (births : Births) (s : State) (p : P
         subst (IsAt users roots births s accounts f p d) (sym above) upper.2,
         at,
       )
+
+-- ---- one entry
+
+-- a file lists nothing
+pub none_in_file : (s : State) (above : Target) (name : Name) (file : ℕ) → above ≡ targets.File file → FindsEntry s above name None
+none_in_file s above name file is target lists = subst (λ (t : Target). Lists s t name target) is lists
+
+module _ (s : State) (above : Target) (name : Name) (container listing : ℕ) (is : above ≡ targets.Directory container listing) (bytes : List ℕ)
+    (read : bytes ≡ lent_bytes s listing) where
+  -- a name that a directory lists is listed in its segment
+  in_segment : (target : Target) → Lists s above name target → (dir : Entries) × IsDirectory bytes dir × (maps.get dir name ≡ Some target)
+  in_segment target lists =
+      let here = subst (λ (t : Target). Lists s t name target) is lists in
+      (here.0, subst (λ (b : List ℕ). IsDirectory b here.0) (sym read) here.1, here.2)
+
+  -- a segment that holds no directory lists nothing
+  pub none_unlisted : (fault : NotADirectory) → IsLookedUp bytes name (Err fault) → FindsEntry s above name None
+  none_unlisted fault none target lists = let here = in_segment target lists in none here.0 here.1
+
+  -- the entry that a directory lists is found
+  pub entry_found : (found : Option Target) → IsLookedUp bytes name (Ok found) → FindsEntry s above name found
+  entry_found None looked = λ target lists.
+      let here = in_segment target lists in
+      let same = same_directory bytes looked.0 here.0 looked.1 here.1 in
+      none-some target (looked.2 ∙ ap (λ (dir : Entries). maps.get dir name) same ∙ here.2)
+  entry_found (Some target) looked =
+      subst (λ (t : Target). Lists s t name target) (sym is) (looked.0, subst (λ (b : List ℕ). IsDirectory b looked.0) read looked.1, sym looked.2)
+
+  -- the entries of the directory that was read are counted
+  pub entries_counted : (n : ℕ) (read_as : Entries) → IsDirectory bytes read_as → n ≡ maps.len read_as → CountsIn s above n
+  entries_counted n read_as is_read count =
+      subst (λ (t : Target). CountsIn s t n) (sym is) (λ dir here.
+      count ∙ ap maps.len (same_directory bytes read_as dir is_read (subst (λ (b : List ℕ). IsDirectory b dir) (sym read) here)))
+
+-- the spot of a class is that of its target
+module _ (users : Accounts) (births : Births) (p : Process) (class : NumberedClass) where
+  pub unread_by : (jobs : List ProcName) → jobs ≡ jobs_by births class → unread users p (class_by jobs class) ≡ unread users p (class_named births class)
+  unread_by jobs is = ap (λ (js : List ProcName). unread users p (class_by js class)) is
+
+  pub unwritten_by : (jobs : List ProcName) → jobs ≡ jobs_by births class
+      → unwritten users p (class_by jobs class) ≡ unwritten users p (class_named births class)
+  unwritten_by jobs is = ap (λ (js : List ProcName). unwritten users p (class_by js class)) is

@@ -3,7 +3,8 @@ use Rattle.std.proofs.Common.{◌≡◌, ℕ, List, [], ◌∷◌, ◌++◌, Opt
 use Rattle.std.specs.Prelude.{OnErr, OnOk}
 use Rattle.std.specs.Io.KnownBytes.{Keeps}
 use Rattle.std.proofs.KnownBytes.{Appends-kept, Keeps-refl}
-use Rattle.histar_io.proofs.WritingLemmas.{whole_front}
+use Rattle.histar_io.specs.Writing.{AppendsFront}
+use Rattle.histar_io.proofs.WritingLemmas.{sent_none, whole_front}
 use Rattle.histar_flat.specs.declared.calls.CallLine.{CallLine}
 use Rattle.histar_flat.specs.declared.replies.Reply.{Reply}
 use Rattle.histar_flat.specs.Accounts.{Accounts}
@@ -79,6 +80,10 @@ module _ (first mid last : MachineModel) (a b c : Option (List ℕ)) (calls : Li
   }
 
 -- ---- where a call is not told
+
+-- nothing is a beginning of each text
+pub front_none : (a : Option (List ℕ)) (text : List ℕ) → AppendsFront a a text
+front_none a text = (_, sent_none a _)
 
 -- an answer has begun to be written
 pub answer_begins : (before after : MachineModel) (old new : Option (List ℕ)) (call : CallLine) (reply : Reply)

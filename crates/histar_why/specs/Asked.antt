@@ -11,8 +11,9 @@ use Rattle.histar_why.specs.declared.asked.Kept.{Kept}
 use Rattle.histar_why.specs.declared.asked.Kept.TheVariants.{All, Nothing}
 use Rattle.histar_why.specs.declared.asked.Part.{Part}
 use Rattle.histar_why.specs.declared.asked.Part.TheVariants.{NotRoot, Walk, Exists, IsFile, IsDirectory, Absent, AbsentBeside, MayRead, MayWrite}
-use Rattle.histar_why.specs.declared.asked.Part.TheVariants.{MayWriteAbove, HasRoomAbove, IsEmpty, Fits, MayMake, HasChildLeft, HasNumberLeft}
-use Rattle.histar_why.specs.declared.asked.Part.TheVariants.{Found, IsChild, IsUser, HasPassword, InNoJob, IsSomebody}
+use Rattle.histar_why.specs.declared.asked.Part.TheVariants.{MayWriteAbove, HasRoomAbove, IsEmpty, Fits, OfProcess}
+use Rattle.histar_why.specs.declared.asked.ProcessPart.TheVariants.{MayMake, HasChildLeft, HasNumberLeft, Found, IsChild, IsUser, HasPassword, InNoJob}
+use Rattle.histar_why.specs.declared.asked.ProcessPart.TheVariants.{IsSomebody}
 use Rattle.histar_why.specs.declared.asked.Asked.{Asked}
 
 -- the name that a call gives to what is at its path
@@ -28,7 +29,7 @@ other_of call = []
 
 -- what a call needs that makes a file or a directory of a mode
 abbrev pub parts_of_entry : Mode → List Part
-parts_of_entry mode = NotRoot EEXIST ∷ Walk ∷ Absent ∷ HasRoomAbove ∷ MayWriteAbove ∷ MayMake mode ∷ []
+parts_of_entry mode = NotRoot EEXIST ∷ Walk ∷ Absent ∷ HasRoomAbove ∷ MayWriteAbove ∷ OfProcess (MayMake mode) ∷ []
 
 -- what a call needs that puts bytes into a file
 abbrev pub parts_of_bytes : Kept → List ℕ → List Part
@@ -53,14 +54,14 @@ parts_of_removal call = ((NotRoot EBUSY ∷ Walk ∷ Exists ∷ []) ++ parts_of_
 
 -- what a call needs that starts a job
 abbrev pub parts_of_wrap : List Part
-parts_of_wrap = HasChildLeft ∷ HasNumberLeft ∷ NotRoot EEXIST ∷ Walk ∷ Absent ∷ HasRoomAbove ∷ MayWriteAbove ∷ IsSomebody ∷ []
+parts_of_wrap = OfProcess HasChildLeft ∷ OfProcess HasNumberLeft ∷ NotRoot EEXIST ∷ Walk ∷ Absent ∷ HasRoomAbove ∷ MayWriteAbove ∷ OfProcess IsSomebody ∷ []
 
 -- what a call on processes needs
 abbrev pub parts_of_process : UnixCall → List Part
-parts_of_process Spawn = HasChildLeft ∷ HasNumberLeft ∷ []
-parts_of_process (Status name) = Found name ∷ []
-parts_of_process (Kill name) = Found name ∷ IsChild name ∷ []
-parts_of_process (Login name password) = IsUser name ∷ InNoJob ∷ HasPassword name ∷ []
+parts_of_process Spawn = OfProcess HasChildLeft ∷ OfProcess HasNumberLeft ∷ []
+parts_of_process (Status name) = OfProcess (Found name) ∷ []
+parts_of_process (Kill name) = OfProcess (Found name) ∷ OfProcess (IsChild name) ∷ []
+parts_of_process (Login name password) = OfProcess (IsUser name) ∷ OfProcess InNoJob ∷ OfProcess (HasPassword name) ∷ []
 parts_of_process (Wrap q) = parts_of_wrap
 parts_of_process call = []
 

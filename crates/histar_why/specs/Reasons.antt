@@ -18,6 +18,8 @@ use Rattle.histar_why.specs.declared.asked.Kept.{Kept}
 use Rattle.histar_why.specs.declared.asked.Kept.TheVariants.{All, Nothing}
 use Rattle.histar_why.specs.declared.asked.Part.{Part}
 use Rattle.histar_why.specs.declared.asked.Part.TheVariants as parts
+use Rattle.histar_why.specs.declared.asked.ProcessPart.{ProcessPart}
+use Rattle.histar_why.specs.declared.asked.ProcessPart.TheVariants as of_process
 use Rattle.histar_why.specs.declared.reasons.ProcessReason.{ProcessReason as OwnReason}
 use Rattle.histar_why.specs.declared.reasons.ProcessReason.TheVariants as own
 use Rattle.histar_why.specs.declared.reasons.Reason.{Reason as Found}
@@ -89,38 +91,37 @@ bytes_then kept spot new = bytes_kept kept spot + new
 
 module _ (view : View) where
   -- why a part that is of the process alone is not met
-  abbrev pub process_reason : Part → Option Reason
-  process_reason (parts.MayMake mode) =
+  abbrev pub process_reason : ProcessPart → Option Reason
+  process_reason (of_process.MayMake mode) =
       unless (is_some (class_made view.users.now (process_of view.caller.now) mode)) (unmade mode)
-  process_reason parts.HasChildLeft = unless (nat_lt view.caller.now.born most_children) (HadChildren view.caller.now.born)
-  process_reason parts.HasNumberLeft =
+  process_reason of_process.HasChildLeft = unless (nat_lt view.caller.now.born most_children) (HadChildren view.caller.now.born)
+  process_reason of_process.HasNumberLeft =
       unless (nat_lt (length view.asked.now.process) most_numbers) (HasNumbers (length view.asked.now.process + 1))
-  process_reason (parts.Found name) = option_map reason_of view.search
-  process_reason (parts.IsChild name) = unless (is_child view.asked.now.process name) (IsNoChild name)
-  process_reason (parts.IsUser name) = unless (is_some (user_number view.users.now name)) (NoUser name)
-  process_reason (parts.HasPassword name) = Some (WrongPassword name)
-  process_reason parts.InNoJob = option_map IsInJob (innermost (process_of view.caller.now))
-  process_reason parts.IsSomebody = unless (not (same view.caller.now.user nobody)) StartsNoJob
-  process_reason part = None
+  process_reason (of_process.Found name) = option_map reason_of view.facts.now.search
+  process_reason (of_process.IsChild name) = unless (is_child view.asked.now.process name) (IsNoChild name)
+  process_reason (of_process.IsUser name) = unless (is_some (user_number view.users.now name)) (NoUser name)
+  process_reason (of_process.HasPassword name) = Some (WrongPassword name)
+  process_reason of_process.InNoJob = option_map IsInJob (innermost (process_of view.caller.now))
+  process_reason of_process.IsSomebody = unless (not (same view.caller.now.user nobody)) StartsNoJob
 
   -- why a part is not met
   abbrev pub part_reason : Part → Option Reason
   part_reason (parts.NotRoot e) = unless (is_below_root view.asked.now.path) (root_reason e view.asked.now.path)
-  part_reason parts.Walk = option_map reason_of view.way.walk
-  part_reason parts.Exists = unless (is_some view.way.here) (IsMissing view.asked.now.path)
-  part_reason parts.IsFile = unless (has_file view.way.here) (HasDirectory view.asked.now.path)
-  part_reason parts.IsDirectory = unless (has_directory view.way.here) (HasFile view.asked.now.path)
-  part_reason parts.Absent = unless (not (is_some view.way.here)) (IsTaken view.asked.now.path)
-  part_reason (parts.AbsentBeside name) = unless (not view.beside) (IsTaken (name ∷ parent view.asked.now.path))
-  part_reason parts.MayRead = option_map (MayNotRead view.asked.now.path) (unread_in view.way.here)
-  part_reason parts.MayWrite = option_map (MayNotWrite view.asked.now.path) (unwritten_in view.way.here)
-  part_reason parts.MayWriteAbove = option_map (MayNotWrite (parent view.asked.now.path)) (unwritten_in view.way.above)
+  part_reason parts.Walk = option_map reason_of view.facts.now.way.walk
+  part_reason parts.Exists = unless (is_some view.facts.now.way.here) (IsMissing view.asked.now.path)
+  part_reason parts.IsFile = unless (has_file view.facts.now.way.here) (HasDirectory view.asked.now.path)
+  part_reason parts.IsDirectory = unless (has_directory view.facts.now.way.here) (HasFile view.asked.now.path)
+  part_reason parts.Absent = unless (not (is_some view.facts.now.way.here)) (IsTaken view.asked.now.path)
+  part_reason (parts.AbsentBeside name) = unless (not view.facts.now.beside) (IsTaken (name ∷ parent view.asked.now.path))
+  part_reason parts.MayRead = option_map (MayNotRead view.asked.now.path) (unread_in view.facts.now.way.here)
+  part_reason parts.MayWrite = option_map (MayNotWrite view.asked.now.path) (unwritten_in view.facts.now.way.here)
+  part_reason parts.MayWriteAbove = option_map (MayNotWrite (parent view.asked.now.path)) (unwritten_in view.facts.now.way.above)
   part_reason parts.HasRoomAbove =
-      unless (nat_lt (view.above) most_entries) (IsFull (parent view.asked.now.path) (view.above))
-  part_reason parts.IsEmpty = unless (view.here == 0) (IsNotEmpty view.asked.now.path (view.here))
+      unless (nat_lt view.facts.now.above most_entries) (IsFull (parent view.asked.now.path) view.facts.now.above)
+  part_reason parts.IsEmpty = unless (view.facts.now.here == 0) (IsNotEmpty view.asked.now.path view.facts.now.here)
   part_reason (parts.Fits kept new) =
-      unless (nat_le (bytes_then kept view.way.here new) most_bytes) (IsTooLong view.asked.now.path (bytes_then kept view.way.here new))
-  part_reason part = process_reason part
+      unless (nat_le (bytes_then kept view.facts.now.way.here new) most_bytes) (IsTooLong view.asked.now.path (bytes_then kept view.facts.now.way.here new))
+  part_reason (parts.OfProcess part) = process_reason part
 
   -- why the first of these parts that is not met isn't
   abbrev pub first_reason : List Part → Option Reason

@@ -21,29 +21,21 @@ use Rattle.histar_reasons.specs.Reasons.{Reason}
 use Rattle.histar_reasons.specs.Reasons.Reason.{NoProcess, IsUnseen}
 use Rattle.histar_why.specs.declared.asked.Asked.{Asked}
 use Rattle.histar_why.specs.declared.names.Caller.{Caller}
+use Rattle.histar_why.specs.declared.views.Facts.{Facts}
 use Rattle.histar_why.specs.declared.views.View.{View}
 use Rattle.histar_why.specs.declared.ways.Spot.{Spot}
 use Rattle.histar_why.specs.Names.{job_named, node_at, process_of}
 use Rattle.histar_why.specs.Reasons.{reason_of}
 use Rattle.histar_why.specs.Ways.{IsWayTo}
 
--- the directory segment of a target, if it is a directory
-abbrev pub listing_of : Target → Option ℕ
-listing_of (File file) = None
-listing_of (Directory container listing) = Some listing
-
--- the directory segment of a spot, if a directory is there
-abbrev pub listing_at : Option Spot → Option ℕ
-listing_at None = None
-listing_at (Some spot) = listing_of spot.target
-
--- this is how many entries a directory segment lists
-abbrev pub IsCount : State → ℕ → ℕ → Type 0
-IsCount s n listing = (dir : Entries) → IsDirectory (lent_bytes s listing) dir → n ≡ maps.len dir
+-- this is how many entries a target has: a file has none, and a directory as many as its segment lists
+abbrev pub CountsIn : State → Target → ℕ → Type 0
+CountsIn s (File file) n = n ≡ 0
+CountsIn s (Directory container listing) n = (dir : Entries) → IsDirectory (lent_bytes s listing) dir → n ≡ maps.len dir
 
 -- this is how many entries the directory at a spot has; where none is there it has none
 abbrev pub CountsEntries : State → Option Spot → ℕ → Type 0
-CountsEntries s spot n = MatchOption (listing_at spot) (n ≡ 0) (IsCount s n)
+CountsEntries s spot n = MatchOption spot (n ≡ 0) (λ x. CountsIn s x.target n)
 
 -- whether something in the directory of the path has the name that the call gives
 abbrev pub IsBeside : State → Roots → Asked → Bool → Type 0
@@ -62,13 +54,17 @@ search_by users births s first p [] = None
 search_by users births s first p (n ∷ above) =
     search_by users births s first p above orelse unfound_by births p (n ∷ above) (node_at users s first (n ∷ above))
 
+-- this was read for a call of a process
+pub record AreFactsOf (users : Accounts) (roots : Roots) (births : Births) (s : State) (p : Process) (asked : Asked) (facts : Facts) : Type 0 where
+  pub way : IsWayTo users roots births s p asked.path facts.way
+  pub above : CountsEntries s facts.way.above facts.above
+  pub here : CountsEntries s facts.way.here facts.here
+  pub beside : IsBeside s roots asked facts.beside
+  pub search : option_map reason_of facts.search ≡ search_by users births s roots.home p asked.other
+
 -- this is what a call of a process is about
 pub record IsViewOf (users : Accounts) (roots : Roots) (births : Births) (s : State) (caller : Caller) (asked : Asked) (view : View) : Type 0 where
   pub asked_is : view.asked.now ≡ asked
   pub users_are : view.users.now ≡ users
   pub caller_is : view.caller.now ≡ caller
-  pub way : IsWayTo users roots births s (process_of caller) asked.path view.way
-  pub above : CountsEntries s view.way.above view.above
-  pub here : CountsEntries s view.way.here view.here
-  pub beside : IsBeside s roots asked view.beside
-  pub search : option_map reason_of view.search ≡ search_by users births s roots.home (process_of caller) asked.other
+  pub facts : AreFactsOf users roots births s (process_of caller) asked view.facts.now

@@ -77,22 +77,25 @@ abbrev pub FindsSpot : Accounts → Births → State → Process → Target → 
 FindsSpot users births s p target found =
     MatchOption found ((class : NumberedClass) → HasClass users s target class → ⊥) (IsSpot users births s p target)
 
--- a directory is at the spot, and lists this name with this target
-abbrev pub ListsAt : State → Option Spot → Name → Target → Type 0
-ListsAt s directory name target =
-    (container : ℕ) × (listing : ℕ) × (dir : Entries) × (option_map (λ x. x.target) directory ≡ Some (Directory container listing))
-    × IsDirectory (lent_bytes s listing) dir × (map.get dir name ≡ Some target)
+-- the directory at the one target lists this name, and its entry leads to the other target
+abbrev pub Lists : State → Target → Name → Target → Type 0
+Lists s (File file) name target = ⊥
+Lists s (Directory container listing) name target = (dir : Entries) × IsDirectory (lent_bytes s listing) dir × (map.get dir name ≡ Some target)
 
--- the target that was found is where the entry of the name leads, and none was found exactly if there is no entry
-abbrev pub FindsEntry : State → Option Spot → Name → Option Target → Type 0
-FindsEntry s directory name found =
-    MatchOption found ((target : Target) → ListsAt s directory name target → ⊥) (ListsAt s directory name)
+-- the target that was found is where the entry of the name leads, and nothing was found exactly if there is no entry
+abbrev pub FindsEntry : State → Target → Name → Option Target → Type 0
+FindsEntry s above name found = MatchOption found ((target : Target) → Lists s above name target → ⊥) (Lists s above name)
 
--- what was found is at the entry of this name in a directory
+-- what was found is at the entry of this name of a target
+abbrev pub FindsListed : Accounts → Births → State → Process → Target → Name → Option Spot → Type 0
+FindsListed users births s p above name found =
+    (target : Option Target) × FindsEntry s above name target
+    × MatchOption target (found ≡ None) (λ there. FindsSpot users births s p there found)
+
+-- what was found is at the entry of this name of a directory, if one is there
 abbrev pub FindsBelow : Accounts → Births → State → Process → Option Spot → Name → Option Spot → Type 0
 FindsBelow users births s p directory name found =
-    (target : Option Target) × FindsEntry s directory name target
-    × MatchOption target (found ≡ None) (λ there. FindsSpot users births s p there found)
+    MatchOption directory (found ≡ None) (λ spot. FindsListed users births s p spot.target name found)
 
 -- why the process can't go into the directory of a path, by what is on the way to it
 abbrev pub why_into_by : Way → Path → Option Reason

@@ -31,6 +31,13 @@ pub(crate) enum Part {
     IsEmpty,
     /// The file may have this many bytes, after those that it keeps.
     Fits(Kept, usize),
+    /// It is a part that is of the process.
+    OfProcess(ProcessPart),
+}
+
+/// A part of what a call needs, of its process alone.
+#[derive(Clone, Copy)]
+pub(crate) enum ProcessPart {
     /// The process may make something of this mode.
     MayMake(Mode),
     /// Fewer than 64 children were born to the process.
@@ -129,7 +136,7 @@ fn parts_of_entry(alloc: Global, mode: Mode) -> Result<Vec<Part>, AllocError>
         Part::Absent,
         Part::HasRoomAbove,
         Part::MayWriteAbove,
-        Part::MayMake(mode),
+        Part::OfProcess(ProcessPart::MayMake(mode)),
     ];
     Vec::from_slice(alloc, parts.as_slice())
 }
@@ -197,14 +204,33 @@ fn parts_of_process(alloc: Global, call: &UnixCall) -> Result<Vec<Part>, AllocEr
     ensures { IfOk result (λ parts. parts.items ≡ parts_of_process call.now) }
 {
     match call {
-        UnixCall::Spawn => Vec::from_slice(alloc, &[Part::HasChildLeft, Part::HasNumberLeft]),
-        UnixCall::Status(name) => Vec::from_slice(alloc, &[Part::Found(*name)]),
+        UnixCall::Spawn => Vec::from_slice(
+            alloc,
+            &[
+                Part::OfProcess(ProcessPart::HasChildLeft),
+                Part::OfProcess(ProcessPart::HasNumberLeft),
+            ],
+        ),
+        UnixCall::Status(name) => Vec::from_slice(
+            alloc,
+            &[Part::OfProcess(ProcessPart::Found(*name))],
+        ),
         UnixCall::Kill(name) => {
-            Vec::from_slice(alloc, &[Part::Found(*name), Part::IsChild(*name)])
+            Vec::from_slice(
+                alloc,
+                &[
+                    Part::OfProcess(ProcessPart::Found(*name)),
+                    Part::OfProcess(ProcessPart::IsChild(*name)),
+                ],
+            )
         }
         UnixCall::Login(name, _) => Vec::from_slice(
             alloc,
-            &[Part::IsUser(*name), Part::InNoJob, Part::HasPassword(*name)],
+            &[
+                Part::OfProcess(ProcessPart::IsUser(*name)),
+                Part::OfProcess(ProcessPart::InNoJob),
+                Part::OfProcess(ProcessPart::HasPassword(*name)),
+            ],
         ),
         UnixCall::Wrap(_) => parts_of_wrap(alloc),
         _ => Ok(Vec::new(alloc)),
@@ -216,14 +242,14 @@ fn parts_of_wrap(alloc: Global) -> Result<Vec<Part>, AllocError>
     ensures { IfOk result (λ parts. parts.items ≡ parts_of_wrap) }
 {
     let parts = [
-        Part::HasChildLeft,
-        Part::HasNumberLeft,
+        Part::OfProcess(ProcessPart::HasChildLeft),
+        Part::OfProcess(ProcessPart::HasNumberLeft),
         Part::NotRoot(Errno::EEXIST),
         Part::Walk,
         Part::Absent,
         Part::HasRoomAbove,
         Part::MayWriteAbove,
-        Part::IsSomebody,
+        Part::OfProcess(ProcessPart::IsSomebody),
     ];
     Vec::from_slice(alloc, parts.as_slice())
 }

@@ -14,7 +14,7 @@ ghost use Rattle.histar_why.specs.Names.{process_of};
 ghost use Rattle.histar_why.specs.Reasons.{bytes_of, bytes_then, first_reason, has_directory, has_file, part_reason};
 ghost use Rattle.histar_why.specs.Reasons.{process_reason, process_reason_of, reason_of, unread_in, unwritten_in};
 
-use crate::asked::{Kept, Part};
+use crate::asked::{Kept, Part, ProcessPart};
 use crate::causes::{Cause, innermost, is_member, nobody};
 use crate::names::Caller;
 use crate::views::View;
@@ -100,45 +100,47 @@ fn part_reason(view: &View, part: &Part) -> Option<Reason>
     let path = view.asked.path;
     match part {
         Part::NotRoot(errno) => unless(path.depth() > 0, root_reason(*errno, path)),
-        Part::Walk => view.way.walk,
-        Part::Exists => unless(view.way.here.is_some(), Reason::IsMissing(path)),
-        Part::IsFile => unless(has_file(&view.way.here), Reason::HasDirectory(path)),
-        Part::IsDirectory => unless(has_directory(&view.way.here), Reason::HasFile(path)),
-        Part::Absent => unless(!view.way.here.is_some(), Reason::IsTaken(path)),
-        Part::AbsentBeside(name) => unless(!view.beside, Reason::IsTaken(beside(&path, *name))),
-        Part::MayRead => not_read(path, &view.way.here),
-        Part::MayWrite => not_written(path, &view.way.here),
-        Part::MayWriteAbove => not_written(above(&path), &view.way.above),
-        Part::HasRoomAbove => no_room(above(&path), view.above),
-        Part::IsEmpty => not_empty(path, view.here),
-        Part::Fits(kept, new) => too_long(path, &view.way.here, *kept, *new),
-        _ => process_reason(view, part),
+        Part::Walk => view.facts.way.walk,
+        Part::Exists => unless(view.facts.way.here.is_some(), Reason::IsMissing(path)),
+        Part::IsFile => unless(has_file(&view.facts.way.here), Reason::HasDirectory(path)),
+        Part::IsDirectory => unless(has_directory(&view.facts.way.here), Reason::HasFile(path)),
+        Part::Absent => unless(!view.facts.way.here.is_some(), Reason::IsTaken(path)),
+        Part::AbsentBeside(name) => unless(
+            !view.facts.beside,
+            Reason::IsTaken(beside(&path, *name)),
+        ),
+        Part::MayRead => not_read(path, &view.facts.way.here),
+        Part::MayWrite => not_written(path, &view.facts.way.here),
+        Part::MayWriteAbove => not_written(above(&path), &view.facts.way.above),
+        Part::HasRoomAbove => no_room(above(&path), view.facts.above),
+        Part::IsEmpty => not_empty(path, view.facts.here),
+        Part::Fits(kept, new) => too_long(path, &view.facts.way.here, *kept, *new),
+        Part::OfProcess(part) => process_reason(view, part),
     }
 }
 
 /// Returns why a part that is of the process alone is not met, if it isn't.
-fn process_reason(view: &View, part: &Part) -> Option<Reason>
+fn process_reason(view: &View, part: &ProcessPart) -> Option<Reason>
     ensures { option_map reason_of result ≡ process_reason view.now part.now }
 {
     let (caller, me) = (view.caller, &view.asked.process);
     let numbers = me.numbers().len();
     let (is_met, reason) = match part {
-        Part::Found(_) => return view.search,
-        Part::InNoJob => return in_job(caller),
-        Part::MayMake(mode) => (may_make(view.users, caller, mode), unmade(mode)),
-        Part::HasChildLeft => (
+        ProcessPart::Found(_) => return view.facts.search,
+        ProcessPart::InNoJob => return in_job(caller),
+        ProcessPart::MayMake(mode) => (may_make(view.users, caller, mode), unmade(mode)),
+        ProcessPart::HasChildLeft => (
             caller.born < MOST_CHILDREN,
             ProcessReason::HadChildren(caller.born),
         ),
-        Part::HasNumberLeft => (
+        ProcessPart::HasNumberLeft => (
             numbers < MOST_NUMBERS,
             ProcessReason::HasNumbers(numbers + 1),
         ),
-        Part::IsChild(name) => (is_child(me, name), ProcessReason::IsNoChild(*name)),
-        Part::IsUser(name) => (is_user(view.users, *name), ProcessReason::NoUser(*name)),
-        Part::HasPassword(name) => (false, ProcessReason::WrongPassword(*name)),
-        Part::IsSomebody => (caller.user != nobody(), ProcessReason::StartsNoJob),
-        _ => return None,
+        ProcessPart::IsChild(name) => (is_child(me, name), ProcessReason::IsNoChild(*name)),
+        ProcessPart::IsUser(name) => (is_user(view.users, *name), ProcessReason::NoUser(*name)),
+        ProcessPart::HasPassword(name) => (false, ProcessReason::WrongPassword(*name)),
+        ProcessPart::IsSomebody => (caller.user != nobody(), ProcessReason::StartsNoJob),
     };
     unless(is_met, Reason::OfProcess(reason))
 }
@@ -281,7 +283,8 @@ fn is_user(users: &UserTable, name: Name) -> bool
 
 /// Returns the path of the directory of a path, which is `/` where the path is.
 fn above(path: &Path) -> Path
-    ensures { result ≡ parent path.now }
+    ensures value { result ≡ parent path.now }
+    ensures short { length result < most_names }
 {
     match path.names() {
         [] => Path::root(),

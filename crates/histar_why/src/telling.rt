@@ -14,7 +14,7 @@ use crate::names::{Caller, Reader, caller_of, node_at};
 use crate::reasons::first_reason;
 use crate::sentences::{push_absence, push_reason};
 use crate::session::Teller;
-use crate::views::view_of;
+use crate::views::{View, facts_of};
 use histar_flat::{ProcName, Reply};
 use histar_label::LabelStore;
 use histar_names::note_births;
@@ -42,9 +42,26 @@ pub(crate) fn tell<S: LabelStore + Drop>(
         &asked.process,
         &mut teller.births,
     )?;
-    if !is_refusal(reply) {
-        return Ok(());
+    if is_refusal(reply) {
+        push_line(alloc, machine, teller, number, asked, reply)
+    } else {
+        Ok(())
     }
+}
+
+/// Adds the line of a refused call.
+fn push_line<S: LabelStore + Drop>(
+    alloc: Global,
+    machine: &Machine<S>,
+    teller: &mut Teller,
+    number: u32,
+    asked: &Asked,
+    reply: &Reply,
+) -> Result<(), AllocError>
+    ensures births { teller.new.births.items ≡ teller.old.births.items }
+    ensures text { OnOk result (Adds (SaysLine machine.now teller.old.births.items number asked.now reply.now)
+        teller.old.text.items teller.new.text.items) }
+{
     let reader = Reader {
         kernel: machine.kernel(),
         roots: machine.roots(),
@@ -126,7 +143,13 @@ fn push_why<S: LabelStore + Drop>(
     ensures { OnOk result (Adds (SaysReason reader.now.users.now reader.now.roots.now reader.now.births.now
         (state reader.now.kernel.now) caller.now asked.now) text.old.items text.new.items) }
 {
-    let view = view_of(alloc, reader, caller, asked)?;
+    let facts = facts_of(alloc, reader, caller, asked)?;
+    let view = View {
+        asked,
+        users: reader.users,
+        caller,
+        facts: &facts,
+    };
     match first_reason(&view, asked.parts.as_slice()) {
         Some(reason) => push_reason(text, &asked.process, caller, &reason),
         None => Ok(()),

@@ -4,7 +4,7 @@ ghost use Rattle.histar_flat.specs.Words.{most_numbers};
 ghost use Rattle.histar_syscall.specs.KernelModel.{state};
 ghost use Rattle.histar_why.specs.Names.{node_at, process_of};
 ghost use Rattle.histar_why.specs.Reasons.{reason_of};
-ghost use Rattle.histar_why.specs.Views.{CountsEntries, IsBeside, IsViewOf, search_by, unfound_by};
+ghost use Rattle.histar_why.specs.Views.{AreFactsOf, CountsEntries, CountsIn, IsBeside, search_by, unfound_by};
 
 use crate::asked::Asked;
 use crate::causes::unknown;
@@ -18,13 +18,9 @@ use histar_readout::resolve::resolve;
 use histar_syscall::Kernel;
 use std::alloc::{AllocError, Global};
 
-/// What a call is about.
-#[derive(Drop)]
-pub(crate) struct View<'a, 'u, 'c> {
-    pub asked: &'a Asked,
-    pub users: &'u UserTable,
-    /// The process that makes the call.
-    pub caller: &'c Caller,
+/// What was read for a call.
+#[derive(Clone, Copy)]
+pub(crate) struct Facts {
     /// The way to the path.
     pub way: Way,
     /// How many entries there are in the directory of the path, and at the path.
@@ -36,21 +32,28 @@ pub(crate) struct View<'a, 'u, 'c> {
     pub search: Option<Reason>,
 }
 
-/// Returns what a call of this process is about.
-pub(crate) fn view_of<'a, 'u, 'c, S: LabelStore + Drop>(
+/// What a call is about.
+#[derive(Drop)]
+pub(crate) struct View<'a, 'u, 'c, 'f> {
+    pub asked: &'a Asked,
+    pub users: &'u UserTable,
+    /// The process that makes the call.
+    pub caller: &'c Caller,
+    pub facts: &'f Facts,
+}
+
+/// Reads what a call of this process is about.
+pub(crate) fn facts_of<S: LabelStore + Drop>(
     alloc: Global,
-    reader: &Reader<'u, S>,
-    caller: &'c Caller,
-    asked: &'a Asked,
-) -> Result<View<'a, 'u, 'c>, AllocError>
-    ensures { IfOk result (IsViewOf reader.now.users.now reader.now.roots.now reader.now.births.now
-        (state reader.now.kernel.now) caller.entry.now asked.entry.now) }
+    reader: &Reader<S>,
+    caller: &Caller,
+    asked: &Asked,
+) -> Result<Facts, AllocError>
+    ensures { IfOk result (AreFactsOf reader.now.users.now reader.now.roots.now reader.now.births.now
+        (state reader.now.kernel.now) (process_of caller.now) asked.now) }
 {
     let way = way_to(alloc, reader, caller, asked.path.names())?;
-    Ok(View {
-        asked,
-        users: reader.users,
-        caller,
+    Ok(Facts {
         way,
         above: count_at(alloc, reader.kernel, &way.above)?,
         here: count_at(alloc, reader.kernel, &way.here)?,
@@ -59,7 +62,7 @@ pub(crate) fn view_of<'a, 'u, 'c, S: LabelStore + Drop>(
     })
 }
 
-/// Counts the entries of a directory. A file has none.
+/// Counts the entries of the directory that is there. Where none is, there are none.
 fn count_at<S: LabelStore + Drop>(
     alloc: Global,
     kernel: &Kernel<S>,
@@ -67,13 +70,21 @@ fn count_at<S: LabelStore + Drop>(
 ) -> Result<usize, AllocError>
     ensures { IfOk result (CountsEntries (state kernel.now) spot.now) }
 {
-    let Some(
-        Spot {
-            target: Target::Directory(_, listing),
-            ..
-        },
-    ) = spot
-    else {
+    match spot {
+        None => Ok(0),
+        Some(spot) => count_in(alloc, kernel, &spot.target),
+    }
+}
+
+/// Counts the entries of a directory. A file has none.
+fn count_in<S: LabelStore + Drop>(
+    alloc: Global,
+    kernel: &Kernel<S>,
+    target: &Target,
+) -> Result<usize, AllocError>
+    ensures { IfOk result (CountsIn (state kernel.now) target.now) }
+{
+    let Target::Directory(_, listing) = target else {
         return Ok(0);
     };
     match read_dir(alloc, kernel.bytes(*listing))? {

@@ -6,7 +6,8 @@ ghost use Rattle.histar_syscall.specs.KernelModel.{state};
 ghost use Rattle.histar_why.specs.Causes.{jobs_by};
 ghost use Rattle.histar_why.specs.Names.{process_of};
 ghost use Rattle.histar_why.specs.Reasons.{reason_of};
-ghost use Rattle.histar_why.specs.Ways.{FindsBelow, FindsEntry, FindsSpot, IsWayTo, why_into_by};
+ghost use Rattle.histar_why.specs.Ways.{FindsBelow, FindsEntry, FindsListed, FindsSpot, IsWayTo};
+ghost use Rattle.histar_why.specs.Ways.{why_into_by};
 
 use crate::causes::{Cause, unread, unwritten};
 use crate::names::{Caller, Reader, names_of};
@@ -90,7 +91,7 @@ fn why_into(way: &Way, names: &[Name]) -> Option<Reason>
     }
 }
 
-/// Returns what is at the entry of this name in a directory, if this has one.
+/// Returns what is at the entry of this name, if a directory is there that has it.
 fn spot_below<S: LabelStore + Drop>(
     alloc: Global,
     reader: &Reader<S>,
@@ -101,27 +102,34 @@ fn spot_below<S: LabelStore + Drop>(
     ensures { IfOk result (FindsBelow reader.now.users.now reader.now.births.now
         (state reader.now.kernel.now) (process_of caller.now) directory.now name.now) }
 {
-    let Some(target) = entry_at(reader.kernel, directory, name) else {
+    match directory {
+        None => Ok(None),
+        Some(spot) => spot_listed(alloc, reader, caller, &spot.target, name),
+    }
+}
+
+/// Returns what is at the entry of this name of a target, if it has one.
+fn spot_listed<S: LabelStore + Drop>(
+    alloc: Global,
+    reader: &Reader<S>,
+    caller: &Caller,
+    above: &Target,
+    name: &Name,
+) -> Result<Option<Spot>, AllocError>
+    ensures { IfOk result (FindsListed reader.now.users.now reader.now.births.now
+        (state reader.now.kernel.now) (process_of caller.now) above.now name.now) }
+{
+    let Some(target) = entry_at(reader.kernel, above, name) else {
         return Ok(None);
     };
     spot_of(alloc, reader, caller, target)
 }
 
-/// Returns where an entry leads, if a directory is there that has it.
-fn entry_at<S: LabelStore + Drop>(
-    kernel: &Kernel<S>,
-    directory: &Option<Spot>,
-    name: &Name,
-) -> Option<Target>
-    ensures { FindsEntry (state kernel.now) directory.now name.now result }
+/// Returns where the entry of this name leads, if the directory has it.
+fn entry_at<S: LabelStore + Drop>(kernel: &Kernel<S>, above: &Target, name: &Name) -> Option<Target>
+    ensures { FindsEntry (state kernel.now) above.now name.now result }
 {
-    let Some(
-        Spot {
-            target: Target::Directory(_, listing),
-            ..
-        },
-    ) = directory
-    else {
+    let Target::Directory(_, listing) = above else {
         return None;
     };
     let Ok(found) = look_up_checked(kernel.bytes(*listing), name) else {
