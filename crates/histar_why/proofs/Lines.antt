@@ -1,6 +1,6 @@
 -- The line of a refused call, put together from its parts.
 use Rattle.std.proofs.Common.{◌≡◌, ℕ, List, [], ◌++◌, Option, None, Some, Result, Ok, Err, refl, sym, ap, ◌∙◌, subst, append-nil, append_assoc}
-use Rattle.std.specs.Prelude.{MatchOption, OnOk, codes, option_map}
+use Rattle.std.specs.Prelude.{MatchOption, OnOk, codes, if◌then◌else◌, is_ok, option_map}
 use Rattle.std.specs.Fmt.{decimal}
 use Rattle.histar_flat.specs.declared.replies.Reply.{Reply}
 use Rattle.histar_flat.specs.Texts.{reply_text}
@@ -60,7 +60,7 @@ module _ (m : MachineModel) (births : Births) (number : ℕ) (asked : Asked) (re
   pub line_added : {X E : Type 0} (r : Result X E) (users : Accounts) (roots : Roots) (kernel : KernelModel) (known : Births)
       → users ≡ m.users → roots ≡ m.roots → kernel ≡ m.kernel → known ≡ births
       → (old first second new : List ℕ) → first ≡ old ++ head → Adds (SaysWords users roots known (state kernel) asked) first second
-      → OnOk r (new ≡ second ++ codes "\n") → OnOk r (Adds (SaysLine m births number asked reply) old new)
+      → new ≡ (if is_ok r then second ++ codes "\n" else second) → OnOk r (Adds (SaysLine m births number asked reply) old new)
   line_added (Err e) users roots kernel known us rs ks bs old first second new a b c = tt
   line_added (Ok x) users roots kernel known us rs ks bs old first second new a b c = (
     head ++ b.0 ++ codes "\n",

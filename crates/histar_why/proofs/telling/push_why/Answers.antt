@@ -27,9 +27,9 @@ returns-in-None g c =
       caller = c.args.caller;
       facts = record { ref_ptr = c.args.asked.ref_ptr; now = c.in_ok-facts.facts };
     } in (
-  [],
-  sym (append-nil _),
-  reason_added c.args.reader.now.users.now c.args.reader.now.roots.now c.args.reader.now.births.now (state c.args.reader.now.kernel.now)
-      c.args.asked.now c.args.caller.now view (record { asked_is = refl; users_are = refl; caller_is = refl; facts = c.in_ok-facts.ensures })
-      c.as_slice.result.now c.as_slice.ensures.value None c.in-None.ensures,
-)
+      [],
+      sym (append-nil _),
+      reason_added c.args.reader.now.users.now c.args.reader.now.roots.now c.args.reader.now.births.now (state c.args.reader.now.kernel.now)
+          c.args.asked.now c.args.caller.now view (record { asked_is = refl; users_are = refl; caller_is = refl; facts = c.in_ok-facts.ensures })
+          c.as_slice.result.now c.as_slice.ensures.value None c.in-None.ensures,
+    )
