@@ -2,7 +2,6 @@
 use Rattle.std.specs.Prelude.{◌≡◌, ℕ, suc, ◌+◌, ◌==◌, Bool, true, false, cond, not, nat_le, nat_lt, List, [], ◌∷◌, ◌++◌, length, Option, None, Some, MatchOption}
 use Rattle.std.specs.Prelude.{if◌then◌else◌, is_some, option_map, refl, T}
 use Rattle.std.specs.List.{cons_option, filter_map, position_or_len}
-use Rattle.std.specs.FinMap as maps
 use Rattle.std.specs.FinMap.{find, is_sorted}
 use Rattle.std.specs.FinMap.Entries.{below_all}
 use Rattle.std.proofs.lemmas.Bool.Decides.{nat_tests}
@@ -22,7 +21,7 @@ use Rattle.histar_flat.specs.declared.calls.User.{User}
 use Rattle.histar_flat.specs.declared.replies.Errno.{Errno}
 use Rattle.histar_flat.specs.declared.replies.Errno.TheVariants.{EBUSY, EEXIST, EISDIR}
 use Rattle.histar_flat.specs.Words.{Name, Path, ProcName, most_children, most_numbers}
-use Rattle.histar_flat.specs.Accounts.{Accounts, is_member, user_named, user_number}
+use Rattle.histar_flat.specs.Accounts.{Accounts, user_named, user_number}
 use Rattle.histar_flat.specs.Classes.{Class, Process, class_made, free_class, is_free, nobody}
 use Rattle.histar_flat.specs.Classes.Class.{Scratch}
 use Rattle.histar_flat.specs.Files.{get}
@@ -35,7 +34,7 @@ use Rattle.histar_flat.proofs.Finding.{first, second, find_first, find_later}
 use Rattle.histar_flat.proofs.Refusals.{passed, passes_first, passes_later}
 use Rattle.histar_object.specs.State.{State}
 use Rattle.histar_layout.specs.Listing.{is_directory}
-use Rattle.histar_layout.specs.UserTable.{without_password, without_passwords}
+use Rattle.histar_layout.specs.UserTable.{without_passwords}
 use Rattle.histar_layout.specs.declared.entry.Target.{Target}
 use Rattle.histar_layout.specs.declared.entry.Target.TheVariants as targets
 use Rattle.histar_programs.specs.declared.roots.Roots.{Roots}
@@ -45,9 +44,9 @@ use Rattle.histar_refinement.specs.Represents.{ObjectsMatch}
 use Rattle.histar_refinement.proofs.Lent.{shows_directory}
 use Rattle.histar_refinement.proofs.LinesMatched.{directory_back}
 use Rattle.histar_refinement.proofs.Making.{count_entries}
-use Rattle.histar_readout.specs.Resolve.{LeadsNowhere, LeadsTo, Resolves}
+use Rattle.histar_readout.specs.Resolve.{LeadsTo, Resolves}
 use Rattle.histar_names.specs.Births.{Births}
-use Rattle.histar_reasons.specs.Causes.{Cause, innermost, unwritten}
+use Rattle.histar_reasons.specs.Causes.{innermost, unwritten}
 use Rattle.histar_reasons.specs.Reasons.{Reason, not_read, not_written, root_reason, unmade, why, why_into, why_need, why_not_found, why_walk}
 use Rattle.histar_reasons.specs.Reasons.Reason.{MayNotRead, MayNotWrite, IsMissing, HasFile, HasDirectory, IsTaken, IsFull, IsNotEmpty}
 use Rattle.histar_reasons.specs.Reasons.Reason.{IsTooLong, HadChildren, HasNumbers, IsInJob, IsNoChild, NoUser, StartsNoJob, WrongPassword}
@@ -62,11 +61,10 @@ use Rattle.histar_why.specs.declared.names.Caller.{Caller}
 use Rattle.histar_why.specs.declared.views.View.{View}
 use Rattle.histar_why.specs.declared.ways.Spot.{Spot}
 use Rattle.histar_why.specs.Asked.{IsAsked, beside_of, other_of, parts_of}
-use Rattle.histar_why.specs.Causes.{cause_of}
 use Rattle.histar_why.specs.Names.{NamesJobs, process_of}
-use Rattle.histar_why.specs.Reasons.{bytes_kept, bytes_then, first_reason, has_directory, has_file, part_reason, reason_of, unread_in, unwritten_in}
+use Rattle.histar_why.specs.Reasons.{bytes_then, first_reason, has_directory, has_file, part_reason, reason_of, unread_in, unwritten_in}
 use Rattle.histar_why.specs.Reasons.{bytes_of as spot_bytes}
-use Rattle.histar_why.specs.Views.{CountsEntries, CountsIn, IsBeside, IsViewOf}
+use Rattle.histar_why.specs.Views.{CountsEntries, CountsIn, IsViewOf}
 use Rattle.histar_why.specs.Ways.{IsAt, Reveals, Sight, sight_at, sight_of}
 use Rattle.histar_why.proofs.Found.{search_is}
 use Rattle.histar_why.proofs.Spots.{is_directory_is, is_there_is, led_directory, node_at, nothing_at, same_number, unread_is}

@@ -1,14 +1,13 @@
 -- The processes that are read off a state are those of the flat state, with each job by its name.
-use Rattle.std.specs.Prelude.{◌≡◌, ℕ, Bool, true, false, ◌||◌, ◌&&◌, nat_le, List, [], ◌∷◌, length, map, Option, None, Some}
-use Rattle.std.specs.Prelude.{if◌then◌else◌, is_some, option_and_then, option_map, slice_get, refl}
-use Rattle.std.proofs.Common.{ap, ◌⊎◌, inl, inr, sym, ◌∙◌, subst}
-use Rattle.std.proofs.lemmas.Bool.{true≢false}
+use Rattle.std.specs.Prelude.{◌≡◌, ℕ, true, ◌||◌, ◌&&◌, List, [], ◌∷◌, length, map, Option, None, Some}
+use Rattle.std.specs.Prelude.{if◌then◌else◌, is_some, option_and_then, option_map, refl}
+use Rattle.std.proofs.Common.{ap, inl, ◌∙◌}
 use Rattle.std.proofs.Math.Bool.{or-true}
 use Rattle.histar_base.specs.Paths.{same}
 use Rattle.histar_base.specs.Refusals.{◌orelse◌, unless}
 use Rattle.histar_flat.specs.Words.{ProcName}
 use Rattle.histar_flat.specs.Accounts.{Accounts, has}
-use Rattle.histar_flat.specs.Classes.{Process, knows}
+use Rattle.histar_flat.specs.Classes.{Process}
 use Rattle.histar_flat.specs.FlatState.{Flat, was_given, is_given}
 use Rattle.histar_flat.specs.FlatCalls.{if_running, running}
 use Rattle.histar_flat.proofs.FileLemmas.{same_itself}
@@ -27,15 +26,15 @@ use Rattle.histar_refinement.specs.Categories.CategoryName.{OfJob}
 use Rattle.histar_refinement.specs.NumberedClasses.{job_numbers}
 use Rattle.histar_refinement.specs.Represents.{ObjectsMatch}
 use Rattle.histar_refinement.proofs.CallerFound.{where_is, home_is, status_is}
-use Rattle.histar_readout.specs.Process.{container_label, life_in, node_in, owned_beside, running_at, running_by, thread_label}
+use Rattle.histar_readout.specs.Process.{container_label, life_in, node_in, owned_beside, running_by, thread_label}
 use Rattle.histar_readout.specs.ProcessLines.{flat_life}
 use Rattle.histar_readout.specs.declared.process.Life.TheVariants.{Running}
 use Rattle.histar_readout.specs.declared.process.ProcessNode.{ProcessNode}
-use Rattle.histar_readout.proofs.ProcessesMatched.{node, node_is}
+use Rattle.histar_readout.proofs.ProcessesMatched.{node_is}
 use Rattle.histar_shell.proofs.SameUsers.{same_kin, same_user}
 use Rattle.histar_names.specs.Births.{Births}
 use Rattle.histar_reasons.specs.Causes.{unknown}
-use Rattle.histar_reasons.specs.Reasons.{Absence, Reason, absence, first_absent, unseen, why_not_found}
+use Rattle.histar_reasons.specs.Reasons.{absence, first_absent, unseen, why_not_found}
 use Rattle.histar_reasons.specs.Reasons.Absence.{HasExited, WasKilled, WasNeverStarted}
 use Rattle.histar_reasons.specs.Reasons.Reason.{IsUnseen, NoProcess}
 use Rattle.histar_why.specs.Absences.{absence_by, first_absent_by, given_at, given_in, is_given_by, was_given_by}

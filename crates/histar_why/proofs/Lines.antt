@@ -1,5 +1,5 @@
 -- The line of a refused call, put together from its parts.
-use Rattle.std.proofs.Common.{◌≡◌, ℕ, List, [], ◌++◌, Option, None, Some, Result, Ok, Err, refl, sym, ap, ◌∙◌, subst, append-nil, append_assoc}
+use Rattle.std.proofs.Common.{◌≡◌, ℕ, List, ◌++◌, Option, Some, Result, Ok, Err, refl, sym, ap, ◌∙◌, subst, append_assoc}
 use Rattle.std.specs.Prelude.{MatchOption, OnOk, codes, if◌then◌else◌, is_ok, option_map}
 use Rattle.std.specs.Fmt.{decimal}
 use Rattle.histar_flat.specs.declared.replies.Reply.{Reply}

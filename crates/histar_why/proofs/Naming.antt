@@ -1,21 +1,21 @@
 -- The births that are noted along the lines of a script name each job that is used.
-use Rattle.std.specs.Prelude.{◌≡◌, ℕ, zero, suc, ◌+◌, ◌-◌, ◌<◌, ◌≤◌, Bool, true, false, nat_lt, nat_le, List, [], ◌∷◌, ◌++◌, length, replicate, Option, None, Some}
-use Rattle.std.specs.Prelude.{if◌then◌else◌, is_some, option_and_then, option_map, slice_get, Ok, refl}
+use Rattle.std.specs.Prelude.{◌≡◌, ℕ, zero, suc, ◌+◌, ◌-◌, ◌<◌, ◌≤◌, Bool, List, [], ◌∷◌, ◌++◌, length, replicate, Option, None, Some}
+use Rattle.std.specs.Prelude.{if◌then◌else◌, option_and_then, option_map, slice_get, Ok, refl}
 use Rattle.std.proofs.Common.{arith, ap, ◌⊎◌, inl, inr, sym, ◌∙◌, subst}
 use Rattle.std.proofs.lemmas.Bool.{true≢false}
 use Rattle.std.proofs.lemmas.List.{length-append, length-replicate}
 use Rattle.histar_flat.specs.declared.calls.CallLine.{CallLine}
 use Rattle.histar_flat.specs.declared.replies.Reply.{Reply}
-use Rattle.histar_flat.specs.Words.{Path, ProcName, most_numbers}
+use Rattle.histar_flat.specs.Words.{ProcName}
 use Rattle.histar_flat.specs.Accounts.{Accounts}
 use Rattle.histar_flat.specs.Calls.{IsCall}
 use Rattle.histar_flat.specs.Classes.{Process, knows}
 use Rattle.histar_flat.specs.Classes.Class.{Readable}
-use Rattle.histar_flat.specs.Files.{empty, get}
+use Rattle.histar_flat.specs.Files.{empty}
 use Rattle.histar_flat.specs.FlatState.{Flat, Node, IsTree, is_given}
 use Rattle.histar_flat.specs.FlatState.Content.{Dir}
-use Rattle.histar_flat.specs.FlatCalls.{next_child, flat_after}
-use Rattle.histar_flat.specs.Meaning.{boot, first_process, first_user, flat_end}
+use Rattle.histar_flat.specs.FlatCalls.{flat_after}
+use Rattle.histar_flat.specs.Meaning.{boot, first_process, first_user}
 use Rattle.histar_flat.proofs.FileLemmas.{get_other}
 use Rattle.histar_flat.proofs.GivenNames.{next_is_new}
 use Rattle.histar_flat.proofs.Laws.{states_go_on}
@@ -36,11 +36,10 @@ use Rattle.histar_programs.specs.Start.{roots_of}
 use Rattle.histar_refinement.specs.Categories.{is_for, IsUsed}
 use Rattle.histar_refinement.specs.Categories.CategoryName.{OfJob}
 use Rattle.histar_refinement.specs.KeptNames.{RepresentsStill}
-use Rattle.histar_refinement.specs.Represents.{Represents}
 use Rattle.histar_refinement.proofs.CallerFound.{where_is, home_is, status_is}
 use Rattle.histar_names.specs.Births.{Births, births_after, child_of, last_child}
 use Rattle.histar_shell.specs.Machine.{MachineModel, AnswersLine, IsStart}
-use Rattle.histar_shell.specs.Meaning.{Shows, AnswersAsMeant}
+use Rattle.histar_shell.specs.Meaning.{AnswersAsMeant}
 use Rattle.histar_shell.proofs.CallRefinements.{calls_refine}
 use Rattle.histar_shell.proofs.LineMeanings.{line_follows}
 use Rattle.histar_script.specs.Script.{IsDeclared}

@@ -1,6 +1,6 @@
 -- A job that is used only after a call is that of the child that the call has started.
-use Rattle.std.specs.Prelude.{◌≡◌, ℕ, ◌+◌, Bool, true, false, ◌||◌, not, cond, nat_lt, List, [], ◌∷◌, ◌++◌, length, Option, Some, None, refl}
-use Rattle.std.proofs.Common.{ap, ◌⊎◌, inl, inr, sym, ◌∙◌, subst, arith}
+use Rattle.std.specs.Prelude.{◌≡◌, ℕ, ◌+◌, true, false, ◌||◌, not, cond, nat_lt, List, [], ◌∷◌, ◌++◌, length, Option, Some, None, refl}
+use Rattle.std.proofs.Common.{ap, ◌⊎◌, inl, inr, sym, ◌∙◌, arith}
 use Rattle.std.proofs.lemmas.Bool.{true≢false, or_cases}
 use Rattle.std.proofs.Math.Bool.{or-true}
 use Rattle.histar_flat.specs.declared.calls.UnixCall.{UnixCall}
@@ -22,7 +22,7 @@ use Rattle.histar_flat.specs.CallRules.{rule}
 use Rattle.histar_flat.specs.FlatCalls.{next_child, inner_chain, refused, changed, running, flat_or, flat_by, flat_after}
 use Rattle.histar_flat.proofs.FileLemmas.{same_name_found, same_path_found, same_itself, get_other, get_new, get-keep}
 use Rattle.histar_flat.proofs.Choices.{chosen, left, kept}
-use Rattle.histar_flat.proofs.GivenNames.{longer_has, next_is_new}
+use Rattle.histar_flat.proofs.GivenNames.{longer_has}
 use Rattle.histar_flat.proofs.Renaming.{get_renamed}
 use Rattle.histar_flat.proofs.Changes.{EachChange, by_change, runs_is_there}
 use Rattle.histar_flat.proofs.Refusals.{passes_first, passes_later, passed}

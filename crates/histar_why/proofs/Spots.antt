@@ -1,25 +1,23 @@
 -- What is found at a path of a state is what the rules say is there.
-use Rattle.std.specs.Prelude.{◌≡◌, ℕ, ◌+◌, ◌*◌, Bool, true, false, cond, not, List, [], ◌∷◌, length, map, Option, None, Some, MatchOption, is_some, option_and_then, option_map, refl, Ok, Err}
-use Rattle.std.proofs.Common.{ap, inl, inr, sym, ◌∙◌, subst}
-use Rattle.std.proofs.lemmas.Bool.{true≢false}
+use Rattle.std.specs.Prelude.{◌≡◌, ℕ, ◌+◌, ◌*◌, true, List, [], ◌∷◌, length, map, Option, None, Some, MatchOption, option_and_then, option_map, refl, Ok, Err}
+use Rattle.std.proofs.Common.{ap, inr, sym, ◌∙◌, subst}
 use Rattle.std.proofs.lemmas.Option.{none-some, same_Some}
 use Rattle.std.specs.FinMap as maps
 use Rattle.histar_base.specs.Refusals.{◌orelse◌, unless}
 use Rattle.histar_flat.specs.Words.{Name, Path, ProcName}
-use Rattle.histar_flat.specs.Accounts.{Accounts, is_member}
+use Rattle.histar_flat.specs.Accounts.{Accounts}
 use Rattle.histar_flat.specs.Classes.{Class, Process}
 use Rattle.histar_flat.specs.Classes.Class.{Private, Readable, Open, Scratch, Grouped}
 use Rattle.histar_flat.specs.Files.{get}
-use Rattle.histar_flat.specs.FlatState.{Content, Flat, Node, is_dir, is_dir_at, is_some_and, is_there, bytes_of, class_of}
+use Rattle.histar_flat.specs.FlatState.{Content, Flat, Node, is_dir, is_some_and, bytes_of, class_of}
 use Rattle.histar_flat.specs.FlatState.Content.{Dir, File}
 use Rattle.histar_flat.specs.PathOrder.{parent}
 use Rattle.histar_level.specs.Levels.{Levels}
-use Rattle.histar_object.specs.Objects.{label_there}
 use Rattle.histar_object.specs.State.{State}
 use Rattle.histar_syscall.specs.KernelModel.{lent_bytes}
 use Rattle.histar_layout.specs.Checked.{IsLookedUp}
 use Rattle.histar_layout.specs.declared.checked.NotADirectory.{NotADirectory}
-use Rattle.histar_layout.specs.ClassLabels.{HasJobs, IsClassLabel, IsRisingFrom, LabelsHaveOneClass, class_label, owned_label}
+use Rattle.histar_layout.specs.ClassLabels.{HasJobs, IsClassLabel, IsRisingFrom, class_label, owned_label}
 use Rattle.histar_layout.specs.Categories.{group_owner, scratch_label, write_category}
 use Rattle.histar_layout.specs.Directory.{Entries, IsDirectory}
 use Rattle.histar_layout.specs.Labelling.{written_by}
@@ -40,9 +38,9 @@ use Rattle.histar_refinement.specs.Addresses.Step.{Listing, Slash}
 use Rattle.histar_refinement.specs.Categories.{is_for}
 use Rattle.histar_refinement.specs.Directories.{directory_of, target_for}
 use Rattle.histar_refinement.specs.Lines.{IsDirectoryAt}
-use Rattle.histar_refinement.specs.NumberedClasses.{job_numbers, numbered_class}
+use Rattle.histar_refinement.specs.NumberedClasses.{numbered_class}
 use Rattle.histar_refinement.specs.Represents.{ObjectsMatch}
-use Rattle.histar_refinement.proofs.Agreeing.{parent_is_dir, root_is_dir}
+use Rattle.histar_refinement.proofs.Agreeing.{root_is_dir}
 use Rattle.histar_refinement.proofs.DirectoryLaws.{get_directory}
 use Rattle.histar_refinement.proofs.Lent.{shows_directory, held}
 use Rattle.histar_refinement.proofs.LinesMatched.{directory_back}
@@ -56,15 +54,14 @@ use Rattle.histar_readout.proofs.PathsMatched.{flat_states_are_resolved}
 use Rattle.histar_readout.proofs.TreeMatched.{agrees_at, led_to_directory, led_to_file, node_of}
 use Rattle.histar_shell.proofs.SameUsers.{same_place}
 use Rattle.histar_names.specs.Births.{Births}
-use Rattle.histar_reasons.specs.Causes.{Cause, unread, unwritten}
-use Rattle.histar_reasons.specs.Reasons.{Reason, not_read, why_into, why_walk}
+use Rattle.histar_reasons.specs.Causes.{unread, unwritten}
+use Rattle.histar_reasons.specs.Reasons.{why_into, why_walk}
 use Rattle.histar_reasons.specs.Reasons.Reason.{HasFile, IsMissing, MayNotRead}
 use Rattle.histar_why.specs.declared.ways.Spot.{Spot}
 use Rattle.histar_why.specs.declared.ways.Way.{Way}
-use Rattle.histar_why.specs.declared.reasons.Reason.{Reason as Found}
 use Rattle.histar_why.specs.Causes.{class_by, class_named, jobs_by}
 use Rattle.histar_why.specs.Views.{CountsIn}
-use Rattle.histar_why.specs.Names.{NamesJobs, job_named}
+use Rattle.histar_why.specs.Names.{NamesJobs}
 use Rattle.histar_why.specs.Reasons.{has_directory, reason_of, unread_in}
 use Rattle.histar_why.specs.Ways.{FindsBelow, FindsEntry, FindsSpot, HasClass, IsAt, IsSpot, IsWayTo, Lists, Reveals, Sight}
 use Rattle.histar_why.specs.Ways.{sight_at, sight_by, sight_of, why_into_by}

@@ -27,7 +27,7 @@ use Rattle.histar_shell.proofs.AnswerLemmas.{front_after}
 use Rattle.histar_shell.proofs.CallRefinements.{calls_refine}
 use Rattle.histar_shell.proofs.SessionMeanings.{answers_begin, begins_meaning, longer_front, tree_at_last, writes_meaning}
 use Rattle.histar_shell.proofs.Users.{script_says}
-use Rattle.histar_why.specs.Run.{BeginsReasons, ReasonsAs, ReasonsAtFault, RunsWithReasons, WritesReasons, reasons_text}
+use Rattle.histar_why.specs.Run.{BeginsReasons, ReasonsAs, ReasonsAtFault, RunsWithReasons, reasons_text}
 use Rattle.histar_why.specs.Session.{BeginsRun, HasTold, WritesRun}
 use Rattle.histar_why.proofs.Naming.{known_at_start}
 

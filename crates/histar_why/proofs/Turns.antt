@@ -1,7 +1,5 @@
 -- The lines of refused calls, call after call.
-use Rattle.std.proofs.Common.{◌≡◌, ℕ, List, [], ◌∷◌, ◌++◌, Option, Result, Ok, Err, refl, sym, ap, ◌∙◌, subst, append-nil, append_assoc, inl, inr}
-use Rattle.std.specs.Prelude.{OnErr, OnOk}
-use Rattle.std.specs.Io.KnownBytes.{Keeps}
+use Rattle.std.proofs.Common.{◌≡◌, ℕ, List, [], ◌∷◌, ◌++◌, Option, Ok, refl, sym, ap, ◌∙◌, subst, append-nil, append_assoc, inl, inr}
 use Rattle.std.proofs.KnownBytes.{Appends-kept, Keeps-refl}
 use Rattle.histar_io.specs.Writing.{AppendsFront}
 use Rattle.histar_io.proofs.WritingLemmas.{sent_none, whole_front}
@@ -12,11 +10,10 @@ use Rattle.histar_flat.specs.FlatState.{Flat}
 use Rattle.histar_flat.specs.FlatCalls.{flat_after, reply_to}
 use Rattle.histar_flat.specs.Meaning.{flat_end}
 use Rattle.histar_flat.proofs.Laws.{states_go_on}
-use Rattle.histar_syscall.specs.KernelModel.{state}
-use Rattle.histar_names.specs.Births.{Births, births_after}
+use Rattle.histar_names.specs.Births.{Births}
 use Rattle.histar_reasons.specs.Sentences.{line_text, sentence, why_lines}
 use Rattle.histar_shell.specs.Answers.{answers_text}
-use Rattle.histar_shell.specs.AnsweredCalls.{AnswersCall, AnswersCalls, BeginsAnswer, BeginsAnswers}
+use Rattle.histar_shell.specs.AnsweredCalls.{AnswersCalls, BeginsAnswer, BeginsAnswers}
 use Rattle.histar_shell.specs.Machine.{MachineModel}
 use Rattle.histar_shell.proofs.AnswerLemmas.{answers_more, answers_none, begins_more}
 use Rattle.histar_why.specs.declared.session.Teller.{Teller}

@@ -11,7 +11,7 @@ use Rattle.histar_syscall.specs.KernelModel.{state}
 use Rattle.histar_layout.specs.Reading.{◌>>=◌}
 use Rattle.histar_programs.specs.Caller.{home_at}
 use Rattle.histar_programs.specs.declared.roots.Home.{Home}
-use Rattle.histar_refinement.specs.Categories.{Categories, IsUsed}
+use Rattle.histar_refinement.specs.Categories.{IsUsed}
 use Rattle.histar_refinement.specs.Categories.CategoryName.{OfJob}
 use Rattle.histar_refinement.specs.Represents.{Represents}
 use Rattle.histar_readout.specs.Process.{node_in}

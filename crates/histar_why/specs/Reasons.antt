@@ -1,6 +1,6 @@
 -- Reasons as the code has them, and which part of a call's needs is not met, by what was seen.
-use Rattle.std.specs.Prelude.{ℕ, ◌+◌, ◌==◌, Bool, false, true, not, nat_le, nat_lt, List, [], ◌∷◌, length, Option, None, Some, is_some}
-use Rattle.std.specs.Prelude.{option_and_then, option_map}
+use Rattle.std.specs.Prelude.{ℕ, ◌+◌, ◌==◌, Bool, not, nat_le, nat_lt, List, [], ◌∷◌, length, Option, None, Some, is_some}
+use Rattle.std.specs.Prelude.{option_map}
 use Rattle.histar_base.specs.Paths.{same}
 use Rattle.histar_base.specs.Refusals.{◌orelse◌, unless}
 use Rattle.histar_flat.specs.Words.{most_children, most_numbers}

@@ -1,6 +1,5 @@
 -- The line of a refused call, read off the machine after the call.
-use Rattle.std.specs.Prelude.{◌≡◌, ℕ, true, false, List, [], ◌++◌, Option, None, Some, MatchOption, MatchBool}
-use Rattle.histar_flat.specs.declared.calls.UnixCall.{UnixCall}
+use Rattle.std.specs.Prelude.{◌≡◌, ℕ, List, [], ◌++◌, Option, None, Some, MatchOption, MatchBool}
 use Rattle.histar_flat.specs.declared.replies.Reply.{Reply}
 use Rattle.histar_flat.specs.Words.{ProcName}
 use Rattle.histar_flat.specs.Accounts.{Accounts}

@@ -1,5 +1,5 @@
 -- What a call is about, read off the objects of a state.
-use Rattle.std.specs.Prelude.{◌≡◌, ℕ, Bool, false, [], ◌∷◌, map, Option, None, Some, MatchOption, is_some, option_and_then, option_map}
+use Rattle.std.specs.Prelude.{◌≡◌, ℕ, Bool, false, [], ◌∷◌, map, Option, None, Some, MatchOption, is_some, option_map}
 use Rattle.std.specs.FinMap as maps
 use Rattle.histar_base.specs.Refusals.{◌orelse◌}
 use Rattle.histar_flat.specs.Words.{ProcName}

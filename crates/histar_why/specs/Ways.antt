@@ -1,5 +1,5 @@
 -- What is on the way to a path, read off the objects of a state; and what the rules say is there.
-use Rattle.std.specs.Prelude.{◌≡◌, ℕ, Bool, true, false, if◌then◌else◌, List, [], ◌∷◌, length, Option, None, Some, MatchOption, option_map}
+use Rattle.std.specs.Prelude.{◌≡◌, ℕ, Bool, true, length, Option, None, Some, MatchOption, option_map}
 use Rattle.std.specs.FinMap as map
 use Rattle.histar_base.specs.Refusals.{◌orelse◌, unless}
 use Rattle.histar_flat.specs.Words.{Name, Path}

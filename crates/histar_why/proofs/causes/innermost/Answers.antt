@@ -1,5 +1,5 @@
 -- Proves the goals of `innermost` of src/causes.rt that the search leaves open.
-use Rattle.std.proofs.Common.{List, ℕ, ap, ◌∙◌}
+use Rattle.std.proofs.Common.{ap, ◌∙◌}
 use Rattle.histar_reasons.specs.Causes.{last_of}
 use Rattle.histar_why.proofs.Lists.{last_is}
 use Rattle.histar_why.proofs.causes.innermost.Goals as goal

@@ -1,8 +1,7 @@
 -- The invariants and measures of `left` of src/causes.rt.
 use Rattle.std.proofs.Common.{◌≡◌, drop}
 use Rattle.histar_flat.specs.Accounts.{has}
-use Rattle.histar_flat.specs.Classes.{knows}
-use Rattle.histar_reasons.specs.Causes.{first_not, left, unknown}
+use Rattle.histar_reasons.specs.Causes.{first_not, left}
 use Rattle.histar_why.specs.Names.{process_of}
 use Rattle.histar_why.proofs.causes.left.Given as goal
 

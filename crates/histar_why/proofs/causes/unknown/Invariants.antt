@@ -1,8 +1,7 @@
 -- The invariants and measures of `unknown` of src/causes.rt.
 use Rattle.std.proofs.Common.{◌≡◌, drop}
-use Rattle.histar_flat.specs.Accounts.{has}
 use Rattle.histar_flat.specs.Classes.{knows}
-use Rattle.histar_reasons.specs.Causes.{first_not, left, unknown}
+use Rattle.histar_reasons.specs.Causes.{first_not, unknown}
 use Rattle.histar_why.specs.Names.{process_of}
 use Rattle.histar_why.proofs.causes.unknown.Given as goal
 
