@@ -37,7 +37,7 @@ use Rattle.histar_readout.proofs.HeldJobs.{running_is}
 
 module _ (accounts : Accounts) (s : State) (f : Flat) (l : ObjectsMatch accounts s f) where
   -- the container and the segment of a process
-  abbrev found : ProcName → Where
+  abbrev pub found : ProcName → Where
   found me = where_is accounts s f l me
 
   -- what processes at a name and below it show, down to this many levels
@@ -57,11 +57,11 @@ module _ (accounts : Accounts) (s : State) (f : Flat) (l : ObjectsMatch accounts
 
   module _ (me : ProcName) (p : Process) (here : f.processes me ≡ Some p) where
     -- a process with these jobs and this life, to which this many children were born
-    abbrev shown_as : List ℕ → Life → ℕ → ProcessNode
+    abbrev pub shown_as : List ℕ → Life → ℕ → ProcessNode
     shown_as chain life born = record { name = me; home = found me; chain = chain; life = life; born = born }
 
     -- the process as the flat state has it
-    abbrev node : ProcessNode
+    abbrev pub node : ProcessNode
     node = shown_as (job_numbers l.category p.chain) (flat_life l.category p p.exited) p.born
 
     -- its container is there
@@ -98,7 +98,7 @@ module _ (accounts : Accounts) (s : State) (f : Flat) (l : ObjectsMatch accounts
         by (Some number) exited = refl
 
     -- the state has the process like this
-    node_is : node_in accounts s me (found me) ≡ Some node
+    pub node_is : node_in accounts s me (found me) ≡ Some node
     node_is =
         ap (λ (x : Option ProcessStatus).
         x >>= λ status. container_label (s.objects (found me).container) >>= λ outer. life_in accounts s
@@ -181,7 +181,7 @@ module _ (accounts : Accounts) (s : State) (f : Flat) (l : ObjectsMatch accounts
       (range_with_len 1 p.born))
 
   -- process 0 is at the place where boot left it
-  first_found : found [] ≡ (roots_of (length accounts.users)).home
+  pub first_found : found [] ≡ (roots_of (length accounts.users)).home
   first_found i = record { container = or_zero (l.as_booted (Home ∷ []) _ refl i); segment = or_zero (l.as_booted (Status ∷ Home ∷ []) _ refl i) }
 
 -- a state that represents a flat state has its processes

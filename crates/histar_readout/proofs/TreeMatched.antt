@@ -98,11 +98,11 @@ module _ (accounts : Accounts) (s : State) (f : Flat) (l : ObjectsMatch accounts
     there : HasTreeAt levels q node target
 
   -- the node of a state where the flat state has one of this class
-  abbrev node_of : Path → Class → Target → TreeNode
+  abbrev pub node_of : Path → Class → Target → TreeNode
   node_of q class target = record { path = q; class = numbered_class l.category class; target = target }
 
   -- the state has this node, by the label of its object
-  agrees_at : (q : Path) (there : Node) → get f.files q ≡ Some there → (target : Target)
+  pub agrees_at : (q : Path) (there : Node) → get f.files q ≡ Some there → (target : Target)
       → l.naming.number (address_of q) ≡ Some (object_of target)
       → IsNodeAt accounts s q target (node_of q there.class target)
   agrees_at q there at target numbered =

@@ -8,6 +8,6 @@ pub mod resolve;
 mod tree;
 pub mod tree_laws;
 
-pub use process::{Life, ProcessNode};
+pub use process::{Life, ProcessError, ProcessNode, read_process};
 pub use processes::procs_of;
 pub use tree::{TreeNode, bytes_of, tree_of};

@@ -1,0 +1,12 @@
+-- The lemmas of this crate.
+pub mod Lists
+pub mod NewJobs
+pub mod Naming
+pub mod Found
+pub mod Spots
+pub mod Evaluating
+pub mod Saying
+pub mod Lines
+pub mod Turns
+pub mod WholeRuns
+pub mod TextRuns

@@ -1,0 +1,228 @@
+-- A job that is used only after a call is that of the child that the call has started.
+use Rattle.std.specs.Prelude.{◌≡◌, ℕ, ◌+◌, true, false, ◌||◌, not, cond, nat_lt, List, [], ◌∷◌, ◌++◌, length, Option, Some, None, refl}
+use Rattle.std.proofs.Common.{ap, ◌⊎◌, inl, inr, sym, ◌∙◌, arith}
+use Rattle.std.proofs.lemmas.Bool.{true≢false, or_cases}
+use Rattle.std.proofs.Math.Bool.{or-true}
+use Rattle.histar_flat.specs.declared.calls.UnixCall.{UnixCall}
+use Rattle.histar_flat.specs.declared.calls.UnixCall.TheVariants.{Wrap}
+use Rattle.histar_flat.specs.declared.replies.Errno.{Errno}
+use Rattle.histar_flat.specs.declared.replies.Errno.TheVariants.{EAGAIN}
+use Rattle.histar_flat.specs.Words.{Path, ProcName, most_children, most_numbers}
+use Rattle.histar_base.specs.Paths.{same}
+use Rattle.histar_base.specs.Refusals.{◌orelse◌, unless}
+use Rattle.histar_flat.specs.PathOrder.{under_path, under_process}
+use Rattle.histar_flat.specs.Accounts.{Accounts, has}
+use Rattle.histar_flat.specs.Files.{get, insert}
+use Rattle.histar_flat.specs.Classes.{Class, Process, knows, carries}
+use Rattle.histar_flat.specs.Classes.Class.{Private, Readable, Open, Scratch, Grouped}
+use Rattle.histar_flat.specs.FlatState.{Flat, Node, IsTree, class_of, with_node, with_process, without_process, moved}
+use Rattle.histar_flat.specs.FlatState.Content.{Dir, File}
+use Rattle.histar_flat.specs.Effects.Effect.{Wraps}
+use Rattle.histar_flat.specs.CallRules.{rule}
+use Rattle.histar_flat.specs.FlatCalls.{next_child, inner_chain, refused, changed, running, flat_or, flat_by, flat_after}
+use Rattle.histar_flat.proofs.FileLemmas.{same_name_found, same_path_found, same_itself, get_other, get_new, get-keep}
+use Rattle.histar_flat.proofs.Choices.{chosen, left, kept}
+use Rattle.histar_flat.proofs.GivenNames.{longer_has}
+use Rattle.histar_flat.proofs.Renaming.{get_renamed}
+use Rattle.histar_flat.proofs.Changes.{EachChange, by_change, runs_is_there}
+use Rattle.histar_flat.proofs.Refusals.{passes_first, passes_later, passed}
+use Rattle.histar_flat.proofs.Trees.{nothing_below}
+use Rattle.histar_refinement.specs.Categories.{is_for, IsKnown, IsServed}
+
+-- some process knows the job, or some file or directory is for it
+abbrev pub Uses : Flat → ProcName → Type 0
+Uses f job = IsKnown f job ⊎ IsServed f job
+
+-- a class is for a job exactly where it carries it
+for_is : (class : Class) (job : ProcName) → is_for class job ≡ carries job class
+for_is (Private owner) job = refl
+for_is (Readable owner) job = refl
+for_is Open job = refl
+for_is (Scratch owner jobs) job = refl
+for_is (Grouped group) job = refl
+
+in_chain : (jobs : List ProcName) (job : ProcName) → (has jobs job || false) ≡ true → has jobs job ≡ true
+in_chain jobs job k = elim (or_cases (has jobs job) false k) [ inl i ↦ i | inr i ↦ absurd (true≢false (sym i)) ]
+
+-- the job is that of the child that was born to a process
+pub record IsBorn (me : ProcName) (p : Process) (g : Flat) (job : ProcName) : Type 0 where
+  pub is : job ≡ next_child me p
+  pub short : nat_lt (length me) most_numbers ≡ true
+  pub now : Process
+  pub there : g.processes me ≡ Some now
+  pub born : now.born ≡ p.born + 1
+
+-- a call of this process
+module _ (f : Flat) (tree : IsTree f) (me : ProcName) (p : Process) (here : f.processes me ≡ Some p) (call : UnixCall) where
+  -- the job is that of the child that a `wrap` starts
+  abbrev IsNext : ProcName → Type 0
+  IsNext job = (job ≡ next_child me p) × ((rule call).effect ≡ Wraps)
+
+  -- each job that is used in the state was used before, or is the child's
+  abbrev AreOld : Flat → Type 0
+  AreOld g = (job : ProcName) → Uses g job → Uses f job ⊎ IsNext job
+
+  abbrev Old : ProcName → Type 0
+  Old job = Uses f job ⊎ IsNext job
+
+  known_in_chain : (job : ProcName) → has p.chain job ≡ true → knows p job ≡ true
+  known_in_chain job h = ap (λ b. b || has p.held job) h
+
+  known_used : (job : ProcName) → knows p job ≡ true → Old job
+  known_used job k = inl (inl (me, p, here, k))
+
+  -- a process is as it was, or knows only such jobs
+  abbrev IsOld : (ProcName → Option Process) → Type 0
+  IsOld new = (q : ProcName) (y : Process) → new q ≡ Some y → (f.processes q ≡ Some y) ⊎ ((job : ProcName) → knows y job ≡ true → Old job)
+
+  by_processes : (new : ProcName → Option Process) → IsOld new → AreOld (record f { processes = new })
+  by_processes new each job (inl k) = elim (each k.0 k.1 k.2) [
+    | inl i ↦ inl (inl (k.0, k.1, i, k.3))
+    | inr i ↦ i job k.3
+  ]
+  by_processes new each job (inr served) = inl (inr served)
+
+  by_node : (g : Flat) → AreOld g → (q : Path) (x : Node) → ((job : ProcName) → is_for x.class job ≡ true → Old job) → AreOld (with_node g q x.class x.content)
+  by_node g old q x own job (inl known) = old job (inl known)
+  by_node g old q x own job (inr (r, y, e, c)) = elim (same_path_found r q) [
+    | inl t ↦
+        let found : Some x ≡ Some y = sym (get_new g.files q x) ∙ ap (get (insert g.files q x)) (sym t.1) ∙ e in
+        let one : x ≡ y = cc in
+        own job (ap (λ v. is_for v.class job) one ∙ c)
+    | inr t ↦ old job (inr (r, y, sym (get_other g.files q x r t.1) ∙ e, c))
+  ]
+
+  nothing_new : AreOld f
+  nothing_new job u = inl u
+
+  -- a process is replaced by one that knows such jobs alone
+  by_instead : (q : Process) → ((job : ProcName) → knows q job ≡ true → Old job) → IsOld (with_process f me q).processes
+  by_instead q known name y e = elim (same_name_found me name) [
+    | inl t ↦ inr (λ job k. known job (ap (λ v. knows v job) (chosen (same me name) q y (f.processes name) t.0 e) ∙ k))
+    | inr t ↦ inl (sym (ap (λ b. cond b (Some q) (f.processes name)) t.0) ∙ e)
+  ]
+
+  by_birth : (q newborn : Process) → ((job : ProcName) → knows q job ≡ true → Old job) → ((job : ProcName) → knows newborn job ≡ true → Old job)
+      → IsOld (with_process (with_process f me q) (next_child me p) newborn).processes
+  by_birth q newborn known known_too name y e = elim (same_name_found (next_child me p) name) [
+    | inl t ↦ inr (λ job k. known_too job (ap (λ v. knows v job)
+        (chosen (same (next_child me p) name) newborn y (cond (same me name) (Some q) (f.processes name)) t.0 e) ∙ k))
+    | inr t ↦ by_instead q known name y (sym (ap (λ b. cond b (Some newborn) (cond (same me name) (Some q) (f.processes name))) t.0) ∙ e)
+  ]
+
+  old_class : (q : Path) (job : ProcName) (o : Option Node) → get f.files q ≡ o → is_for (class_of o) job ≡ true → Old job
+  old_class q job None at c = absurd (true≢false (sym c))
+  old_class q job (Some x) at c = inl (inr (q, x, at, c))
+
+  holds_more : (rule call).effect ≡ Wraps → (job : ProcName) → (has p.chain job || has (p.held ++ next_child me p ∷ []) job) ≡ true → Old job
+  holds_more is job k = elim (or_cases (has p.chain job) (has (p.held ++ next_child me p ∷ []) job) k) [
+    | inl i ↦ known_used job (known_in_chain job i)
+    | inr i ↦ elim (longer_has p.held (next_child me p) job i) [
+      | inl v ↦ known_used job (ap (λ b. has p.chain job || b) v ∙ or-true (has p.chain job))
+      | inr v ↦ inr (v, is)
+    ]
+  ]
+
+  is_in_more : (rule call).effect ≡ Wraps → (job : ProcName) → has (p.chain ++ next_child me p ∷ []) job ≡ true → Old job
+  is_in_more is job k = elim (longer_has p.chain (next_child me p) job k) [
+    | inl v ↦ known_used job (known_in_chain job v)
+    | inr v ↦ inr (v, is)
+  ]
+
+  each_change : (accounts : Accounts) → EachChange accounts f me p call AreOld
+  each_change accounts = record {
+    stays = nothing_new;
+    makes = λ n d x walked free w own mode made_is.
+        by_node f nothing_new (n ∷ d) x (λ job c. known_used job (known_in_chain job (own job (sym (for_is x.class job) ∙ c))));
+    overwrites = λ n d bytes file w.
+        by_node f nothing_new (n ∷ d) (record { class = class_of (get f.files (n ∷ d)); content = File bytes })
+        (λ job c. old_class (n ∷ d) job (get f.files (n ∷ d)) refl c);
+    cuts = λ n d takes w job u. elim u [
+      | inl known ↦ inl (inl known)
+      | inr s ↦ inl (inr (
+        s.0,
+        s.1,
+        kept (not (under_path (n ∷ d) s.0)) (get f.files s.0) s.1
+            (sym (get-keep f.files (λ t. not (under_path (n ∷ d) t)) s.0) ∙ s.2),
+        s.3,
+      ))
+    ];
+    renames = λ n k d takes apart free w job u. elim u [
+      | inl known ↦ inl (inl known)
+      | inr s ↦
+          let from : Path = moved (k ∷ d) (n ∷ d) s.0 in
+          inl (inr (
+            from,
+            s.1,
+            left (under_path (n ∷ d) s.0) (get f.files from) s.1
+                (sym (get_renamed n k d apart f.files (nothing_below f tree (k ∷ d) free) s.0) ∙ s.2),
+            s.3,
+          ))
+    ];
+    spawns = λ is. by_processes _ (by_birth (record p { born = p.born + 1 })
+        (record { user = p.user; chain = p.chain; held = []; exited = None; born = 0 }) known_used
+        (λ job k. known_used job (known_in_chain job (in_chain p.chain job k))));
+    exits = λ n is. by_processes _ (by_instead (record p { exited = Some n }) known_used);
+    logs_in = λ name is known free. by_processes _ (by_instead (record p { user = name; held = [] })
+        (λ job k. known_used job (known_in_chain job (in_chain p.chain job k))));
+    kills = λ n. by_processes (without_process f (n ∷ me)).processes (λ q y e. inl (left (under_process (n ∷ me) q) (f.processes q) y e));
+    wraps = λ n d is walked free w named.
+        by_node (record f {
+          processes = (with_process (with_process f me (record p { held = p.held ++ next_child me p ∷ []; born = p.born + 1 }))
+              (next_child me p) (record { user = p.user; chain = inner_chain me p; held = []; exited = None; born = 0 })).processes;
+        })
+        (by_processes _ (by_birth (record p { held = p.held ++ next_child me p ∷ []; born = p.born + 1 })
+        (record { user = p.user; chain = inner_chain me p; held = []; exited = None; born = 0 }) (holds_more is)
+        (λ job k. is_in_more is job (in_chain (inner_chain me p) job k))))
+        (n ∷ d) (record { class = Scratch p.user (inner_chain me p); content = Dir }) (is_in_more is);
+  }
+
+  -- the process after a birth
+  me_then : (q newborn : Process) → (with_process (with_process f me q) (next_child me p) newborn).processes me ≡ Some q
+  me_then q newborn = elim (same_name_found (next_child me p) me) [
+    | inl t ↦ absurd (no_cycle p.born me t.1)
+    | inr t ↦
+        ap (λ b. cond b (Some newborn) (cond (same me me) (Some q) (f.processes me))) t.0
+        ∙ ap (λ b. cond b (Some q) (f.processes me)) (same_itself me)
+  ]
+    where
+      no_cycle : (n : ℕ) (name : ProcName) → (n + 1) ∷ name ≡ name → ⊥
+      no_cycle n name e = let longer = ap length e in omega (arith, longer)
+
+  -- a granted `wrap` has a name with room for a number, and its process has one child more
+  wrapped : (accounts : Accounts) (asked : UnixCall) → (rule asked).effect ≡ Wraps → refused accounts f me p asked ≡ None
+      → (job : ProcName) → job ≡ next_child me p → IsBorn me p (changed accounts f me p asked) job
+  wrapped accounts (Wrap q) is passes job e = record {
+    is = e;
+    short = passed (nat_lt (length me) most_numbers) EAGAIN
+        (passes_later (unless (nat_lt p.born most_children) EAGAIN) _ (passes_first (unless (nat_lt p.born most_children) EAGAIN
+        orelse unless (nat_lt (length me) most_numbers) EAGAIN) _ passes));
+    now = record p { held = p.held ++ next_child me p ∷ []; born = p.born + 1 };
+    there = me_then _ _;
+    born = refl;
+  }
+  wrapped accounts _ is passes job e = absurd (cc)
+
+-- what is said of a job that is used after a line: it was used before, or is that of the child that was born to the line's process
+abbrev pub Comes : Flat → ProcName → Flat → ProcName → Type 0
+Comes f me g job = Uses g job → Uses f job ⊎ ((p : Process) × (here : f.processes me ≡ Some p) × IsBorn me p g job)
+
+pub new_jobs : (accounts : Accounts) (f : Flat) → IsTree f → (me : ProcName) (call : UnixCall) (job : ProcName)
+    → Comes f me (flat_after accounts f me call) job
+new_jobs accounts f tree me call job = by (running f me) refl
+  where
+    granted : (p : Process) (here : f.processes me ≡ Some p) (o : Option Errno) → refused accounts f me p call ≡ o
+        → (Uses (flat_or o f (changed accounts f me p call)) job → Uses f job ⊎ ((job ≡ next_child me p) × ((rule call).effect ≡ Wraps)))
+        → Comes f me (flat_or o f (changed accounts f me p call)) job
+    granted p here (Some e) passes old u = inl u
+    granted p here None passes old u = elim (old u) [
+      | inl before ↦ inl before
+      | inr i ↦ inr (p, here, wrapped f tree me p here call accounts call i.1 passes job i.0)
+    ]
+
+    by : (o : Option Process) → running f me ≡ o → Comes f me (flat_by accounts f me o call) job
+    by None e = λ u. inl u
+    by (Some p) e =
+        let here = runs_is_there (f.processes me) p e in
+        granted p here (refused accounts f me p call) refl
+        (by_change accounts f me p (AreOld f tree me p here call) call (each_change f tree me p here call accounts) job)

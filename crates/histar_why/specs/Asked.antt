@@ -1,0 +1,89 @@
+-- What a call needs, part by part, without the bytes and the password that it has.
+use Rattle.std.specs.Prelude.{◌≡◌, ℕ, List, [], ◌∷◌, ◌++◌, length, Option, None, Some}
+use Rattle.histar_flat.specs.declared.calls.Mode.{Mode}
+use Rattle.histar_flat.specs.declared.calls.UnixCall.{UnixCall}
+use Rattle.histar_flat.specs.declared.calls.UnixCall.TheVariants.{Create, Mkdir, Read, Write, Append, List as ListCall, Stat, Unlink, Rmdir, Rmtree}
+use Rattle.histar_flat.specs.declared.calls.UnixCall.TheVariants.{Rename, Spawn, Status, Kill, Login, Wrap}
+use Rattle.histar_flat.specs.declared.replies.Errno.TheVariants.{EISDIR, EEXIST, EBUSY}
+use Rattle.histar_flat.specs.Words.{Name, ProcName}
+use Rattle.histar_flat.specs.CallRules.{path_of}
+use Rattle.histar_why.specs.declared.asked.Kept.{Kept}
+use Rattle.histar_why.specs.declared.asked.Kept.TheVariants.{All, Nothing}
+use Rattle.histar_why.specs.declared.asked.Part.{Part}
+use Rattle.histar_why.specs.declared.asked.Part.TheVariants.{NotRoot, Walk, Exists, IsFile, IsDirectory, Absent, AbsentBeside, MayRead, MayWrite}
+use Rattle.histar_why.specs.declared.asked.Part.TheVariants.{MayWriteAbove, HasRoomAbove, IsEmpty, Fits, OfProcess}
+use Rattle.histar_why.specs.declared.asked.ProcessPart.TheVariants.{MayMake, HasChildLeft, HasNumberLeft, Found, IsChild, IsUser, HasPassword, InNoJob}
+use Rattle.histar_why.specs.declared.asked.ProcessPart.TheVariants.{IsSomebody}
+use Rattle.histar_why.specs.declared.asked.Asked.{Asked}
+
+-- the name that a call gives to what is at its path
+abbrev pub beside_of : UnixCall → Option Name
+beside_of (Rename q name) = Some name
+beside_of call = None
+
+-- the process that a call names, or process 0
+abbrev pub other_of : UnixCall → ProcName
+other_of (Status name) = name
+other_of (Kill name) = name
+other_of call = []
+
+-- what a call needs that makes a file or a directory of a mode
+abbrev pub parts_of_entry : Mode → List Part
+parts_of_entry mode = NotRoot EEXIST ∷ Walk ∷ Absent ∷ HasRoomAbove ∷ MayWriteAbove ∷ OfProcess (MayMake mode) ∷ []
+
+-- what a call needs that puts bytes into a file
+abbrev pub parts_of_bytes : Kept → List ℕ → List Part
+parts_of_bytes kept bytes = NotRoot EISDIR ∷ Walk ∷ Exists ∷ IsFile ∷ MayWrite ∷ Fits kept (length bytes) ∷ []
+
+-- what a call needs that only looks at a path
+abbrev pub parts_of_look : UnixCall → List Part
+parts_of_look (Read q) = NotRoot EISDIR ∷ Walk ∷ Exists ∷ IsFile ∷ MayRead ∷ []
+parts_of_look (ListCall q) = Walk ∷ Exists ∷ IsDirectory ∷ MayRead ∷ []
+parts_of_look call = Walk ∷ Exists ∷ []
+
+-- the tests of a call that removes or renames what is there
+abbrev pub parts_of_entry_there : UnixCall → List Part
+parts_of_entry_there (Unlink q) = IsFile ∷ []
+parts_of_entry_there (Rmdir q) = IsDirectory ∷ MayRead ∷ IsEmpty ∷ []
+parts_of_entry_there (Rename q name) = AbsentBeside name ∷ []
+parts_of_entry_there call = []
+
+-- what a call needs that removes or renames what is at a path
+abbrev pub parts_of_removal : UnixCall → List Part
+parts_of_removal call = ((NotRoot EBUSY ∷ Walk ∷ Exists ∷ []) ++ parts_of_entry_there call) ++ MayWriteAbove ∷ []
+
+-- what a call needs that starts a job
+abbrev pub parts_of_wrap : List Part
+parts_of_wrap = OfProcess HasChildLeft ∷ OfProcess HasNumberLeft ∷ NotRoot EEXIST ∷ Walk ∷ Absent ∷ HasRoomAbove ∷ MayWriteAbove ∷ OfProcess IsSomebody ∷ []
+
+-- what a call on processes needs
+abbrev pub parts_of_process : UnixCall → List Part
+parts_of_process Spawn = OfProcess HasChildLeft ∷ OfProcess HasNumberLeft ∷ []
+parts_of_process (Status name) = OfProcess (Found name) ∷ []
+parts_of_process (Kill name) = OfProcess (Found name) ∷ OfProcess (IsChild name) ∷ []
+parts_of_process (Login name password) = OfProcess (IsUser name) ∷ OfProcess InNoJob ∷ OfProcess (HasPassword name) ∷ []
+parts_of_process (Wrap q) = parts_of_wrap
+parts_of_process call = []
+
+-- what a call needs, in the order of its tests
+abbrev pub parts_of : UnixCall → List Part
+parts_of (Create q mode) = parts_of_entry mode
+parts_of (Mkdir q mode) = parts_of_entry mode
+parts_of (Write q bytes) = parts_of_bytes Nothing bytes
+parts_of (Append q bytes) = parts_of_bytes All bytes
+parts_of (Read q) = parts_of_look (Read q)
+parts_of (ListCall q) = parts_of_look (ListCall q)
+parts_of (Stat q) = parts_of_look (Stat q)
+parts_of (Unlink q) = parts_of_removal (Unlink q)
+parts_of (Rmdir q) = parts_of_removal (Rmdir q)
+parts_of (Rmtree q) = parts_of_removal (Rmtree q)
+parts_of (Rename q name) = parts_of_removal (Rename q name)
+parts_of call = parts_of_process call
+
+-- this is what a call of a process asks for
+pub record IsAsked (process : ProcName) (call : UnixCall) (asked : Asked) : Type 0 where
+  pub by : asked.process ≡ process
+  pub path : asked.path ≡ path_of call
+  pub beside : asked.beside ≡ beside_of call
+  pub other : asked.other ≡ other_of call
+  pub parts : asked.parts.items ≡ parts_of call

@@ -1,0 +1,11 @@
+-- The definitions of this crate that contracts cite.
+pub mod Names
+pub mod Causes
+pub mod Asked
+pub mod Reasons
+pub mod Ways
+pub mod Views
+pub mod Absences
+pub mod Telling
+pub mod Session
+pub mod Run

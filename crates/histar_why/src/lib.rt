@@ -1,0 +1,18 @@
+//! Runs of scripts with reasons: what `run` of `histar_shell` writes, and after it why each refused call was
+//! refused, in the words of the rules.
+//!
+//! A refusal changes nothing, so each reason is read off the machine's own objects after its line.
+#![tactic(auto)]
+
+mod absences;
+mod asked;
+mod causes;
+mod names;
+mod reasons;
+mod sentences;
+mod session;
+mod telling;
+mod views;
+mod ways;
+
+pub use session::run_with_reasons;

@@ -1,0 +1,269 @@
+//! The sentences of reasons, and the lines that have them.
+ghost use Rattle.std.specs.Prelude.{◌≡◌, ◌++◌, codes, OnOk};
+ghost use Rattle.std.specs.Fmt.{decimal};
+ghost use Rattle.histar_flat.specs.Texts.{path_text, process_text};
+ghost use Rattle.histar_reasons.specs.Causes.{innermost};
+ghost use Rattle.histar_reasons.specs.Sentences.{absence_text, cause_text, counted, job_text, unknown_text, who_text, why_text};
+ghost use Rattle.histar_why.specs.Absences.{absence_of};
+ghost use Rattle.histar_why.specs.Causes.{cause_of};
+ghost use Rattle.histar_why.specs.Names.{process_of};
+ghost use Rattle.histar_why.specs.Reasons.{process_reason_of, reason_of};
+
+use crate::absences::Absence;
+use crate::causes::{Cause, innermost};
+use crate::names::Caller;
+use crate::reasons::{ProcessReason, Reason};
+use histar_flat::{Name, Path, ProcName};
+use histar_texts::{push_path, push_process};
+use itoa::Buffer;
+use std::alloc::AllocError;
+
+/// Adds the sentence of an absence.
+pub(crate) fn push_absence(
+    text: &mut Vec<u8>,
+    process: &ProcName,
+    absence: &Absence,
+) -> Result<(), AllocError>
+    ensures { OnOk result (text.new.items
+        ≡ text.old.items ++ absence_text process.now (absence_of absence.now)) }
+{
+    match absence {
+        Absence::HasExited => push_about_process(text, "", process, " has exited"),
+        Absence::WasNeverStarted => push_about_process(text, "", process, " was never started"),
+        Absence::WasKilled(killed) => push_about_process(text, "", killed, " was killed"),
+    }
+}
+
+/// Adds the sentence of a reason.
+pub(crate) fn push_reason(
+    text: &mut Vec<u8>,
+    me: &ProcName,
+    caller: &Caller,
+    reason: &Reason,
+) -> Result<(), AllocError>
+    ensures { OnOk result (text.new.items
+        ≡ text.old.items ++ why_text me.now (process_of caller.now) (reason_of reason.now)) }
+{
+    match reason {
+        Reason::MayNotRead(path, cause) => {
+            push_who(text, me, caller)?;
+            push_about_path(text, " may not read ", path, ": ")?;
+            push_cause(text, me, caller, cause)
+        }
+        Reason::MayNotWrite(path, cause) => {
+            push_who(text, me, caller)?;
+            push_about_path(text, " may not write ", path, ": ")?;
+            push_cause(text, me, caller, cause)
+        }
+        Reason::IsMissing(path) => push_about_path(text, "there is no ", path, ""),
+        Reason::HasFile(path) => push_about_path(text, "", path, " is a file"),
+        Reason::HasDirectory(path) => push_about_path(text, "", path, " is a directory"),
+        Reason::IsTaken(path) => push_about_path(text, "", path, " is there already"),
+        Reason::RootStays => push_str(text, "/ can be neither removed nor renamed"),
+        Reason::IsFull(path, count) => push_entries(text, path, *count, ", and 64 is the most"),
+        Reason::IsNotEmpty(path, count) => push_entries(text, path, *count, ""),
+        Reason::IsTooLong(path, bytes) => push_too_long(text, path, *bytes),
+        Reason::OfProcess(reason) => push_process_reason(text, me, caller, reason),
+    }
+}
+
+/// Adds the sentence of a reason that is of no path.
+fn push_process_reason(
+    text: &mut Vec<u8>,
+    me: &ProcName,
+    caller: &Caller,
+    reason: &ProcessReason,
+) -> Result<(), AllocError>
+    ensures { OnOk result (text.new.items
+        ≡ text.old.items ++ why_text me.now (process_of caller.now) (process_reason_of reason.now)) }
+{
+    let user = &caller.user;
+    match reason {
+        ProcessReason::MakesOnlyOpen => push_about_name(
+            text,
+            "user ",
+            user,
+            " makes only what is open",
+        ),
+        ProcessReason::StartsNoJob => push_about_name(text, "user ", user, " starts no job"),
+        ProcessReason::IsNoMember(group) => {
+            push_about_name(text, "user ", user, " is not in group ")?;
+            push_about_name(text, "", group, "")
+        }
+        ProcessReason::HadChildren(count) => {
+            push_about_process(text, "", me, " has had ")?;
+            push_count(text, u128::from(*count), " children, and 64 is the most")
+        }
+        ProcessReason::HasNumbers(count) => {
+            push_about_process(text, "the name ", me, " has ")?;
+            push_count(text, *count as u128, " numbers, and 8 is the most")
+        }
+        ProcessReason::NoProcess(name) => push_about_process(
+            text,
+            "there is no process ",
+            name,
+            "",
+        ),
+        ProcessReason::IsUnseen(name, job) => {
+            push_who(text, me, caller)?;
+            push_about_process(text, " does not see ", name, ": ")?;
+            push_unknown(text, me, job)
+        }
+        ProcessReason::IsNoChild(name) => {
+            push_about_process(text, "", name, " is no child of ")?;
+            push_process(text, me)
+        }
+        ProcessReason::NoUser(name) => push_about_name(text, "there is no user ", name, ""),
+        ProcessReason::WrongPassword(name) => {
+            push_about_name(text, "that is not the password of ", name, "")
+        }
+        ProcessReason::IsInJob(job) => {
+            push_about_process(text, "", me, " is in job ")?;
+            push_about_process(text, "", job, ", and no process in a job logs in")
+        }
+    }
+}
+
+/// Adds the text of a cause.
+fn push_cause(
+    text: &mut Vec<u8>,
+    me: &ProcName,
+    caller: &Caller,
+    cause: &Cause,
+) -> Result<(), AllocError>
+    ensures { OnOk result (text.new.items
+        ≡ text.old.items ++ cause_text me.now (process_of caller.now) (cause_of cause.now)) }
+{
+    match cause {
+        Cause::IsPrivate(owner) => push_about_name(text, "it is private, of ", owner, ""),
+        Cause::IsReadable(owner) => {
+            push_about_name(text, "it is readable, and ", owner, " alone writes it")
+        }
+        Cause::IsScratch(owner) => push_about_name(text, "it is scratch, of ", owner, ""),
+        Cause::IsGrouped(group) => {
+            push_about_name(text, "it is of group ", group, ", which user ")?;
+            push_about_name(text, "", &caller.user, " is not in")
+        }
+        Cause::NeedsJob(job) => push_unknown(text, me, job),
+        Cause::LeavesJob(job) => {
+            push_about_process(text, "it is not of job ", job, ", which ")?;
+            push_about_process(text, "", me, " is in")
+        }
+    }
+}
+
+/// Adds that a process doesn't know a job.
+fn push_unknown(text: &mut Vec<u8>, me: &ProcName, job: &ProcName) -> Result<(), AllocError>
+    ensures { OnOk result (text.new.items ≡ text.old.items ++ unknown_text me.now job.now) }
+{
+    push_about_process(text, "", me, " neither is in job ")?;
+    push_about_process(text, "", job, " nor holds it")
+}
+
+/// Adds a process, with its user and its innermost job.
+fn push_who(text: &mut Vec<u8>, me: &ProcName, caller: &Caller) -> Result<(), AllocError>
+    ensures { OnOk result (text.new.items ≡ text.old.items ++ who_text me.now (process_of caller.now)) }
+{
+    push_about_process(text, "", me, " (")?;
+    push_about_name(text, "", &caller.user, "")?;
+    push_job(text, caller)?;
+    push_str(text, ")")
+}
+
+/// Adds the innermost job of a process, if it is in one.
+fn push_job(text: &mut Vec<u8>, caller: &Caller) -> Result<(), AllocError>
+    ensures { OnOk result (text.new.items
+        ≡ text.old.items ++ job_text (innermost (process_of caller.now))) }
+{
+    match innermost(caller) {
+        None => Ok(()),
+        Some(job) => push_about_process(text, ", in job ", &job, ""),
+    }
+}
+
+/// Adds how many entries a directory has.
+fn push_entries(
+    text: &mut Vec<u8>,
+    path: &Path,
+    count: usize,
+    after: &str,
+) -> Result<(), AllocError>
+    ensures { OnOk result (text.new.items ≡ text.old.items
+        ++ (path_text path.now ++ codes " has " ++ counted count (codes "entry") (codes "entries") ++ after.now)) }
+{
+    push_about_path(text, "", path, " has ")?;
+    push_count(
+        text,
+        count as u128,
+        if count == 1 { " entry" } else { " entries" },
+    )?;
+    push_str(text, after)
+}
+
+/// Adds that a file would have too many bytes.
+fn push_too_long(text: &mut Vec<u8>, path: &Path, bytes: u128) -> Result<(), AllocError>
+    ensures { OnOk result (text.new.items ≡ text.old.items
+        ++ (path_text path.now ++ codes " would have " ++ decimal bytes ++ codes " bytes, and 4096 is the most")) }
+{
+    push_about_path(text, "", path, " would have ")?;
+    push_count(text, bytes, " bytes, and 4096 is the most")
+}
+
+/// Adds a path between two texts.
+fn push_about_path(
+    text: &mut Vec<u8>,
+    before: &str,
+    path: &Path,
+    after: &str,
+) -> Result<(), AllocError>
+    ensures { OnOk result (text.new.items
+        ≡ text.old.items ++ (before.now ++ path_text path.now ++ after.now)) }
+{
+    push_str(text, before)?;
+    push_path(text, path)?;
+    push_str(text, after)
+}
+
+/// Adds a process between two texts.
+fn push_about_process(
+    text: &mut Vec<u8>,
+    before: &str,
+    process: &ProcName,
+    after: &str,
+) -> Result<(), AllocError>
+    ensures { OnOk result (text.new.items
+        ≡ text.old.items ++ (before.now ++ process_text process.now ++ after.now)) }
+{
+    push_str(text, before)?;
+    push_process(text, process)?;
+    push_str(text, after)
+}
+
+/// Adds a name between two texts.
+fn push_about_name(
+    text: &mut Vec<u8>,
+    before: &str,
+    name: &Name,
+    after: &str,
+) -> Result<(), AllocError>
+    ensures { OnOk result (text.new.items ≡ text.old.items ++ (before.now ++ name.now ++ after.now)) }
+{
+    push_str(text, before)?;
+    text.extend_from_slice(name.as_bytes())?;
+    push_str(text, after)
+}
+
+/// Adds a number before a text.
+fn push_count(text: &mut Vec<u8>, count: u128, after: &str) -> Result<(), AllocError>
+    ensures { OnOk result (text.new.items ≡ text.old.items ++ (decimal count ++ after.now)) }
+{
+    text.extend_from_slice(Buffer::new().format(count).as_bytes())?;
+    push_str(text, after)
+}
+
+/// Adds a text.
+fn push_str(text: &mut Vec<u8>, more: &str) -> Result<(), AllocError>
+    ensures { OnOk result (text.new.items ≡ text.old.items ++ more.now) }
+{
+    text.extend_from_slice(more.as_bytes())
+}

@@ -1,0 +1,157 @@
+//! The line of a refused call, read off the machine after the call.
+ghost use Rattle.std.specs.Prelude.{◌≡◌, ◌++◌, codes, option_map, OnOk, IfOk};
+ghost use Rattle.std.specs.Fmt.{decimal};
+ghost use Rattle.histar_flat.specs.Texts.{reply_text};
+ghost use Rattle.histar_names.specs.Births.{births_after};
+ghost use Rattle.histar_reasons.specs.Laws.{is_refusal};
+ghost use Rattle.histar_syscall.specs.KernelModel.{state};
+ghost use Rattle.histar_why.specs.Names.{process_of, running_at};
+ghost use Rattle.histar_why.specs.Telling.{Adds, SaysIfRefused, SaysLine, SaysReason, SaysWords};
+
+use crate::absences::absence_of;
+use crate::asked::Asked;
+use crate::names::{Caller, Reader, caller_of, node_at};
+use crate::reasons::first_reason;
+use crate::sentences::{push_absence, push_reason};
+use crate::session::Teller;
+use crate::views::{View, facts_of};
+use histar_flat::{ProcName, Reply};
+use histar_label::LabelStore;
+use histar_names::note_births;
+use histar_shell::{Machine, reply_text};
+use histar_texts::push_number;
+use std::alloc::{AllocError, Global};
+
+/// Notes the births of a line, and adds its line if its call was refused.
+pub(crate) fn tell<S: LabelStore + Drop>(
+    alloc: Global,
+    machine: &Machine<S>,
+    teller: &mut Teller,
+    number: u32,
+    asked: &Asked,
+    reply: &Reply,
+) -> Result<(), AllocError>
+    ensures births { OnOk result (teller.new.births.items
+        ≡ births_after (state machine.now.kernel) machine.now.roots asked.now.process teller.old.births.items) }
+    ensures text { OnOk result (Adds (SaysIfRefused machine.now teller.new.births.items number asked.now reply.now)
+        teller.old.text.items teller.new.text.items) }
+{
+    note_births(
+        machine.kernel(),
+        machine.roots(),
+        &asked.process,
+        &mut teller.births,
+    )?;
+    if is_refusal(reply) {
+        push_line(alloc, machine, teller, number, asked, reply)
+    } else {
+        Ok(())
+    }
+}
+
+/// Adds the line of a refused call.
+fn push_line<S: LabelStore + Drop>(
+    alloc: Global,
+    machine: &Machine<S>,
+    teller: &mut Teller,
+    number: u32,
+    asked: &Asked,
+    reply: &Reply,
+) -> Result<(), AllocError>
+    ensures births { teller.new.births.items ≡ teller.old.births.items }
+    ensures text { OnOk result (Adds (SaysLine machine.now teller.old.births.items number asked.now reply.now)
+        teller.old.text.items teller.new.text.items) }
+{
+    let reader = Reader {
+        kernel: machine.kernel(),
+        roots: machine.roots(),
+        users: machine.users(),
+        births: teller.births.as_slice(),
+    };
+    push_head(alloc, &mut teller.text, number, reply)?;
+    push_words(alloc, &reader, asked, &mut teller.text)?;
+    teller.text.extend_from_slice(b"\n")
+}
+
+/// Checks whether a reply is a refusal.
+fn is_refusal(reply: &Reply) -> bool
+    ensures { result ≡ is_refusal reply.now }
+{
+    matches!(reply, Reply::Refused(_) | Reply::Gone)
+}
+
+/// Adds the number of a line and its reply.
+fn push_head(
+    alloc: Global,
+    text: &mut Vec<u8>,
+    number: u32,
+    reply: &Reply,
+) -> Result<(), AllocError>
+    ensures { OnOk result (text.new.items ≡ text.old.items
+        ++ (codes "!" ++ decimal number ++ codes " " ++ reply_text reply.now ++ codes ": ")) }
+{
+    let said = reply_text(alloc, reply)?;
+    text.extend_from_slice(b"!")?;
+    push_number(text, number)?;
+    text.extend_from_slice(b" ")?;
+    text.extend_from_slice(said.as_slice())?;
+    text.extend_from_slice(b": ")
+}
+
+/// Adds why a call was refused.
+fn push_words<S: LabelStore + Drop>(
+    alloc: Global,
+    reader: &Reader<S>,
+    asked: &Asked,
+    text: &mut Vec<u8>,
+) -> Result<(), AllocError>
+    ensures { OnOk result (Adds (SaysWords reader.now.users.now reader.now.roots.now reader.now.births.now
+        (state reader.now.kernel.now) asked.now) text.old.items text.new.items) }
+{
+    match find_caller(alloc, reader, &asked.process)? {
+        Some(caller) => push_why(alloc, reader, &caller, asked, text),
+        None => {
+            let absence = absence_of(reader.kernel, reader.roots, &asked.process);
+            push_absence(text, &asked.process, &absence)
+        }
+    }
+}
+
+/// Reads the process of this name with its jobs by name, if it runs.
+fn find_caller<S: LabelStore + Drop>(
+    alloc: Global,
+    reader: &Reader<S>,
+    name: &ProcName,
+) -> Result<Option<Caller>, AllocError>
+    ensures { IfOk result (λ found. option_map process_of found ≡ running_at reader.now.users.now
+        reader.now.births.now (state reader.now.kernel.now) reader.now.roots.now.home name.now) }
+{
+    match node_at(alloc, reader, name)? {
+        Some(node) => caller_of(alloc, reader.births, &node),
+        None => Ok(None),
+    }
+}
+
+/// Adds why a call of this process was refused.
+fn push_why<S: LabelStore + Drop>(
+    alloc: Global,
+    reader: &Reader<S>,
+    caller: &Caller,
+    asked: &Asked,
+    text: &mut Vec<u8>,
+) -> Result<(), AllocError>
+    ensures { OnOk result (Adds (SaysReason reader.now.users.now reader.now.roots.now reader.now.births.now
+        (state reader.now.kernel.now) caller.now asked.now) text.old.items text.new.items) }
+{
+    let facts = facts_of(alloc, reader, caller, asked)?;
+    let view = View {
+        asked,
+        users: reader.users,
+        caller,
+        facts: &facts,
+    };
+    match first_reason(&view, asked.parts.as_slice()) {
+        Some(reason) => push_reason(text, &asked.process, caller, &reason),
+        None => Ok(()),
+    }
+}
