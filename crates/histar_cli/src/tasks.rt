@@ -23,6 +23,7 @@ use histar_shell::Options;
 use histar_test::{TestFile, test};
 use histar_transcript::{Tried, transcribe, try_calls};
 use histar_trust::{flows, trust};
+use histar_why::run_with_reasons;
 use std::alloc::{AllocError, Global};
 use std::io::{self, Write};
 use std::rt::Files;
@@ -38,13 +39,15 @@ pub fn run_file<R: Files + Input + Print>(
         tree: flags.tree,
         trace: flags.trace,
     };
-    if !flags.calls && !flags.explain {
+    if !flags.calls && !flags.explain && !flags.why {
         return run_plain(rt, alloc, path, options);
     }
     let mut reader = open(rt, path)?;
     let mut writer = output(rt, alloc)?;
     let done = if flags.calls {
         transcribe(alloc, &mut reader, &mut writer, options, flags.explain)
+    } else if flags.why {
+        run_with_reasons(alloc, &mut reader, &mut writer, options)
     } else {
         explain_script(alloc, &mut reader, &mut writer, options)
     };
