@@ -1,6 +1,7 @@
 //! Byte strings that own their memory.
-ghost use Rattle.std.specs.Prelude.{◌≡◌, ◌↔◌, [], length, IsTrue, IfOk};
+ghost use Rattle.std.specs.Prelude.{OnErr, ◌≡◌, ◌↔◌, [], length, IsTrue, IfOk};
 
+use histar_heap::Heap;
 use std::alloc::{AllocError, Global};
 use std::marker::Model;
 
@@ -36,10 +37,11 @@ impl Bytes {
     }
 
     /// Returns a copy of borrowed bytes.
-    pub fn copy_of(alloc: Global, source: &[u8]) -> Result<Bytes, AllocError>
-        ensures { IfOk result (λ b. b ≡ source.now) }
+    pub fn copy_of<H: Heap>(heap: H, source: &[u8]) -> Result<Bytes, AllocError>
+        ensures ok { IfOk result (λ b. b ≡ source.now) }
+        ensures memory { OnErr result H.Refused }
     {
-        let content = Vec::from_slice(alloc, source)?;
+        let content = heap.copy_of(source)?;
         Ok(Bytes { content })
     }
 
@@ -62,10 +64,11 @@ impl Bytes {
     }
 
     /// Returns a copy of these bytes.
-    pub fn copy(&self, alloc: Global) -> Result<Bytes, AllocError>
-        ensures { IfOk result (λ b. b ≡ self.now) }
+    pub fn copy<H: Heap>(&self, heap: H) -> Result<Bytes, AllocError>
+        ensures ok { IfOk result (λ b. b ≡ self.now) }
+        ensures memory { OnErr result H.Refused }
     {
-        Bytes::copy_of(alloc, self.as_slice())
+        Bytes::copy_of(heap, self.as_slice())
     }
 
     /// Returns the vector that holds the bytes.

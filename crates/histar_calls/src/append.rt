@@ -27,7 +27,7 @@ pub fn append<S: LabelStore + Drop>(
         unix.now.caller.now.thread (settled result) }
 {
     let thread = unix.caller.thread;
-    let file = find_file(kernel, unix.roots, thread, path)?;
+    let file = find_file(alloc, kernel, unix.roots, thread, path)?;
     written(kernel.write(
         alloc,
         thread,

@@ -48,7 +48,7 @@ fn make_file<S: LabelStore + Drop>(
         unix.now.caller.now.thread result }
 {
     let thread = unix.caller.thread;
-    let own = kernel.lend_own_label(thread)?;
+    let own = kernel.lend_own_label(alloc, thread)?;
     let label = label_made(alloc, own, unix.users, mode)?;
     add_file(alloc, kernel, thread, room, label)
 }

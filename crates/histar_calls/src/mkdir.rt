@@ -46,7 +46,7 @@ fn make_directory<S: LabelStore + Drop>(
         unix.now.caller.now.thread result }
 {
     let thread = unix.caller.thread;
-    let own = kernel.lend_own_label(thread)?;
+    let own = kernel.lend_own_label(alloc, thread)?;
     let label = label_made(alloc, own, unix.users, mode)?;
     add_directory(alloc, kernel, thread, room, label)
 }
@@ -67,7 +67,7 @@ fn add_directory<S: LabelStore + Drop>(
         mut entries,
         name,
     } = room;
-    let same = label.copy()?;
+    let same = label.copy(alloc)?;
     let container = kernel.make_container(alloc, thread, place.container, label)?;
     let empty = Bytes::new(alloc);
     let listing = kernel.make_segment(alloc, thread, container, same, empty)?;

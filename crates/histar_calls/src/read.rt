@@ -22,7 +22,7 @@ pub fn read<S: LabelStore + Drop>(
         unix.now.caller.now.thread (settled result) }
 {
     let thread = unix.caller.thread;
-    let file = find_file(kernel, unix.roots, thread, path)?;
+    let file = find_file(alloc, kernel, unix.roots, thread, path)?;
     let bytes = kernel.read_copy(alloc, thread, file.container, file.segment)?;
     Ok(Reply::Data(bytes))
 }

@@ -10,6 +10,7 @@ use histar_object::ObjId;
 use histar_programs::{CallError, Roots, Unix, entry_at, find_place, look_in};
 use histar_rules::ROOT;
 use histar_syscall::Kernel;
+use std::alloc::Global;
 
 /// An object that was found at a path.
 #[derive(Clone, Copy)]
@@ -24,6 +25,7 @@ pub struct FoundObject {
 /// Returns kind, owner and mode of what is at a path. It is refused where the walk is, and with ENOENT
 /// where nothing is there, or an object of another label than the library gives files.
 pub fn stat<S: LabelStore + Drop>(
+    alloc: Global,
     kernel: &mut Kernel<S>,
     unix: &Unix,
     path: &[Name],
@@ -32,8 +34,8 @@ pub fn stat<S: LabelStore + Drop>(
         unix.now.caller.now.thread (settled result) }
 {
     let thread = unix.caller.thread;
-    let found = find_object(kernel, unix.roots, thread, path)?;
-    let label = kernel.label_of(thread, found.container, found.object)?;
+    let found = find_object(alloc, kernel, unix.roots, thread, path)?;
+    let label = kernel.label_of(alloc, thread, found.container, found.object)?;
     let Some(class) = shown_class(&label, unix.users) else {
         return Err(CallError::Refused(Errno::ENOENT));
     };
@@ -42,6 +44,7 @@ pub fn stat<S: LabelStore + Drop>(
 
 /// Finds what is at a path: ENOENT where nothing is there, and the errno of the walk where that is refused.
 fn find_object<S: LabelStore + Drop>(
+    alloc: Global,
     kernel: &mut Kernel<S>,
     roots: &Roots,
     thread: ObjId,
@@ -56,9 +59,9 @@ fn find_object<S: LabelStore + Drop>(
             is_directory: true,
         });
     };
-    let place = find_place(kernel, roots, thread, parent)?;
+    let place = find_place(alloc, kernel, roots, thread, parent)?;
     let container = place.container;
-    let found = look_in(kernel, thread, place, name)?;
+    let found = look_in(alloc, kernel, thread, place, name)?;
     let target = entry_at(found)?;
     Ok(FoundObject {
         container,

@@ -24,7 +24,7 @@ pub fn write<S: LabelStore + Drop>(
         unix.now.caller.now.thread (settled result) }
 {
     let thread = unix.caller.thread;
-    let file = find_file(kernel, unix.roots, thread, path)?;
+    let file = find_file(alloc, kernel, unix.roots, thread, path)?;
     written(kernel.write(alloc, thread, file.container, file.segment, 0, bytes))?;
     Ok(Reply::Done)
 }

@@ -3,6 +3,7 @@ ghost use Rattle.std.specs.Prelude.{◌≡◌, None, OnOk, OnErr};
 ghost use Rattle.std.specs.FinSet as set;
 ghost use Rattle.histar_object.specs.Objects.{objects_of, put, changed_at, linking, unlinking, with_new, links_in};
 
+use histar_heap::Heap;
 use histar_object::{Kind, ObjId, Object, Table};
 use std::alloc::AllocError;
 
@@ -21,7 +22,8 @@ pub fn linked<L>(table: &Table<L>, container: ObjId, object: ObjId) -> bool
 
 /// Adds a new object under a number, and links it in a container. It reserves all memory before it changes
 /// anything: a call that runs out of memory leaves no object and no link behind.
-pub fn link_new<L: Drop>(
+pub fn link_new<H: Heap, L: Drop>(
+    heap: H,
     table: &mut Table<L>,
     container: ObjId,
     number: ObjId,
@@ -30,23 +32,30 @@ pub fn link_new<L: Drop>(
     requires { objects_of table.old number ≡ None }
     ensures ok { OnOk result (objects_of table.new ≡ with_new (objects_of table.old) container number object) }
     ensures err { OnErr result (objects_of table.new ≡ objects_of table.old) }
+    ensures memory { OnErr result H.Refused }
 {
-    table.reserve()?;
-    link(table, container, number)?;
+    table.reserve(heap)?;
+    link(heap, table, container, number)?;
     table.add_reserved(number, object);
     Ok(())
 }
 
 /// Links an object in a container.
-fn link<L>(table: &mut Table<L>, container: ObjId, object: ObjId) -> Result<(), AllocError>
+fn link<H: Heap, L>(
+    heap: H,
+    table: &mut Table<L>,
+    container: ObjId,
+    object: ObjId,
+) -> Result<(), AllocError>
     ensures ok { OnOk result (objects_of table.new
         ≡ changed_at (objects_of table.old) container (linking object)) }
     ensures err { OnErr result (objects_of table.new ≡ objects_of table.old) }
     ensures room { table.new.room ≡ table.old.room }
+    ensures memory { OnErr result H.Refused }
 {
     if let Some(holder) = table.get_mut(container) {
         if let Kind::Container(links) = &mut holder.kind {
-            return links.insert(object);
+            return links.insert(heap, object);
         }
     }
     Ok(())

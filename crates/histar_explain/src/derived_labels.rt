@@ -24,7 +24,7 @@ pub(crate) fn owning_high(alloc: Global, own: &Label) -> Result<Label, OutOfMemo
 {
     let mut label = Label::new(alloc, high(own.default_level()));
     for exception in own.exceptions() {
-        label.set(exception.0, high(own.get(exception.0)))?;
+        label.set(alloc, exception.0, high(own.get(exception.0)))?;
     }
     Ok(label)
 }

@@ -220,7 +220,7 @@ pub(crate) fn clear_reasons(
     ensures { IfOk result (λ reasons. AllZip IsReasonOf
         (clearing own.now clearance.now own_clearance.now) reasons.items) }
 {
-    let above = own_clearance.join(&owning_high(alloc, own)?)?;
+    let above = own_clearance.join(alloc, &owning_high(alloc, own)?)?;
     between(
         alloc,
         (Party::Thread, own),
@@ -269,8 +269,8 @@ pub(crate) fn opening_reasons(
         (behind_gate opening.entry.own.now opening.entry.gate_label.now
         label.now clearance.now opening.entry.own_clearance.now opening.entry.gate_clearance.now) reasons.items) }
 {
-    let floor = opening.own.floor(opening.gate_label)?;
-    let clearances = opening.own_clearance.join(opening.gate_clearance)?;
+    let floor = opening.own.floor(alloc, opening.gate_label)?;
+    let clearances = opening.own_clearance.join(alloc, opening.gate_clearance)?;
     both_between(
         alloc,
         (Party::Floor, &floor),

@@ -1,6 +1,7 @@
 //! A store that keeps each label once, and remembers answers of comparisons.
 ghost use Rattle.std.specs.Prelude.{◌≡◌, ◌<◌, ◌⊎◌, ◌&&◌, if◌then◌else◌, nat_lt, ℕ, Bool, Some, IfOk, IfSome, OnErr};
-ghost use Rattle.std.specs.Prelude.{[], length, slice_get, slice_set, Contains, IsSome, Ok, None, All};
+ghost use Rattle.std.specs.NonZero.{non_zero_usize_get};
+ghost use Rattle.std.specs.Prelude.{◌≤◌, [], length, slice_get, slice_set, Contains, IsSome, Ok, None, All};
 ghost use Rattle.std.specs.Option.{option_copied};
 ghost use Rattle.histar_label.specs.Store.{Keeps, HasOneId};
 ghost use Rattle.histar_label.specs.InternStore.{answer_of};
@@ -8,9 +9,9 @@ ghost use Rattle.histar_label.specs.declared.comparisons.Comparison.{Comparison}
 
 use crate::comparisons::{Comparison, Question};
 use crate::{Label, LabelStore, OutOfMemory};
+use histar_heap::Heap;
 use indexmap::IndexSet;
 use lru::LruCache;
-use std::alloc::Global;
 use std::marker::Model;
 use std::num::NonZeroUsize;
 
@@ -30,6 +31,9 @@ impl Model for InternId {
 
 /// The number of answers that have a place at hand: a power of two.
 pub(crate) const AT_HAND: usize = 4_096;
+
+/// The greatest number of answers that are remembered beside those at hand.
+pub const MOST_ANSWERS: usize = 1_048_576;
 
 /// The number of labels that have a place at hand.
 const LABELS_AT_HAND: usize = 1_024;
@@ -75,24 +79,27 @@ impl Model for InternStore {
 }
 
 impl InternStore {
-    /// Makes a store with no labels, which remembers at most `cache` answers beside those at hand.
-    pub fn new(alloc: Global, cache: usize) -> Result<InternStore, OutOfMemory>
+    /// Makes a store with no labels, which remembers at most `cache` answers beside those at hand, and at most
+    /// `MOST_ANSWERS`.
+    pub fn new<H: Heap>(heap: H, cache: usize) -> Result<InternStore, OutOfMemory>
         requires { 0 < cache }
-        ensures { IfOk result (λ store. store ≡ []) }
+        ensures ok { IfOk result (λ store. store ≡ []) }
+        ensures memory { OnErr result H.Refused }
     {
-        InternStore::with_cache(alloc, NonZeroUsize::new(cache).unwrap())
+        InternStore::with_cache(heap, NonZeroUsize::new(cache).unwrap())
     }
 
     // Makes the same store.
-    fn with_cache(alloc: Global, cache: NonZeroUsize) -> Result<InternStore, OutOfMemory>
-        ensures { IfOk result (λ store. store ≡ []) }
+    fn with_cache<H: Heap>(heap: H, cache: NonZeroUsize) -> Result<InternStore, OutOfMemory>
+        ensures ok { IfOk result (λ store. store ≡ []) }
+        ensures memory { OnErr result H.Refused }
     {
         Ok(InternStore {
-            labels: IndexSet::new(alloc),
+            labels: IndexSet::new(heap.alloc()),
             weight: 0,
-            answers: LruCache::new(alloc, cache)?,
-            at_hand: no_answers(alloc)?,
-            labels_at_hand: no_labels(alloc)?,
+            answers: heap.new_cache(cut(cache))?,
+            at_hand: no_answers(heap)?,
+            labels_at_hand: no_labels(heap)?,
         })
     }
 
@@ -191,16 +198,17 @@ impl LabelStore for InternStore {
     ghost labels = { slice_get };
 
     /// Keeps a label, and returns its Id, which is the old one if the label was there.
-    fn put(&mut self, label: Label) -> Result<InternId, OutOfMemory>
+    fn put<H: Heap>(&mut self, heap: H, label: Label) -> Result<InternId, OutOfMemory>
         ensures stands { IfOk result (λ id. slice_get self.new id ≡ Some label) }
         ensures keeps { Keeps (slice_get self.old) (slice_get self.new) }
         ensures unchanged { OnErr result (slice_get self.new ≡ slice_get self.old) }
         ensures one_id { HasOneId (slice_get self.new) }
         ensures known { (id : ℕ) → slice_get self.old id ≡ Some label → result ≡ Ok id }
+        ensures memory { OnErr result H.Refused }
     {
         let exceptions = label.exceptions().len();
         let hand = label.place_among(LABELS_AT_HAND);
-        let (place, is_new) = self.labels.insert_full(label)?;
+        let (place, is_new) = heap.insert_full(&mut self.labels, label)?;
         self.weight = self.weight.saturating_add(weight_of(exceptions, is_new));
         set_at_hand(&mut self.labels_at_hand, hand, place);
         Ok(InternId(place))
@@ -228,8 +236,8 @@ impl LabelStore for InternStore {
         }
     }
 
-    fn emptied(&self) -> Result<InternStore, OutOfMemory> {
-        InternStore::with_cache(*self.labels.allocator(), self.answers.cap())
+    fn emptied<H: Heap>(&self, heap: H) -> Result<InternStore, OutOfMemory> {
+        InternStore::with_cache(heap, self.answers.cap())
     }
 
     fn weight(&self) -> usize {
@@ -284,22 +292,32 @@ fn weight_of(exceptions: usize, is_new: bool) -> usize
     }
 }
 
-// Makes the places at hand, without answers.
-fn no_answers(alloc: Global) -> Result<Vec<Option<(Comparison, bool)>>, OutOfMemory>
-    ensures { IfOk result (λ places. All (λ o. o ≡ None) places.items) }
+// Returns the number of answers to remember, where so many are wanted.
+fn cut(cache: NonZeroUsize) -> NonZeroUsize
+    ensures { non_zero_usize_get result ≤ MOST_ANSWERS }
 {
-    let mut places = Vec::with_capacity(alloc, AT_HAND)?;
+    NonZeroUsize::new(cache.get().min(MOST_ANSWERS)).unwrap()
+}
+
+// Makes the places at hand, without answers.
+fn no_answers<H: Heap>(heap: H) -> Result<Vec<Option<(Comparison, bool)>>, OutOfMemory>
+    ensures ok { IfOk result (λ places. All (λ o. o ≡ None) places.items) }
+    ensures memory { OnErr result H.Refused }
+{
+    let mut places = heap.with_room(AT_HAND)?;
     'places: for _ in 0..AT_HAND {
-        places.push(None)?;
+        heap.push(&mut places, None)?;
     }
     Ok(places)
 }
 
 // Makes the places at hand of labels: the first label is at each of them, if there is one.
-fn no_labels(alloc: Global) -> Result<Vec<usize>, OutOfMemory> {
-    let mut places = Vec::with_capacity(alloc, LABELS_AT_HAND)?;
+fn no_labels<H: Heap>(heap: H) -> Result<Vec<usize>, OutOfMemory>
+    ensures memory { OnErr result H.Refused }
+{
+    let mut places = heap.with_room(LABELS_AT_HAND)?;
     'places: for _ in 0..LABELS_AT_HAND {
-        places.push(0)?;
+        heap.push(&mut places, 0)?;
     }
     Ok(places)
 }

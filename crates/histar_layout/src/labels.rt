@@ -21,7 +21,7 @@ pub fn label_of(
 {
     let mut label = Label::with_room(alloc, default, exceptions.len())?;
     for &(category, level) in exceptions {
-        label.set(category, level)?;
+        label.set(alloc, category, level)?;
     }
     Ok(label)
 }
@@ -36,17 +36,22 @@ pub fn guarded_by(
     ensures { IfOk result (λ label. label ≡ guarded_by secret.now written.now) }
 {
     let mut label = Label::with_room(alloc, Level::L1, secret.len() + written.len())?;
-    set_each(&mut label, Level::L3, secret)?;
-    set_each(&mut label, Level::L0, written)?;
+    set_each(alloc, &mut label, Level::L3, secret)?;
+    set_each(alloc, &mut label, Level::L0, written)?;
     Ok(label)
 }
 
 /// Sets one level at each of these categories, and leaves all others as before. Where memory runs out it has set some.
-pub fn set_each(label: &mut Label, level: Level, categories: &[Category]) -> Result<(), AllocError>
+pub fn set_each(
+    alloc: Global,
+    label: &mut Label,
+    level: Level,
+    categories: &[Category],
+) -> Result<(), AllocError>
     ensures { OnOk result (label.new ≡ with_levels label.old (each_at level categories.now)) }
 {
     for &category in categories {
-        label.set(category, level)?;
+        label.set(alloc, category, level)?;
     }
     Ok(())
 }

@@ -58,26 +58,33 @@ fn granted<A: Drop>(answer: Result<A, Refusal>) -> Result<A, Stopped>
 }
 
 /// Makes a category, which the boot thread then owns.
-fn make_category<S: LabelStore + Drop>(kernel: &mut Kernel<S>) -> Result<Category, Stopped>
+fn make_category<S: LabelStore + Drop>(
+    alloc: Global,
+    kernel: &mut Kernel<S>,
+) -> Result<Category, Stopped>
     requires { Allows kernel.old calls.MakeCategory }
     ensures { Grants kernel.old kernel.new calls.MakeCategory result }
 {
-    granted(kernel.make_category(boot_thread()))
+    granted(kernel.make_category(alloc, boot_thread()))
 }
 
 /// Makes the two categories of a user, of a group, or of nobody.
-fn make_two_categories<S: LabelStore + Drop>(kernel: &mut Kernel<S>) -> Result<(), Stopped>
+fn make_two_categories<S: LabelStore + Drop>(
+    alloc: Global,
+    kernel: &mut Kernel<S>,
+) -> Result<(), Stopped>
     requires { IsUnderWay (HasRoom 2 0) kernel.old }
     ensures ok { OnOk result (BootsOn kernel.old kernel.new IsAnywhere two_categories) }
     ensures err { OnErr result (BeginsOn kernel.old kernel.new IsAnywhere two_categories) }
 {
-    make_category(kernel)?;
-    make_category(kernel)?;
+    make_category(alloc, kernel)?;
+    make_category(alloc, kernel)?;
     Ok(())
 }
 
 /// Makes this many pairs of categories.
 fn make_categories<S: LabelStore + Drop>(
+    alloc: Global,
     kernel: &mut Kernel<S>,
     count: usize,
 ) -> Result<(), Stopped>
@@ -86,7 +93,7 @@ fn make_categories<S: LabelStore + Drop>(
     ensures err { OnErr result (BeginsOn kernel.old kernel.new IsAnywhere (categories_part count)) }
 {
     for _ in 0..count {
-        make_two_categories(kernel)?;
+        make_two_categories(alloc, kernel)?;
     }
     Ok(())
 }
@@ -119,7 +126,14 @@ fn make_login_gate<S: LabelStore + Drop>(
 {
     let (given, clearance) = gate_labels(alloc, owners)?;
     let entry = Entry::Login(number);
-    granted(kernel.make_gate(boot_thread(), root_container(), given, clearance, entry))
+    granted(kernel.make_gate(
+        alloc,
+        boot_thread(),
+        root_container(),
+        given,
+        clearance,
+        entry,
+    ))
 }
 
 /// Makes the password and the gate of a user.
@@ -277,7 +291,7 @@ fn make_first_thread<S: LabelStore + Drop>(
         &[(read, Level::Star), (write, Level::Star)],
     )?;
     let clearance = label_of(alloc, Level::L2, &[(read, Level::L3), (write, Level::L3)])?;
-    granted(kernel.make_thread(boot_thread(), internal, own, clearance))
+    granted(kernel.make_thread(alloc, boot_thread(), internal, own, clearance))
 }
 
 /// Makes the process segment of process 0.
@@ -308,8 +322,8 @@ fn make_process<S: LabelStore + Drop>(
     ensures home { IfOk result (IsFirstHome kernel.old) }
     ensures err { OnErr result (BeginsProcess kernel.old kernel.new) }
 {
-    let read = make_category(kernel)?;
-    let write = make_category(kernel)?;
+    let read = make_category(alloc, kernel)?;
+    let write = make_category(alloc, kernel)?;
     let outer = make_outer(alloc, kernel, write)?;
     let internal = make_internal(alloc, kernel, outer, read, write)?;
     let thread = make_first_thread(alloc, kernel, internal, read, write)?;
@@ -349,7 +363,11 @@ fn boot_on<S: LabelStore + Drop>(
     ensures roots { IfOk result (λ roots. roots ≡ roots_of (length accounts.now.users)) }
     ensures err { OnErr result (HasBegunBoot accounts.now kernel.old kernel.new) }
 {
-    make_categories(kernel, 1 + accounts.users().len() + accounts.groups().len())?;
+    make_categories(
+        alloc,
+        kernel,
+        1 + accounts.users().len() + accounts.groups().len(),
+    )?;
     make_users(alloc, kernel, accounts)?;
     let slash = make_directory(alloc, kernel, accounts)?;
     let home = make_process(alloc, kernel)?;

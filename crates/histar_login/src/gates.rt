@@ -56,8 +56,8 @@ fn label_at_both(
         owners.len().saturating_mul(2).saturating_add(2),
     )?;
     for &owner in owners {
-        label.set(read_category(owner), level)?;
-        label.set(write_category(owner), level)?;
+        label.set(alloc, read_category(owner), level)?;
+        label.set(alloc, write_category(owner), level)?;
     }
     Ok(label)
 }

@@ -22,7 +22,7 @@ use std::alloc::{AllocError, Global};
 
 /// Returns the label and the clearance of a process's thread as a user whose gate gives this: it owns what the
 /// gate gives, and the process's own categories.
-fn user_labels(caller: &Caller, given: Given) -> Result<(Label, Label), AllocError>
+fn user_labels(alloc: Global, caller: &Caller, given: Given) -> Result<(Label, Label), AllocError>
     ensures { IfOk result (λ own. (own.0 ≡ user_label caller.now given.entry.owners.now)
         × (own.1 ≡ user_clearance caller.now given.entry.owners.now)) }
 {
@@ -31,19 +31,19 @@ fn user_labels(caller: &Caller, given: Given) -> Result<(Label, Label), AllocErr
         clearance,
         ..
     } = given;
-    let label = with_own(label, Level::Star, caller)?;
-    let clearance = with_own(clearance, Level::L3, caller)?;
+    let label = with_own(alloc, label, Level::Star, caller)?;
+    let clearance = with_own(alloc, clearance, Level::L3, caller)?;
     Ok((label, clearance))
 }
 
 /// Sets one level at both categories of a process. They were made after those of users, so this is quick.
-fn with_own(label: Label, level: Level, caller: &Caller) -> Result<Label, AllocError>
+fn with_own(alloc: Global, label: Label, level: Level, caller: &Caller) -> Result<Label, AllocError>
     ensures { IfOk result (λ made. made ≡
         with_level (with_level label caller.now.read level) caller.now.write level) }
 {
     let mut label = label;
-    label.set(caller.read, level)?;
-    label.set(caller.write, level)?;
+    label.set(alloc, caller.read, level)?;
+    label.set(alloc, caller.write, level)?;
     Ok(label)
 }
 
@@ -56,17 +56,22 @@ fn password_segment(number: u8) -> ObjId
 
 /// Makes the label and the clearance that a thread wants behind the gate of a user: it wants all that it owns
 /// and all that the gate gives.
-fn entry_labels(given: &Given, own: &(Label, Label)) -> Result<(Label, Label), AllocError>
+fn entry_labels(
+    alloc: Global,
+    given: &Given,
+    own: &(Label, Label),
+) -> Result<(Label, Label), AllocError>
     ensures { IfOk result (AreEntryLabels given.now.owners.now own.now) }
 {
-    let wanted = own.0.floor(&given.label)?;
-    let clearance = own.1.join(&given.clearance)?;
+    let wanted = own.0.floor(alloc, &given.label)?;
+    let clearance = own.1.join(alloc, &given.clearance)?;
     Ok((wanted, clearance))
 }
 
 /// Enters the gate of a user with all that the thread owns and all that the gate gives. EACCES where
 /// the gate doesn't let it in.
 fn enter_gate<S: LabelStore + Drop>(
+    alloc: Global,
     kernel: &mut Kernel<S>,
     thread: ObjId,
     number: u8,
@@ -76,19 +81,20 @@ fn enter_gate<S: LabelStore + Drop>(
     ensures { RunsPart (ask (entering given.now.owners.now number own.now.0 own.now.1)) kernel.old
         kernel.new thread result }
 {
-    let (wanted, clearance) = entry_labels(given, own)?;
+    let (wanted, clearance) = entry_labels(alloc, given, own)?;
     let gate = ObjId::new(2 + 2 * u64::from(number));
     let labels = HandedLabels {
         wanted: &wanted,
         clearance: &clearance,
         verify: &own.0,
     };
-    let entry = kernel.enter(thread, ObjId::new(ROOT), gate, labels)?;
+    let entry = kernel.enter(alloc, thread, ObjId::new(ROOT), gate, labels)?;
     Ok(entry)
 }
 
 /// Checks whether this is the password of a user, which is read in place.
 fn ask_password<S: LabelStore + Drop>(
+    alloc: Global,
     kernel: &mut Kernel<S>,
     thread: ObjId,
     number: u8,
@@ -96,13 +102,14 @@ fn ask_password<S: LabelStore + Drop>(
 ) -> Result<bool, CallError>
     ensures { RunsPart (ask_password number password) kernel.old kernel.new thread result }
 {
-    let kept = kernel.read(thread, ObjId::new(ROOT), password_segment(number))?;
+    let kept = kernel.read(alloc, thread, ObjId::new(ROOT), password_segment(number))?;
     Ok(is_password(kept, password))
 }
 
 /// Returns the label and the clearance that a thread takes after entering the gate: the user's where the
 /// password is right, and else its own again.
 fn due_labels(
+    alloc: Global,
     right: bool,
     caller: &Caller,
     given: Given,
@@ -112,13 +119,14 @@ fn due_labels(
         × (due.1 ≡ clearance_if right caller.now given.entry.owners.now own.1)) }
 {
     if right {
-        return user_labels(caller, given);
+        return user_labels(alloc, caller, given);
     }
     Ok(own)
 }
 
 /// Gives the thread the label and the clearance that are expected: the user's, or its own again.
 fn take_due<S: LabelStore + Drop>(
+    alloc: Global,
     kernel: &mut Kernel<S>,
     right: bool,
     caller: &Caller,
@@ -128,9 +136,9 @@ fn take_due<S: LabelStore + Drop>(
     ensures { RunsPart (take_due right caller.now given.entry.owners.now own) kernel.old kernel.new
         caller.now.thread result }
 {
-    let (label, clearance) = due_labels(right, caller, given, own)?;
-    kernel.set_label(caller.thread, label)?;
-    kernel.set_clearance(caller.thread, clearance)?;
+    let (label, clearance) = due_labels(alloc, right, caller, given, own)?;
+    kernel.set_label(alloc, caller.thread, label)?;
+    kernel.set_clearance(alloc, caller.thread, clearance)?;
     Ok(())
 }
 
@@ -170,11 +178,12 @@ pub fn login<S: LabelStore + Drop>(
     };
     let owners = owners_of(alloc, unix.users, number, name)?;
     let given = given_by(alloc, owners.as_slice())?;
-    login_as(kernel, unix.caller, number, given, password)
+    login_as(alloc, kernel, unix.caller, number, given, password)
 }
 
 /// Logs in as the user of this number, whose gate gives this.
 fn login_as<S: LabelStore + Drop>(
+    alloc: Global,
     kernel: &mut Kernel<S>,
     caller: &Caller,
     number: u8,
@@ -185,9 +194,9 @@ fn login_as<S: LabelStore + Drop>(
         caller.now.thread (settled result) }
 {
     let thread = caller.thread;
-    let own = kernel.own_label(thread)?;
-    enter_gate(kernel, thread, number, &given, &own)?;
-    let right = ask_password(kernel, thread, number, password)?;
-    take_due(kernel, right, caller, given, own)?;
+    let own = kernel.own_label(alloc, thread)?;
+    enter_gate(alloc, kernel, thread, number, &given, &own)?;
+    let right = ask_password(alloc, kernel, thread, number, password)?;
+    take_due(alloc, kernel, right, caller, given, own)?;
     Ok(reply_if(right))
 }

@@ -5,6 +5,7 @@ ghost use Rattle.std.specs.FinSet as set;
 ghost use Rattle.histar_object.specs.Links.{AppendsAll};
 
 use crate::ids::ObjId;
+use histar_heap::Heap;
 use std::alloc::{AllocError, Global};
 use std::collections::BTreeSet;
 use std::marker::Model;
@@ -59,21 +60,23 @@ impl Links {
     }
 
     /// Links one more object.
-    pub fn insert(&mut self, object: ObjId) -> Result<(), AllocError>
+    pub fn insert<H: Heap>(&mut self, heap: H, object: ObjId) -> Result<(), AllocError>
         ensures ok { OnOk result (self.new ≡ set.insert self.old object) }
         ensures err { OnErr result (self.new ≡ self.old) }
+        ensures memory { OnErr result H.Refused }
     {
-        self.numbers.insert(object.number())?;
+        heap.insert(&mut self.numbers, object.number())?;
         self.newest = self.newest.max(object.number());
         Ok(())
     }
 
     /// Appends each linked object to a list, once. Where memory runs out the list may have grown.
-    pub fn append_to(&self, list: &mut Vec<ObjId>) -> Result<(), AllocError>
-        ensures { OnOk result (AppendsAll self.now list.old.items list.new.items) }
+    pub fn append_to<H: Heap>(&self, heap: H, list: &mut Vec<ObjId>) -> Result<(), AllocError>
+        ensures ok { OnOk result (AppendsAll self.now list.old.items list.new.items) }
+        ensures memory { OnErr result H.Refused }
     {
         for number in &self.numbers {
-            list.push(ObjId::new(*number))?;
+            heap.push(list, ObjId::new(*number))?;
         }
         Ok(())
     }

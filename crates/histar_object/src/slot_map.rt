@@ -1,10 +1,11 @@
 //! The slots of numbers.
-ghost use Rattle.std.specs.Prelude.{◌≡◌, ◌<◌, ℕ, None, Some, IfNone, IsOk, OnOk, nat_eq, cond, [], max, vec_len, vec_capacity};
+ghost use Rattle.std.specs.Prelude.{◌≡◌, ◌<◌, ℕ, None, Some, IfNone, IsOk, OnOk, OnErr, nat_eq, cond, [], max, vec_len, vec_capacity};
 ghost use Rattle.std.specs.List.{IsDistinct};
 ghost use Rattle.std.specs.Map.{keys_of, lookup};
 ghost use Rattle.histar_object.specs.Slots.{in_place};
 
 use crate::ids::ObjId;
+use histar_heap::Heap;
 use std::alloc::{AllocError, Global};
 use std::collections::HashMap;
 use std::marker::Model;
@@ -59,15 +60,16 @@ impl SlotMap {
     }
 
     /// Makes room for one more number. No slot changes, whether or not there is memory.
-    pub(crate) fn reserve(&mut self) -> Result<(), AllocError>
+    pub(crate) fn reserve<H: Heap>(&mut self, heap: H) -> Result<(), AllocError>
         ensures room { OnOk result (0 < self.new.room) }
         ensures succeeds { 0 < self.old.room → IsOk result }
         ensures once { IsDistinct nat_eq (keys_of self.new.entries) }
         ensures slots { (q : ℕ) → lookup (nat_eq q) self.new.entries
             ≡ lookup (nat_eq q) self.old.entries }
+        ensures memory { OnErr result H.Refused }
     {
-        self.others.reserve(1)?;
-        reserve_place(&mut self.listed)
+        heap.reserve_map(&mut self.others)?;
+        reserve_place(heap, &mut self.listed)
     }
 
     /// Gives a slot to a number that has none. There is room for it, so it needs no memory.
@@ -123,13 +125,14 @@ fn place(listed: &[Option<usize>], id: ObjId) -> Option<usize>
 }
 
 // Makes room for one more place, after that of 0, which is never an object.
-fn reserve_place(listed: &mut Vec<Option<usize>>) -> Result<(), AllocError>
+fn reserve_place<H: Heap>(heap: H, listed: &mut Vec<Option<usize>>) -> Result<(), AllocError>
     ensures room { OnOk result (max 1 (vec_len listed.new) < vec_capacity listed.new) }
     ensures succeeds { max 1 (vec_len listed.old) < vec_capacity listed.old → IsOk result }
     ensures slots { (q : ℕ) → in_place listed.new.items q ≡ in_place listed.old.items q }
+    ensures memory { OnErr result H.Refused }
 {
     if listed.is_empty() {
-        listed.push(None)?;
+        heap.push(listed, None)?;
     }
-    listed.reserve(1)
+    heap.reserve(listed)
 }

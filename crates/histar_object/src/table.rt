@@ -6,6 +6,7 @@ ghost use Rattle.histar_object.specs.Objects.{objects_of, slot_of, HasRoom, put,
 use crate::ids::ObjId;
 use crate::objects::{Kind, Object};
 use crate::slot_map::SlotMap;
+use histar_heap::Heap;
 use slab::Slab;
 use std::alloc::{AllocError, Global};
 use std::marker::Model;
@@ -79,14 +80,15 @@ impl<L> Table<L> {
     }
 
     /// Makes room for one more object. Objects and slots stay, whether or not there is memory.
-    pub fn reserve(&mut self) -> Result<(), AllocError>
+    pub fn reserve<H: Heap>(&mut self, heap: H) -> Result<(), AllocError>
         ensures room { OnOk result (HasRoom self.new) }
         ensures succeeds { HasRoom self.old → IsOk result }
         ensures objects { objects_of self.new ≡ objects_of self.old }
         ensures slots { slot_of self.new ≡ slot_of self.old }
+        ensures memory { OnErr result H.Refused }
     {
-        self.objects.reserve(1)?;
-        self.slots.reserve()
+        heap.reserve_slab(&mut self.objects)?;
+        self.slots.reserve(heap)
     }
 
     /// Adds an object under a number that has none. There is room for it, so it needs no memory.
@@ -101,15 +103,16 @@ impl<L> Table<L> {
     }
 
     /// Adds an object under a number that has none. Where memory runs out the object is dropped.
-    pub fn add(&mut self, id: ObjId, object: Object<L>) -> Result<(), AllocError>
+    pub fn add<H: Heap>(&mut self, heap: H, id: ObjId, object: Object<L>) -> Result<(), AllocError>
     where
         L: Drop,
         requires { objects_of self.old id ≡ None }
         ensures ok { OnOk result (objects_of self.new ≡ put (objects_of self.old) id object) }
         ensures err { OnErr result (objects_of self.new ≡ objects_of self.old) }
         ensures slots { (q : ℕ) → q ≢ id → slot_of self.new q ≡ slot_of self.old q }
+        ensures memory { OnErr result H.Refused }
     {
-        self.reserve()?;
+        self.reserve(heap)?;
         self.add_reserved(id, object);
         Ok(())
     }

@@ -73,7 +73,7 @@ pub fn give_birth<S: LabelStore + Drop>(
         kernel.old kernel.new thread result }
 {
     let Inherited { owned, jobs } = *inherited;
-    let (read, write) = make_categories(kernel, thread)?;
+    let (read, write) = make_categories(alloc, kernel, thread)?;
     let newborn = Newborn {
         read,
         write,
@@ -123,13 +123,14 @@ fn make_body<S: LabelStore + Drop>(
 
 /// Makes the two categories of a child.
 fn make_categories<S: LabelStore + Drop>(
+    alloc: Global,
     kernel: &mut Kernel<S>,
     thread: ObjId,
 ) -> Result<(Category, Category), CallError>
     ensures { RunsPart make_categories kernel.old kernel.new thread result }
 {
-    let read = kernel.make_category(thread)?;
-    let write = kernel.make_category(thread)?;
+    let read = kernel.make_category(alloc, thread)?;
+    let write = kernel.make_category(alloc, thread)?;
     Ok((read, write))
 }
 
@@ -190,9 +191,9 @@ fn guarding_label(alloc: Global, guard: &Guard) -> Result<Label, AllocError>
     let Guard { own, jobs, write } = *guard;
     let room = own.len().saturating_add(jobs.len()).saturating_add(1);
     let mut label = Label::with_room(alloc, Level::L1, room)?;
-    set_each(&mut label, Level::L3, own)?;
-    set_each(&mut label, Level::L3, jobs)?;
-    label.set(write, Level::L0)?;
+    set_each(alloc, &mut label, Level::L3, own)?;
+    set_each(alloc, &mut label, Level::L3, jobs)?;
+    label.set(alloc, write, Level::L0)?;
     Ok(label)
 }
 
@@ -209,7 +210,7 @@ fn make_thread<S: LabelStore + Drop>(
         kernel.old kernel.new thread result }
 {
     let (label, clearance) = thread_labels(alloc, newborn)?;
-    let made = kernel.make_thread(thread, internal, label, clearance)?;
+    let made = kernel.make_thread(alloc, thread, internal, label, clearance)?;
     Ok(made)
 }
 
@@ -245,10 +246,10 @@ fn label_at(
     } = *newborn;
     let room = owned.len().saturating_add(jobs.len()).saturating_add(2);
     let mut label = Label::with_room(alloc, default, room)?;
-    set_each(&mut label, level, owned)?;
-    label.set(read, level)?;
-    label.set(write, level)?;
-    set_each(&mut label, Level::L3, jobs)?;
+    set_each(alloc, &mut label, level, owned)?;
+    label.set(alloc, read, level)?;
+    label.set(alloc, write, level)?;
+    set_each(alloc, &mut label, Level::L3, jobs)?;
     Ok(label)
 }
 

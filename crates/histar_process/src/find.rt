@@ -54,13 +54,14 @@ pub fn must_be_there(child: Option<Child>) -> Result<Child, Errno>
 /// Reads the head of a process segment in place: EACCES where the kernel doesn't let the thread observe
 /// it, ESRCH where its bytes are no process.
 pub fn read_head<S: LabelStore + Drop>(
+    alloc: Global,
     kernel: &mut Kernel<S>,
     thread: ObjId,
     home: &Home,
 ) -> Result<StatusHead, CallError>
     ensures { RunsPart (read_head home.now) kernel.old kernel.new thread result }
 {
-    let bytes = kernel.read(thread, home.container, home.segment)?;
+    let bytes = kernel.read(alloc, thread, home.container, home.segment)?;
     let Some(head) = read_status(bytes) else {
         return Err(CallError::Refused(Errno::ESRCH));
     };
@@ -100,6 +101,7 @@ pub fn write_segment<S: LabelStore + Drop>(
 /// Looks up the child of this number in a process segment, which is read in place: EACCES where the kernel
 /// doesn't let the thread observe it.
 fn look_up<S: LabelStore + Drop>(
+    alloc: Global,
     kernel: &mut Kernel<S>,
     thread: ObjId,
     home: &Home,
@@ -107,7 +109,7 @@ fn look_up<S: LabelStore + Drop>(
 ) -> Result<Option<Child>, CallError>
     ensures { RunsPart (look_up home.now number) kernel.old kernel.new thread result }
 {
-    let bytes = kernel.read(thread, home.container, home.segment)?;
+    let bytes = kernel.read(alloc, thread, home.container, home.segment)?;
     let child = find_child(bytes, number)?;
     Ok(child)
 }
@@ -116,6 +118,7 @@ fn look_up<S: LabelStore + Drop>(
 /// process above it is read in place. EACCES where one may not be observed, ESRCH where it doesn't list
 /// the next number.
 pub fn find_home<S: LabelStore + Drop>(
+    alloc: Global,
     kernel: &mut Kernel<S>,
     first: Home,
     thread: ObjId,
@@ -126,8 +129,8 @@ pub fn find_home<S: LabelStore + Drop>(
     let [number, above @ ..] = numbers else {
         return Ok(first);
     };
-    let home = find_home(kernel, first, thread, above)?;
-    let found = look_up(kernel, thread, &home, *number)?;
+    let home = find_home(alloc, kernel, first, thread, above)?;
+    let found = look_up(alloc, kernel, thread, &home, *number)?;
     let child = must_be_there(found)?;
     Ok(home_of(child))
 }

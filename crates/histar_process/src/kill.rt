@@ -44,7 +44,7 @@ fn kill_first<S: LabelStore + Drop>(
         unix.now.caller.now.thread (settled result) }
 {
     let (home, thread) = (&unix.roots.home, unix.caller.thread);
-    read_head(kernel, thread, home)?;
+    read_head(alloc, kernel, thread, home)?;
     kernel.unlink(alloc, thread, ObjId::new(ROOT), home.container)?;
     Ok(Reply::Done)
 }
@@ -61,7 +61,7 @@ fn kill_child<S: LabelStore + Drop>(
         unix.now.caller.now.thread (settled result) }
 {
     let thread = unix.caller.thread;
-    let home = find_home(kernel, unix.roots.home, thread, above)?;
+    let home = find_home(alloc, kernel, unix.roots.home, thread, above)?;
     let Segment { bytes, .. } = read_segment(alloc, kernel, thread, &home)?;
     let parent = Parent {
         home: &home,
@@ -85,7 +85,7 @@ fn kill_known<S: LabelStore + Drop>(
     let found = find_child(bytes, number)?;
     let child = must_be_there(found)?;
     let its = home_of(child);
-    read_head(kernel, thread, &its)?;
+    read_head(alloc, kernel, thread, &its)?;
     let without = remove_child(alloc, bytes, number)?;
     kernel.unlink(alloc, thread, home.container, its.container)?;
     write_segment(alloc, kernel, thread, home, without)

@@ -52,9 +52,9 @@ fn make_child<S: LabelStore + Drop>(
         unix.now.caller.now.thread result }
 {
     let thread = unix.caller.thread;
-    let (own, clearance) = kernel.own_label(thread)?;
+    let (own, clearance) = kernel.own_label(alloc, thread)?;
     bear_child(alloc, kernel, unix, bytes, &own)?;
-    take_labels(kernel, thread, own, clearance)
+    take_labels(alloc, kernel, thread, own, clearance)
 }
 
 /// Makes a child of a caller whose segment has these bytes and whose thread has this label: its
@@ -86,6 +86,7 @@ fn bear_child<S: LabelStore + Drop>(
 
 /// Gives a thread a label and a clearance.
 fn take_labels<S: LabelStore + Drop>(
+    alloc: Global,
     kernel: &mut Kernel<S>,
     thread: ObjId,
     own: Label,
@@ -93,8 +94,8 @@ fn take_labels<S: LabelStore + Drop>(
 ) -> Result<(), CallError>
     ensures { RunsPart (take_labels (own, clearance)) kernel.old kernel.new thread result }
 {
-    kernel.set_label(thread, own)?;
-    kernel.set_clearance(thread, clearance)?;
+    kernel.set_label(alloc, thread, own)?;
+    kernel.set_clearance(alloc, thread, clearance)?;
     Ok(())
 }
 

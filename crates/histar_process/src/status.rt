@@ -9,10 +9,12 @@ use histar_flat::{ProcName, Reply};
 use histar_label::LabelStore;
 use histar_programs::{CallError, Unix};
 use histar_syscall::Kernel;
+use std::alloc::Global;
 
 /// Answers whether a process runs, or what it has exited with. EACCES where the kernel doesn't let the thread
 /// observe its segment or one above it, ESRCH where it was not born or was killed.
 pub fn status<S: LabelStore + Drop>(
+    alloc: Global,
     kernel: &mut Kernel<S>,
     unix: &Unix,
     name: &ProcName,
@@ -21,8 +23,8 @@ pub fn status<S: LabelStore + Drop>(
         unix.now.caller.now.thread (settled result) }
 {
     let thread = unix.caller.thread;
-    let home = find_home(kernel, unix.roots.home, thread, name.numbers())?;
-    let head = read_head(kernel, thread, &home)?;
+    let home = find_home(alloc, kernel, unix.roots.home, thread, name.numbers())?;
+    let head = read_head(alloc, kernel, thread, &home)?;
     Ok(status_reply(head.exited))
 }
 

@@ -103,6 +103,7 @@ pub fn file_at(target: Option<Target>) -> Result<ObjId, Errno>
 /// Looks up where a name leads in a directory. Its segment is read in place, as far as needed. EACCES where
 /// the kernel doesn't let the thread observe it.
 pub fn look_in<S: LabelStore + Drop>(
+    alloc: Global,
     kernel: &mut Kernel<S>,
     thread: ObjId,
     place: Place,
@@ -110,7 +111,7 @@ pub fn look_in<S: LabelStore + Drop>(
 ) -> Result<Option<Target>, CallError>
     ensures { RunsPart (look_in place name.now) kernel.old kernel.new thread result }
 {
-    let bytes = kernel.read(thread, place.container, place.listing)?;
+    let bytes = kernel.read(alloc, thread, place.container, place.listing)?;
     Ok(look_up(bytes, name))
 }
 
@@ -133,6 +134,7 @@ pub fn write_entries<S: LabelStore + Drop>(
 /// to it is read in place. EACCES where one may not be observed, ENOENT where a name is not there, ENOTDIR
 /// where it leads to a file.
 pub fn find_place<S: LabelStore + Drop>(
+    alloc: Global,
     kernel: &mut Kernel<S>,
     roots: &Roots,
     thread: ObjId,
@@ -143,8 +145,8 @@ pub fn find_place<S: LabelStore + Drop>(
     let [name, parent @ ..] = names else {
         return Ok(roots.slash);
     };
-    let above = find_place(kernel, roots, thread, parent)?;
-    let target = look_in(kernel, thread, above, name)?;
+    let above = find_place(alloc, kernel, roots, thread, parent)?;
+    let target = look_in(alloc, kernel, thread, above, name)?;
     let place = directory_at(target)?;
     Ok(place)
 }
@@ -160,6 +162,6 @@ pub fn walk<S: LabelStore + Drop>(
 ) -> Result<Directory, CallError>
     ensures { RunsPart (walk_to roots.now names.now) kernel.old kernel.new thread result }
 {
-    let place = find_place(kernel, roots, thread, names)?;
+    let place = find_place(alloc, kernel, roots, thread, names)?;
     Directory::read(alloc, kernel, thread, place)
 }

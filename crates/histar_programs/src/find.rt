@@ -35,6 +35,7 @@ pub struct Room {
 /// Finds the file of a path: EISDIR where the path is `/` or leads to a directory, ENOENT where nothing
 /// is there, and the errno of the walk where that is refused.
 pub fn find_file<S: LabelStore + Drop>(
+    alloc: Global,
     kernel: &mut Kernel<S>,
     roots: &Roots,
     thread: ObjId,
@@ -45,9 +46,9 @@ pub fn find_file<S: LabelStore + Drop>(
     let [name, parent @ ..] = path else {
         return Err(CallError::Refused(Errno::EISDIR));
     };
-    let place = find_place(kernel, roots, thread, parent)?;
+    let place = find_place(alloc, kernel, roots, thread, parent)?;
     let container = place.container;
-    let target = look_in(kernel, thread, place, name)?;
+    let target = look_in(alloc, kernel, thread, place, name)?;
     let segment = file_at(target)?;
     Ok(FoundFile { container, segment })
 }

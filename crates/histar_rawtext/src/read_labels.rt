@@ -71,7 +71,7 @@ fn read_label(alloc: Global, word: &[u8]) -> Result<Label, Unread>
     let mut label = Label::new(alloc, read_level(default)?);
     while let Some(part) = parts.pop() {
         let (category, level) = read_exception(part)?;
-        label.set(category, level)?;
+        label.set(alloc, category, level)?;
     }
     Ok(label)
 }

@@ -11,3 +11,4 @@ pub use Rattle.histar_object.specs.Objects
 pub use Rattle.histar_object.specs.State
 pub use Rattle.histar_container.specs.ObjectsModel
 pub use Rattle.histar_container.specs.Tree
+pub mod Memory

@@ -11,6 +11,7 @@ ghost use Rattle.histar_rules.specs.Rights.{lies_between};
 ghost use Rattle.histar_rules.specs.Rules.{check, FailsAt, FailsAtUnlessExhausted};
 ghost use Rattle.histar_rules.specs.declared.raw.RawCall.TheVariants as calls;
 ghost use Rattle.histar_rules.specs.declared.raw.Denied.TheVariants.{BadKind, Gate};
+ghost use Rattle.histar_rules.specs.Memory.{OnOutOfMemory};
 
 use crate::access::Access;
 use crate::checks::require;
@@ -19,6 +20,7 @@ use crate::limits::Next;
 use crate::lookup::linked_in;
 use crate::own::{give_own, is_known, put_copy};
 use crate::raw::{Denied, Refusal};
+use histar_heap::Heap;
 use histar_label::{Label, LabelStore};
 use histar_object::{Entry, Kind, ObjId, Table};
 
@@ -186,7 +188,8 @@ fn check_enter_in<S: LabelStore>(
 }
 
 /// Lets a thread enter a gate with these labels, if it may, and returns what the gate gives.
-pub(crate) fn enter_in<S: LabelStore>(
+pub(crate) fn enter_in<H: Heap, S: LabelStore>(
+    heap: H,
     store: &mut S,
     table: &mut Table<S::Id>,
     next: Next,
@@ -205,9 +208,10 @@ pub(crate) fn enter_in<S: LabelStore>(
         (thread_of labels.entry.wanted.now labels.entry.clearance.now)) }
     ensures err { OnErr result (objects_shown (S.labels store.new) table.new
         ≡ objects_shown (S.labels store.old) table.old) }
+    ensures memory { OnOutOfMemory result H.Refused }
 {
-    let clearance = put_copy(store, labels.clearance)?;
-    let label = put_copy(store, labels.wanted)?;
+    let clearance = put_copy(heap, store, labels.clearance)?;
+    let label = put_copy(heap, store, labels.wanted)?;
     let wanted = Wanted {
         label,
         clearance,

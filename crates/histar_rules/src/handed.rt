@@ -1,8 +1,9 @@
 //! The labels that raw calls are given.
-ghost use Rattle.std.specs.Prelude.{◌≡◌, IfOk};
+ghost use Rattle.std.specs.Prelude.{OnErr, ◌≡◌, IfOk};
 
+use histar_heap::Heap;
 use histar_label::Label;
-use std::alloc::{AllocError, Global};
+use std::alloc::AllocError;
 use std::marker::Model;
 
 /// A label that a raw call as data is given. It lies on the heap, so that a list of calls stays small: most raw
@@ -25,11 +26,12 @@ impl Model for HandedLabel {
 
 impl HandedLabel {
     /// Keeps a label on the heap.
-    pub fn new(alloc: Global, label: Label) -> Result<HandedLabel, AllocError>
-        ensures { IfOk result (λ handed. handed ≡ label) }
+    pub fn new<H: Heap>(heap: H, label: Label) -> Result<HandedLabel, AllocError>
+        ensures ok { IfOk result (λ handed. handed ≡ label) }
+        ensures memory { OnErr result H.Refused }
     {
         Ok(HandedLabel {
-            label: Box::new(alloc, label)?,
+            label: heap.boxed(label)?,
         })
     }
 

@@ -1,11 +1,12 @@
 //! The move of a kernel's objects to a new store, which has only the labels that they use.
-ghost use Rattle.std.specs.Prelude.{◌≡◌, ◌≢◌, ◌≤◌, ℕ, Some, IsSome, IfOk, OnOk};
+ghost use Rattle.std.specs.Prelude.{OnErr, ◌≡◌, ◌≢◌, ◌≤◌, ℕ, Some, IsSome, IfOk, OnOk};
 ghost use Rattle.histar_label.specs.Store.{label_at, Keeps};
 ghost use Rattle.histar_object.specs.declared.objects.Object.{Object as ObjectOf};
 ghost use Rattle.histar_object.specs.Objects.{objects_of, kind_clearance};
 ghost use Rattle.histar_container.specs.Shown.{objects_shown, kind_by, AllStand, KindStands, Stands, IsUnusedFrom};
 ghost use Rattle.histar_rules.specs.InUse.{IsIn, HasLabelsIn, HaveLabelsIn, IsMoved};
 
+use histar_heap::Heap;
 use histar_label::LabelStore;
 use histar_object::{Kind, ObjId, Object, Table};
 use std::alloc::AllocError;
@@ -18,7 +19,8 @@ pub(crate) const LEAST_WEIGHT: usize = 131_072;
 ///
 /// All labels are put into the new store before the first object changes. The next limit grows with what a
 /// move costs, so that the moves cost no more than the puts between them.
-pub(crate) fn forget_unused_in<S: LabelStore + Drop>(
+pub(crate) fn forget_unused_in<H: Heap, S: LabelStore + Drop>(
+    heap: H,
     store: &mut S,
     table: &mut Table<S::Id>,
     next_object: u64,
@@ -32,7 +34,7 @@ pub(crate) fn forget_unused_in<S: LabelStore + Drop>(
     if store.weight() <= limit {
         return limit;
     }
-    let Ok((fresh, looked_at)) = labels_in_use(store, table, next_object) else {
+    let Ok((fresh, looked_at)) = labels_in_use(heap, store, table, next_object) else {
         return limit.saturating_mul(2);
     };
     give_ids(store, &fresh, table, next_object);
@@ -53,26 +55,29 @@ fn next_limit(weight: usize, looked_at: usize, next_object: u64) -> usize
 }
 
 // Makes a store of the labels of all objects below a number, and counts the exceptions that it looked at.
-fn labels_in_use<S: LabelStore + Drop>(
+fn labels_in_use<H: Heap, S: LabelStore + Drop>(
+    heap: H,
     store: &S,
     table: &Table<S::Id>,
     next_object: u64,
 ) -> Result<(S, usize), AllocError>
     requires { AllStand (S.labels store.now) (objects_of table.now) }
-    ensures { IfOk result (λ made. HaveLabelsIn (S.labels store.now) (S.labels made.0)
+    ensures ok { IfOk result (λ made. HaveLabelsIn (S.labels store.now) (S.labels made.0)
         (objects_of table.now) next_object) }
+    ensures memory { OnErr result H.Refused }
 {
-    let mut fresh = store.emptied()?;
+    let mut fresh = store.emptied(heap)?;
     let mut looked_at: usize = 0;
     'objects: for number in 0..next_object {
-        let exceptions = put_labels_at(store, table, ObjId::new(number), &mut fresh)?;
+        let exceptions = put_labels_at(heap, store, table, ObjId::new(number), &mut fresh)?;
         looked_at = looked_at.saturating_add(exceptions);
     }
     Ok((fresh, looked_at))
 }
 
 // Puts the label and the clearance of the object of this number into a new store, and counts their exceptions.
-fn put_labels_at<S: LabelStore>(
+fn put_labels_at<H: Heap, S: LabelStore>(
+    heap: H,
     store: &S,
     table: &Table<S::Id>,
     number: ObjId,
@@ -82,17 +87,19 @@ fn put_labels_at<S: LabelStore>(
     ensures has { OnOk result ((o : ObjectOf S.Id) → objects_of table.now number ≡ Some o
         → HasLabelsIn (S.labels store.now) (S.labels fresh.new) o) }
     ensures keeps { Keeps (S.labels fresh.old) (S.labels fresh.new) }
+    ensures memory { OnErr result H.Refused }
 {
     let Some(object) = table.get(number) else {
         return Ok(0);
     };
-    let own = put_label(store, object.label, fresh)?;
-    let clearance = put_clearance(store, &object.kind, fresh)?;
+    let own = put_label(heap, store, object.label, fresh)?;
+    let clearance = put_clearance(heap, store, &object.kind, fresh)?;
     Ok(own.saturating_add(clearance))
 }
 
 // Puts the clearance of a kind into a new store, if it has one, and counts its exceptions.
-fn put_clearance<S: LabelStore>(
+fn put_clearance<H: Heap, S: LabelStore>(
+    heap: H,
     store: &S,
     kind: &Kind<S::Id>,
     fresh: &mut S,
@@ -101,23 +108,30 @@ fn put_clearance<S: LabelStore>(
     ensures has { OnOk result ((id : S.Id) → kind_clearance kind.now ≡ Some id
         → IsIn (S.labels store.now) (S.labels fresh.new) id) }
     ensures keeps { Keeps (S.labels fresh.old) (S.labels fresh.new) }
+    ensures memory { OnErr result H.Refused }
 {
     match kind {
-        Kind::Thread(clearance) => put_label(store, *clearance, fresh),
-        Kind::Gate(clearance, _) => put_label(store, *clearance, fresh),
+        Kind::Thread(clearance) => put_label(heap, store, *clearance, fresh),
+        Kind::Gate(clearance, _) => put_label(heap, store, *clearance, fresh),
         _ => Ok(0),
     }
 }
 
 // Puts the label of an Id into a new store, unless it is there, and counts its exceptions.
-fn put_label<S: LabelStore>(store: &S, id: S::Id, fresh: &mut S) -> Result<usize, AllocError>
+fn put_label<H: Heap, S: LabelStore>(
+    heap: H,
+    store: &S,
+    id: S::Id,
+    fresh: &mut S,
+) -> Result<usize, AllocError>
     requires { IsSome (S.labels store.now id) }
     ensures has { OnOk result (IsIn (S.labels store.now) (S.labels fresh.new) id) }
     ensures keeps { Keeps (S.labels fresh.old) (S.labels fresh.new) }
+    ensures memory { OnErr result H.Refused }
 {
     let label = store.get(id).unwrap();
     if fresh.find(label).is_none() {
-        fresh.put(label.copy()?)?;
+        fresh.put(heap, label.copy(heap)?)?;
     }
     Ok(label.exceptions().len())
 }

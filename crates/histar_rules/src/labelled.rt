@@ -18,6 +18,7 @@ ghost use Rattle.histar_rules.specs.Sound.{root_number};
 ghost use Rattle.histar_rules.specs.Rules.{check, greatest, no_new, no_new_owner, FailsAt, FailsAtUnlessExhausted, Decides};
 ghost use Rattle.histar_rules.specs.RawAnswers.{IsAnswer};
 ghost use Rattle.histar_rules.specs.declared.raw.RawCall.TheVariants as calls;
+ghost use Rattle.histar_rules.specs.Memory.{OnOutOfMemory};
 
 use crate::access::{Access, Maker};
 use crate::entering::enter_in;
@@ -32,6 +33,7 @@ use crate::ranges::{check_new, check_new_owner};
 use crate::raw::{Denied, Refusal};
 use histar_base::Bytes;
 use histar_container::{link_new, linked, remove_tree};
+use histar_heap::{Heap, MOST_ROOM};
 use histar_label::{Label, LabelStore};
 use histar_object::{Entry, Kind, ObjId, Object, Table};
 use std::alloc::{AllocError, Global};
@@ -87,15 +89,22 @@ impl<S: LabelStore + Drop> LabelledObjects<S> {
     }
 
     /// Adds an object that no container links, the root container, under the next number.
-    pub fn push(&mut self, label: Label, kind: Kind<Label>) -> Result<(), AllocError>
+    pub fn push<H: Heap>(
+        &mut self,
+        heap: H,
+        label: Label,
+        kind: Kind<Label>,
+    ) -> Result<(), AllocError>
         requires { self.old.next_object < greatest }
         ensures ok { OnOk result (state_of self.new
             ≡ with_next (state_of self.old) (record { label = label; kind = kind })) }
         ensures counted { OnOk result (self.new.next_object ≡ self.old.next_object + 1) }
         ensures err { OnErr result (state_of self.new ≡ state_of self.old) }
+        ensures memory { OnErr result H.Refused }
     {
         let number = ObjId::new(self.next_object);
         push_in(
+            heap,
             &mut self.store,
             &mut self.table,
             number,
@@ -275,15 +284,16 @@ impl<S: LabelStore + Drop> LabelledObjects<S> {
     }
 
     /// Checks that a segment may be read, and returns a copy of its bytes.
-    pub fn read(&mut self, alloc: Global, access: &Access) -> Result<Bytes, Refusal>
+    pub fn read<H: Heap>(&mut self, heap: H, access: &Access) -> Result<Bytes, Refusal>
         ensures answer { FailsAtUnlessExhausted (check (state_of self.old) access.now.thread
             (calls.Read access.now.container access.now.object)) result }
         ensures bytes { IfOk result (IsAnswer (state_of self.old) access.now.thread
             (calls.Read access.now.container access.now.object)) }
         ensures unchanged { self.new ≡ self.old }
+        ensures memory { OnOutOfMemory result H.Refused }
     {
         let bytes = read_in(&mut self.store, &self.table, access)?;
-        Ok(bytes.copy(alloc)?)
+        Ok(bytes.copy(heap)?)
     }
 
     /// Checks that a segment may be written.
@@ -305,20 +315,22 @@ impl<S: LabelStore + Drop> LabelledObjects<S> {
     }
 
     /// Checks that the label of an object that a container links may be asked for, and returns a copy of it.
-    pub fn label_of(&mut self, access: &Access) -> Result<Label, Refusal>
+    pub fn label_of<H: Heap>(&mut self, heap: H, access: &Access) -> Result<Label, Refusal>
         requires { AreTree (objects_of self.old.objects) }
-        ensures { Decides self.old self.new access.now.thread
+        ensures ok { Decides self.old self.new access.now.thread
             (calls.LabelOf access.now.container access.now.object) result }
+        ensures memory { OnOutOfMemory result H.Refused }
     {
         let Some(label) = label_in(&mut self.store, &self.table, access)? else {
             return Err(Refusal::Denied(Denied::NoEntry));
         };
-        Ok(self.store.get(label).unwrap().copy()?)
+        Ok(self.store.get(label).unwrap().copy(heap)?)
     }
 
     /// Adds an object under the next number, and links it in a container.
-    pub fn add(
+    pub fn add<H: Heap>(
         &mut self,
+        heap: H,
         container: ObjId,
         label: Label,
         kind: Kind<Label>,
@@ -327,19 +339,27 @@ impl<S: LabelStore + Drop> LabelledObjects<S> {
         ensures ok { OnOk result (state_of self.new
             ≡ with_object (state_of self.old) container (record { label = label; kind = kind })) }
         ensures err { OnErr result (state_of self.new ≡ state_of self.old) }
+        ensures memory { OnErr result H.Refused }
     {
-        self.forget_unused_labels();
+        self.forget_unused_labels(heap);
         let number = ObjId::new(self.next_object);
         let object = Object { label, kind };
-        add_in(&mut self.store, &mut self.table, container, number, object)?;
+        add_in(
+            heap,
+            &mut self.store,
+            &mut self.table,
+            container,
+            number,
+            object,
+        )?;
         self.next_object += 1;
         Ok(())
     }
 
     /// Unlinks an object from a container, and removes it with all that is reached from it.
-    pub fn remove(
+    pub fn remove<H: Heap>(
         &mut self,
-        alloc: Global,
+        heap: H,
         container: ObjId,
         object: ObjId,
     ) -> Result<(), AllocError>
@@ -347,41 +367,66 @@ impl<S: LabelStore + Drop> LabelledObjects<S> {
         requires linked { IsTrue (set.contains (links_in (objects_of self.old.objects container)) object) }
         ensures ok { OnOk result (CutsOff (state_of self.old) container object (state_of self.new)) }
         ensures err { OnErr result (state_of self.new ≡ state_of self.old) }
+        ensures memory { OnErr result H.Refused }
     {
-        remove_tree(alloc, &mut self.table, container, object)
+        remove_tree(heap, &mut self.table, container, object)
     }
 
     /// Gives a thread another label, which lies between its own label and its clearance. A label that the
     /// store has is not copied.
-    pub fn set_label(&mut self, thread: ObjId, label: &Label) -> Result<(), Refusal>
+    pub fn set_label<H: Heap>(
+        &mut self,
+        heap: H,
+        thread: ObjId,
+        label: &Label,
+    ) -> Result<(), Refusal>
         ensures answer { FailsAtUnlessExhausted
             (check (state_of self.old) thread (calls.SetLabel label.now)) result }
         ensures ok { OnOk result (state_of self.new
             ≡ with_changed (state_of self.old) thread (with_label label.now)) }
         ensures err { OnErr result (state_of self.new ≡ state_of self.old) }
+        ensures memory { OnOutOfMemory result H.Refused }
     {
-        self.forget_unused_labels();
+        self.forget_unused_labels(heap);
         let next = self.next();
-        set_label_in(&mut self.store, &mut self.table, next, thread, label)
+        set_label_in(heap, &mut self.store, &mut self.table, next, thread, label)
     }
 
     /// Gives a thread another clearance, which is above its own label, and exceeds its old clearance only
     /// where the thread owns. A label that the store has is not copied.
-    pub fn set_clearance(&mut self, thread: ObjId, clearance: &Label) -> Result<(), Refusal>
+    pub fn set_clearance<H: Heap>(
+        &mut self,
+        heap: H,
+        thread: ObjId,
+        clearance: &Label,
+    ) -> Result<(), Refusal>
         ensures answer { FailsAtUnlessExhausted
             (check (state_of self.old) thread (calls.SetClearance clearance.now)) result }
         ensures ok { OnOk result (state_of self.new
             ≡ with_changed (state_of self.old) thread (with_clearance clearance.now)) }
         ensures err { OnErr result (state_of self.new ≡ state_of self.old) }
+        ensures memory { OnOutOfMemory result H.Refused }
     {
-        self.forget_unused_labels();
+        self.forget_unused_labels(heap);
         let next = self.next();
-        set_clearance_in(&mut self.store, &mut self.table, next, thread, clearance)
+        set_clearance_in(
+            heap,
+            &mut self.store,
+            &mut self.table,
+            next,
+            thread,
+            clearance,
+        )
     }
 
     /// Lets a thread enter a gate with these labels, within what the gate and its own labels allow, and
     /// returns what the gate gives. Labels that the store has are not copied.
-    pub fn enter(&mut self, access: &Access, labels: HandedLabels) -> Result<Entry, Refusal>
+    pub fn enter<H: Heap>(
+        &mut self,
+        heap: H,
+        access: &Access,
+        labels: HandedLabels,
+    ) -> Result<Entry, Refusal>
         ensures answer { FailsAtUnlessExhausted (check (state_of self.old) access.now.thread
             (calls.Enter access.now.container access.now.object
             labels.entry.wanted.now labels.entry.clearance.now labels.entry.verify.now)) result }
@@ -391,15 +436,17 @@ impl<S: LabelStore + Drop> LabelledObjects<S> {
         ensures ok { OnOk result (state_of self.new ≡ with_own (state_of self.old) access.now.thread
             labels.entry.wanted.now labels.entry.clearance.now) }
         ensures err { OnErr result (state_of self.new ≡ state_of self.old) }
+        ensures memory { OnOutOfMemory result H.Refused }
     {
-        self.forget_unused_labels();
+        self.forget_unused_labels(heap);
         let next = self.next();
-        enter_in(&mut self.store, &mut self.table, next, access, labels)
+        enter_in(heap, &mut self.store, &mut self.table, next, access, labels)
     }
 
     /// Gives a thread another label and another clearance.
-    pub fn set_own(
+    pub fn set_own<H: Heap>(
         &mut self,
+        heap: H,
         thread: ObjId,
         label: Label,
         clearance: Label,
@@ -407,15 +454,23 @@ impl<S: LabelStore + Drop> LabelledObjects<S> {
         requires { IsTrue (is_thread (objects_of self.old.objects thread)) }
         ensures ok { OnOk result (state_of self.new ≡ with_own (state_of self.old) thread label clearance) }
         ensures err { OnErr result (state_of self.new ≡ state_of self.old) }
+        ensures memory { OnErr result H.Refused }
     {
-        self.forget_unused_labels();
-        set_own_in(&mut self.store, &mut self.table, thread, label, clearance)
+        self.forget_unused_labels(heap);
+        set_own_in(
+            heap,
+            &mut self.store,
+            &mut self.table,
+            thread,
+            label,
+            clearance,
+        )
     }
 
     /// Keeps the first bytes of a segment, at most `keep`, and appends new ones.
-    pub fn splice(
+    pub fn splice<H: Heap>(
         &mut self,
-        alloc: Global,
+        heap: H,
         segment: ObjId,
         keep: u32,
         bytes: &Bytes,
@@ -423,15 +478,17 @@ impl<S: LabelStore + Drop> LabelledObjects<S> {
         ensures ok { OnOk result (state_of self.new ≡ with_segment_bytes (state_of self.old) segment
             (take keep (bytes_in (objects_of self.old.objects segment)) ++ bytes.now)) }
         ensures err { OnErr result (state_of self.new ≡ state_of self.old) }
+        ensures memory { OnErr result H.Refused }
     {
-        splice_in(&mut self.table, alloc, segment, keep, bytes)
+        splice_in(&mut self.table, heap, segment, keep, bytes)
     }
 
     // Moves the labels that the objects have to a new store, if the store weighs more than the limit.
-    fn forget_unused_labels(&mut self)
+    fn forget_unused_labels<H: Heap>(&mut self, heap: H)
         ensures { state_of self.new ≡ state_of self.old }
     {
         self.limit = forget_unused_in(
+            heap,
             &mut self.store,
             &mut self.table,
             self.next_object,
@@ -441,41 +498,49 @@ impl<S: LabelStore + Drop> LabelledObjects<S> {
 }
 
 // Puts the clearance of a kind, if it has one, into the store.
-fn put_kind<S: LabelStore>(store: &mut S, kind: Kind<Label>) -> Result<Kind<S::Id>, AllocError>
+fn put_kind<H: Heap, S: LabelStore>(
+    heap: H,
+    store: &mut S,
+    kind: Kind<Label>,
+) -> Result<Kind<S::Id>, AllocError>
     ensures stands { IfOk result (λ k. KindStands (S.labels store.new) k) }
     ensures value { IfOk result (λ k. kind_by (label_at (S.labels store.new)) k ≡ kind) }
     ensures keeps { Keeps (S.labels store.old) (S.labels store.new) }
+    ensures memory { OnErr result H.Refused }
 {
     match kind {
         Kind::Segment(bytes) => Ok(Kind::Segment(bytes)),
         Kind::Container(links) => Ok(Kind::Container(links)),
         Kind::Thread(clearance) => {
-            let clearance = store.put(clearance)?;
+            let clearance = store.put(heap, clearance)?;
             Ok(Kind::Thread(clearance))
         }
         Kind::Gate(clearance, entry) => {
-            let clearance = store.put(clearance)?;
+            let clearance = store.put(heap, clearance)?;
             Ok(Kind::Gate(clearance, entry))
         }
     }
 }
 
 // Puts the labels of an object into the store.
-fn put_object<S: LabelStore>(
+fn put_object<H: Heap, S: LabelStore>(
+    heap: H,
     store: &mut S,
     object: Object<Label>,
 ) -> Result<Object<S::Id>, AllocError>
     ensures stands { IfOk result (λ o. Stands (S.labels store.new) o) }
     ensures value { IfOk result (λ o. object_by (label_at (S.labels store.new)) o ≡ object) }
     ensures keeps { Keeps (S.labels store.old) (S.labels store.new) }
+    ensures memory { OnErr result H.Refused }
 {
-    let kind = put_kind(store, object.kind)?;
-    let label = store.put(object.label)?;
+    let kind = put_kind(heap, store, object.kind)?;
+    let label = store.put(heap, object.label)?;
     Ok(Object { label, kind })
 }
 
 // Puts an object into the table, and its labels into the store.
-fn push_in<S: LabelStore>(
+fn push_in<H: Heap, S: LabelStore>(
+    heap: H,
     store: &mut S,
     table: &mut Table<S::Id>,
     number: ObjId,
@@ -488,15 +553,17 @@ fn push_in<S: LabelStore>(
         ≡ put (objects_shown (S.labels store.old) table.old) number object) }
     ensures err { OnErr result (objects_shown (S.labels store.new) table.new
         ≡ objects_shown (S.labels store.old) table.old) }
+    ensures memory { OnErr result H.Refused }
 {
-    let object = put_object(store, object)?;
-    table.add(number, object)
+    let object = put_object(heap, store, object)?;
+    table.add(heap, number, object)
 }
 
 // Puts a new object into the table and its labels into the store, and links it in a container.
 // Inlined, so that the object isn't moved.
 #[inline(always)]
-fn add_in<S: LabelStore>(
+fn add_in<H: Heap, S: LabelStore>(
+    heap: H,
     store: &mut S,
     table: &mut Table<S::Id>,
     container: ObjId,
@@ -510,13 +577,15 @@ fn add_in<S: LabelStore>(
         ≡ with_new (objects_shown (S.labels store.old) table.old) container number object) }
     ensures err { OnErr result (objects_shown (S.labels store.new) table.new
         ≡ objects_shown (S.labels store.old) table.old) }
+    ensures memory { OnErr result H.Refused }
 {
-    let object = put_object(store, object)?;
-    link_new(table, container, number, object)
+    let object = put_object(heap, store, object)?;
+    link_new(heap, table, container, number, object)
 }
 
 // Puts the new labels of a thread into the store, and then changes the thread.
-fn set_own_in<S: LabelStore>(
+fn set_own_in<H: Heap, S: LabelStore>(
+    heap: H,
     store: &mut S,
     table: &mut Table<S::Id>,
     thread: ObjId,
@@ -530,17 +599,18 @@ fn set_own_in<S: LabelStore>(
         ≡ put (objects_shown (S.labels store.old) table.old) thread (thread_of label clearance)) }
     ensures err { OnErr result (objects_shown (S.labels store.new) table.new
         ≡ objects_shown (S.labels store.old) table.old) }
+    ensures memory { OnErr result H.Refused }
 {
-    let clearance = store.put(clearance)?;
-    let label = store.put(label)?;
+    let clearance = store.put(heap, clearance)?;
+    let label = store.put(heap, label)?;
     give_own(table, thread, (label, clearance));
     Ok(())
 }
 
 // Keeps the first bytes of a segment, at most `keep`, and appends new ones.
-fn splice_in<L: Drop>(
+fn splice_in<H: Heap, L: Drop>(
     table: &mut Table<L>,
-    alloc: Global,
+    heap: H,
     segment: ObjId,
     keep: u32,
     bytes: &Bytes,
@@ -548,10 +618,11 @@ fn splice_in<L: Drop>(
     ensures ok { OnOk result (objects_of table.new ≡ changed_at (objects_of table.old) segment
         (holding (take keep (bytes_in (objects_of table.old segment)) ++ bytes.now))) }
     ensures err { OnErr result (objects_of table.new ≡ objects_of table.old) }
+    ensures memory { OnErr result H.Refused }
 {
     if let Some(object) = table.get_mut(segment) {
         if let Kind::Segment(content) = &mut object.kind {
-            let new = spliced(alloc, content.as_slice(), keep, bytes)?;
+            let new = spliced(heap, content.as_slice(), keep, bytes)?;
             *content = new;
         }
     }
@@ -559,13 +630,14 @@ fn splice_in<L: Drop>(
 }
 
 // Returns the first bytes of the old ones, at most `keep`, followed by the new ones.
-fn spliced(alloc: Global, old: &[u8], keep: u32, new: &Bytes) -> Result<Bytes, AllocError>
-    ensures { IfOk result (λ b. b ≡ take keep old.now ++ new.now) }
+fn spliced<H: Heap>(heap: H, old: &[u8], keep: u32, new: &Bytes) -> Result<Bytes, AllocError>
+    ensures ok { IfOk result (λ b. b ≡ take keep old.now ++ new.now) }
+    ensures memory { OnErr result H.Refused }
 {
     let kept = (keep as usize).min(old.len());
     let new = new.as_slice();
-    let mut content = Vec::with_capacity(alloc, kept + new.len())?;
-    content.extend_from_slice(&old[..kept])?;
-    content.extend_from_slice(new)?;
+    let mut content = heap.with_room((kept + new.len()).min(MOST_ROOM))?;
+    heap.extend(&mut content, &old[..kept])?;
+    heap.extend(&mut content, new)?;
     Ok(Bytes::from_vec(content))
 }

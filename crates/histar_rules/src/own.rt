@@ -11,23 +11,30 @@ ghost use Rattle.histar_rules.specs.Rights.{kind_with_clearance, with_clearance,
 ghost use Rattle.histar_rules.specs.Rules.{check, FailsAt, FailsAtUnlessExhausted};
 ghost use Rattle.histar_rules.specs.declared.raw.RawCall.TheVariants as calls;
 ghost use Rattle.histar_rules.specs.declared.raw.Denied.TheVariants.{Range};
+ghost use Rattle.histar_rules.specs.Memory.{OnOutOfMemory};
 
 use crate::checks::require;
 use crate::limits::Next;
 use crate::lookup::thread_in;
 use crate::raw::{Denied, Refusal};
+use histar_heap::Heap;
 use histar_label::{Label, LabelStore};
 use histar_object::{Kind, ObjId, Object, Table};
 use std::alloc::AllocError;
 
 /// Returns the Id of a label. A label that the store has is not copied.
-pub(crate) fn put_copy<S: LabelStore>(store: &mut S, label: &Label) -> Result<S::Id, AllocError>
+pub(crate) fn put_copy<H: Heap, S: LabelStore>(
+    heap: H,
+    store: &mut S,
+    label: &Label,
+) -> Result<S::Id, AllocError>
     ensures stands { IfOk result (λ id. S.labels store.new id ≡ Some label.now) }
     ensures keeps { Keeps (S.labels store.old) (S.labels store.new) }
+    ensures memory { OnErr result H.Refused }
 {
     match store.find_and_cache(label) {
         Some(id) => Ok(id),
-        None => store.put(label.copy()?),
+        None => store.put(heap, label.copy(heap)?),
     }
 }
 
@@ -194,7 +201,8 @@ pub(crate) fn give_own<L: Copy>(table: &mut Table<L>, thread: ObjId, own: (L, L)
 }
 
 /// Gives a thread another label, if it may have it.
-pub(crate) fn set_label_in<S: LabelStore>(
+pub(crate) fn set_label_in<H: Heap, S: LabelStore>(
+    heap: H,
     store: &mut S,
     table: &mut Table<S::Id>,
     next: Next,
@@ -209,15 +217,17 @@ pub(crate) fn set_label_in<S: LabelStore>(
         ≡ changed_at (objects_shown (S.labels store.old) table.old) thread (with_label label.now)) }
     ensures err { OnErr result (objects_shown (S.labels store.new) table.new
         ≡ objects_shown (S.labels store.old) table.old) }
+    ensures memory { OnOutOfMemory result H.Refused }
 {
-    let id = put_copy(store, label)?;
+    let id = put_copy(heap, store, label)?;
     check_label_in(store, table, next, thread, id)?;
     give_label(table, thread, id);
     Ok(())
 }
 
 /// Gives a thread another clearance, if it may have it.
-pub(crate) fn set_clearance_in<S: LabelStore>(
+pub(crate) fn set_clearance_in<H: Heap, S: LabelStore>(
+    heap: H,
     store: &mut S,
     table: &mut Table<S::Id>,
     next: Next,
@@ -232,8 +242,9 @@ pub(crate) fn set_clearance_in<S: LabelStore>(
         ≡ changed_at (objects_shown (S.labels store.old) table.old) thread (with_clearance clearance.now)) }
     ensures err { OnErr result (objects_shown (S.labels store.new) table.new
         ≡ objects_shown (S.labels store.old) table.old) }
+    ensures memory { OnOutOfMemory result H.Refused }
 {
-    let id = put_copy(store, clearance)?;
+    let id = put_copy(heap, store, clearance)?;
     check_clearance_in(store, table, next, thread, id)?;
     give_clearance(table, thread, id);
     Ok(())

@@ -56,7 +56,7 @@ pub(crate) fn make_reading_call<S: LabelStore + Drop>(
     match call {
         UnixCall::Read(path) => read::read(alloc, kernel, unix, path.names()),
         UnixCall::List(path) => list::list(alloc, kernel, unix, path.names()),
-        UnixCall::Stat(path) => stat::stat(kernel, unix, path.names()),
+        UnixCall::Stat(path) => stat::stat(alloc, kernel, unix, path.names()),
         _ => unreachable!(),
     }
 }
@@ -115,9 +115,9 @@ pub(crate) fn make_process_call<S: LabelStore + Drop>(
     match call {
         UnixCall::Spawn => spawn::spawn(alloc, kernel, unix),
         UnixCall::Exit(number) => exit::exit(alloc, kernel, unix, number),
-        UnixCall::Status(name) => status::status(kernel, unix, &name),
+        UnixCall::Status(name) => status::status(alloc, kernel, unix, &name),
         UnixCall::Kill(name) => kill::kill(alloc, kernel, unix, &name),
-        UnixCall::Whoami => whoami::whoami(kernel, unix),
+        UnixCall::Whoami => whoami::whoami(alloc, kernel, unix),
         UnixCall::Login(name, password) => login::login(alloc, kernel, unix, name, password),
         UnixCall::Wrap(path) => wrap::wrap(alloc, kernel, unix, path.names()),
         _ => unreachable!(),

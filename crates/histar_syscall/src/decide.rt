@@ -5,6 +5,7 @@ ghost use Rattle.histar_container.specs.Tree.{AreTree};
 ghost use Rattle.histar_rules.specs.Rules.{DecidesAs};
 ghost use Rattle.histar_syscall.specs.Answers.{IsAnswerValue, IsValueOf};
 ghost use Rattle.histar_syscall.specs.declared.answers.Answer.TheVariants as answers;
+ghost use Rattle.histar_rules.specs.Memory.{OnOutOfMemory};
 
 use crate::answers::Answer;
 use crate::containers::unlink;
@@ -12,45 +13,46 @@ use crate::copied::{copied_container, copied_gate, copied_segment, copied_thread
 use crate::segments::{read, write};
 use histar_base::Bytes;
 use histar_gate::enter;
+use histar_heap::Heap;
 use histar_label::{Category, Label, LabelStore};
 use histar_object::{Entry, ObjId};
 use histar_rules::{Access, HandedLabels, LabelledObjects, Maker, RawCall, Refusal};
 use histar_thread::{make_category, own_label, set_clearance, set_label};
-use std::alloc::Global;
 
 /// Decides a raw call on the objects, and returns its answer where it is granted.
-pub(crate) fn decide<S: LabelStore + Drop>(
+pub(crate) fn decide<H: Heap, S: LabelStore + Drop>(
     objects: &mut LabelledObjects<S>,
-    alloc: Global,
+    heap: H,
     thread: ObjId,
     call: &RawCall,
 ) -> Result<Answer, Refusal>
     requires { AreTree (objects_of objects.old.objects) }
-    ensures { DecidesAs objects.old objects.new thread call.now result
+    ensures ok { DecidesAs objects.old objects.new thread call.now result
         (λ a. IsAnswerValue (state_of objects.old) thread call.now a) }
+    ensures memory { OnOutOfMemory result H.Refused }
 {
     match call {
-        RawCall::MakeCategory => category(make_category(objects, thread)),
-        RawCall::OwnLabel => own(own_label(objects, thread)),
-        RawCall::SetLabel(label) => done(set_label(objects, thread, label.label())),
+        RawCall::MakeCategory => category(make_category(heap, objects, thread)),
+        RawCall::OwnLabel => own(own_label(heap, objects, thread)),
+        RawCall::SetLabel(label) => done(set_label(heap, objects, thread, label.label())),
         RawCall::SetClearance(clearance) => {
-            done(set_clearance(objects, thread, clearance.label()))
+            done(set_clearance(heap, objects, thread, clearance.label()))
         }
         RawCall::MakeSegment(container, label, bytes) => {
             let maker = Maker::new(thread, *container);
-            made(copied_segment(objects, alloc, &maker, label, bytes))
+            made(copied_segment(objects, heap, &maker, label, bytes))
         }
         RawCall::MakeContainer(container, label) => {
             let maker = Maker::new(thread, *container);
-            made(copied_container(objects, alloc, &maker, label))
+            made(copied_container(objects, heap, &maker, label))
         }
         RawCall::MakeThread(container, label, clearance) => {
             let maker = Maker::new(thread, *container);
-            made(copied_thread(objects, &maker, label, clearance))
+            made(copied_thread(heap, objects, &maker, label, clearance))
         }
         RawCall::MakeGate(container, label, clearance, entry) => {
             let maker = Maker::new(thread, *container);
-            made(copied_gate(objects, &maker, label, clearance, *entry))
+            made(copied_gate(heap, objects, &maker, label, clearance, *entry))
         }
         RawCall::Enter(container, gate, wanted, clearance, verify) => {
             let access = Access::new(thread, *container, *gate);
@@ -59,23 +61,23 @@ pub(crate) fn decide<S: LabelStore + Drop>(
                 clearance: clearance.label(),
                 verify: verify.label(),
             };
-            entry(enter(objects, &access, labels))
+            entry(enter(heap, objects, &access, labels))
         }
         RawCall::Read(container, segment) => {
             let access = Access::new(thread, *container, *segment);
-            bytes(read(objects, alloc, &access))
+            bytes(read(objects, heap, &access))
         }
         RawCall::Write(container, segment, keep, bytes) => {
             let access = Access::new(thread, *container, *segment);
-            done(write(objects, alloc, &access, *keep, bytes))
+            done(write(objects, heap, &access, *keep, bytes))
         }
         RawCall::Unlink(container, object) => {
             let access = Access::new(thread, *container, *object);
-            done(unlink(objects, alloc, &access))
+            done(unlink(objects, heap, &access))
         }
         RawCall::LabelOf(container, object) => {
             let access = Access::new(thread, *container, *object);
-            label(objects.label_of(&access))
+            label(objects.label_of(heap, &access))
         }
     }
 }

@@ -1,5 +1,5 @@
 //! The kernel and its raw calls.
-ghost use Rattle.std.specs.Prelude.{◌≡◌, ◌<◌, [], Some, IfOk, length};
+ghost use Rattle.std.specs.Prelude.{OnErr, ◌≡◌, ◌<◌, [], Some, IfOk, length};
 ghost use Rattle.histar_level.specs.Levels.{Levels};
 ghost use Rattle.std.specs.Option.{option_copied};
 ghost use Rattle.std.specs.FinSet as set;
@@ -11,6 +11,7 @@ ghost use Rattle.histar_rules.specs.Sound.{IsSound};
 ghost use Rattle.histar_rules.specs.declared.raw.RawCall.TheVariants as calls;
 ghost use Rattle.histar_syscall.specs.Answers.{IsAnswerValue};
 ghost use Rattle.histar_syscall.specs.KernelModel.{Answered, AnsweredAs, ReadsLent, OwnLent, EndsAs, lent_bytes, state};
+ghost use Rattle.histar_rules.specs.Memory.{OnOutOfMemory};
 
 use crate::answers::Answer;
 use crate::containers::{make_container, unlink};
@@ -19,6 +20,7 @@ use crate::empty_objects::empty_objects;
 use crate::segments::{check_read, make_segment, read, write};
 use histar_base::Bytes;
 use histar_gate::{enter, make_gate};
+use histar_heap::Heap;
 use histar_label::{Category, Label, LabelStore, OutOfMemory};
 use histar_object::{Entry, ObjId};
 use histar_rules::{Access, HandedLabels, LabelledObjects, Maker, ObjectKind, RawCall, Refusal};
@@ -26,7 +28,6 @@ use histar_thread::{
     check_own_label, make_category, make_thread, own_label, set_clearance, set_label,
 };
 use histar_trace::{StoredCall, Trace};
-use std::alloc::Global;
 use std::marker::Model;
 use std::mem::forget;
 
@@ -65,15 +66,16 @@ impl<S: LabelStore + Drop> Kernel<S> {
 
     /// Makes the empty kernel: the root container, and in it the boot thread, which owns category 1. No line
     /// was begun, and no call was made.
-    pub fn new(alloc: Global, store: S) -> Result<Self, OutOfMemory>
+    pub fn new<H: Heap>(heap: H, store: S) -> Result<Self, OutOfMemory>
         ensures state { IfOk result (λ kernel. state kernel ≡ empty_state) }
         ensures line { IfOk result (λ kernel. kernel.line ≡ 0) }
         ensures trace { IfOk result (λ kernel. kernel.trace ≡ []) }
+        ensures memory { OnErr result H.Refused }
     {
-        let objects = empty_objects(alloc, store)?;
+        let objects = empty_objects(heap, store)?;
         Ok(Kernel {
             objects,
-            trace: Trace::new(alloc)?,
+            trace: Trace::new(heap)?,
             line: 0,
         })
     }
@@ -101,97 +103,120 @@ impl<S: LabelStore + Drop> Kernel<S> {
     }
 
     /// Makes one raw call of any kind.
-    pub fn call(&mut self, alloc: Global, thread: ObjId, call: RawCall) -> Result<Answer, Refusal>
+    pub fn call<H: Heap>(
+        &mut self,
+        heap: H,
+        thread: ObjId,
+        call: RawCall,
+    ) -> Result<Answer, Refusal>
         ensures answered { AnsweredAs self.old self.new thread call result
             (λ a. IsAnswerValue (state self.old) thread call a) }
 
         // The objects of every kernel are sound.
         ensures sound { IsSound (state self.old) × IsSound (state self.new) }
+        ensures memory { OnOutOfMemory result H.Refused }
     {
-        let answer = self.make_call(alloc, thread, &call);
+        let answer = self.make_call(heap, thread, &call);
         drop(call);
         answer
     }
 
     /// Makes one raw call of any kind, which stays the caller's.
-    pub fn make_call(
+    pub fn make_call<H: Heap>(
         &mut self,
-        alloc: Global,
+        heap: H,
         thread: ObjId,
         call: &RawCall,
     ) -> Result<Answer, Refusal>
         ensures answered { AnsweredAs self.old self.new thread call.now result
             (λ a. IsAnswerValue (state self.old) thread call.now a) }
         ensures sound { IsSound (state self.old) × IsSound (state self.new) }
+        ensures memory { OnOutOfMemory result H.Refused }
     {
-        let stored = self.trace.store(alloc, call)?;
-        let answer = decide(&mut self.objects, alloc, thread, call);
+        let stored = self.trace.store(heap, call)?;
+        let answer = decide(&mut self.objects, heap, thread, call);
         self.trace.record(self.line, thread, stored, answer)
     }
 
     /// Makes a category. The thread owns it from then on, and its clearance there is 3.
-    pub fn make_category(&mut self, thread: ObjId) -> Result<Category, Refusal>
-        ensures { Answered self.old self.new thread calls.MakeCategory result }
+    pub fn make_category<H: Heap>(&mut self, heap: H, thread: ObjId) -> Result<Category, Refusal>
+        ensures ok { Answered self.old self.new thread calls.MakeCategory result }
+        ensures memory { OnOutOfMemory result H.Refused }
     {
-        self.trace.make_room()?;
-        let answer = make_category(&mut self.objects, thread);
+        self.trace.make_room(heap)?;
+        let answer = make_category(heap, &mut self.objects, thread);
         let call = StoredCall::MakeCategory;
         self.trace.record(self.line, thread, call, answer)
     }
 
     /// Returns the thread's own label and clearance.
-    pub fn own_label(&mut self, thread: ObjId) -> Result<(Label, Label), Refusal>
-        ensures { Answered self.old self.new thread calls.OwnLabel result }
+    pub fn own_label<H: Heap>(&mut self, heap: H, thread: ObjId) -> Result<(Label, Label), Refusal>
+        ensures ok { Answered self.old self.new thread calls.OwnLabel result }
+        ensures memory { OnOutOfMemory result H.Refused }
     {
-        self.trace.make_room()?;
-        let answer = own_label(&self.objects, thread);
+        self.trace.make_room(heap)?;
+        let answer = own_label(heap, &self.objects, thread);
         let call = StoredCall::OwnLabel;
         self.trace.record(self.line, thread, call, answer)
     }
 
     /// Lends the thread's own label. The kernel is free again when it is no longer used.
-    pub fn lend_own_label(&mut self, thread: ObjId) -> Result<&Label, Refusal>
-        ensures* { sem 𝓛 (EndsAs (the_row S.row S.Id.row S.LabelStore S.Id.PartialEq) self.entry
+    pub fn lend_own_label<H: Heap>(&mut self, heap: H, thread: ObjId) -> Result<&Label, Refusal>
+        ensures* lends { sem 𝓛 (EndsAs (the_row S.row S.Id.row S.LabelStore S.Id.PartialEq) self.entry
             (OwnLent self.old thread result)) }
+        ensures memory { OnOutOfMemory result H.Refused }
     {
-        self.ask_own_label(thread)?;
+        self.ask_own_label(heap, thread)?;
         Ok(self.label(thread).unwrap())
     }
 
     // Makes the call by which a thread learns its own label, without the label: it is lent once it is recorded.
-    fn ask_own_label(&mut self, thread: ObjId) -> Result<(), Refusal>
-        ensures { AnsweredAs self.old self.new thread calls.OwnLabel result
+    fn ask_own_label<H: Heap>(&mut self, heap: H, thread: ObjId) -> Result<(), Refusal>
+        ensures ok { AnsweredAs self.old self.new thread calls.OwnLabel result
             (λ _. (own : Levels × Levels) × IsAnswer (state self.old) thread calls.OwnLabel own) }
+        ensures memory { OnOutOfMemory result H.Refused }
     {
-        self.trace.make_room()?;
-        let answer = check_own_label(&self.objects, thread);
+        self.trace.make_room(heap)?;
+        let answer = check_own_label(heap, &self.objects, thread);
         let call = StoredCall::OwnLabel;
         self.trace.record(self.line, thread, call, answer)
     }
 
     /// Gives the thread another label, which lies between its own label and its clearance.
-    pub fn set_label(&mut self, thread: ObjId, label: Label) -> Result<(), Refusal>
-        ensures { Answered self.old self.new thread (calls.SetLabel label) result }
+    pub fn set_label<H: Heap>(
+        &mut self,
+        heap: H,
+        thread: ObjId,
+        label: Label,
+    ) -> Result<(), Refusal>
+        ensures ok { Answered self.old self.new thread (calls.SetLabel label) result }
+        ensures memory { OnOutOfMemory result H.Refused }
     {
-        let call = self.trace.store_set_label(&label)?;
-        let answer = set_label(&mut self.objects, thread, &label);
+        let call = self.trace.store_set_label(heap, &label)?;
+        let answer = set_label(heap, &mut self.objects, thread, &label);
         self.trace.record(self.line, thread, call, answer)
     }
 
     /// Gives the thread another clearance, which is above its own label, and exceeds its old clearance only
     /// where the thread owns.
-    pub fn set_clearance(&mut self, thread: ObjId, clearance: Label) -> Result<(), Refusal>
-        ensures { Answered self.old self.new thread (calls.SetClearance clearance) result }
+    pub fn set_clearance<H: Heap>(
+        &mut self,
+        heap: H,
+        thread: ObjId,
+        clearance: Label,
+    ) -> Result<(), Refusal>
+        ensures ok { Answered self.old self.new thread (calls.SetClearance clearance) result }
+        ensures memory { OnOutOfMemory result H.Refused }
     {
-        let call = self.trace.store_set_clearance(&clearance)?;
-        let answer = set_clearance(&mut self.objects, thread, &clearance);
+        let call = self.trace.store_set_clearance(heap, &clearance)?;
+        let answer = set_clearance(heap, &mut self.objects, thread, &clearance);
         self.trace.record(self.line, thread, call, answer)
     }
 
     /// Makes a segment in a container, and returns its number.
-    pub fn make_segment(
+    pub fn make_segment<H: Heap>(
         &mut self,
-        alloc: Global,
+        heap: H,
         thread: ObjId,
         container: ObjId,
         label: Label,
@@ -201,108 +226,129 @@ impl<S: LabelStore + Drop> Kernel<S> {
 
         // No object has the number 0.
         ensures numbered { IfOk result (λ number. 0 < number) }
+        ensures memory { OnOutOfMemory result H.Refused }
     {
-        let (call, bytes) = self.trace.store_make_segment(container, &label, bytes)?;
+        let (call, bytes) = self
+            .trace
+            .store_make_segment(heap, container, &label, bytes)?;
         let bytes = self.trace.bytes(bytes);
         let maker = Maker::new(thread, container);
-        let answer = make_segment(&mut self.objects, alloc, &maker, label, bytes);
+        let answer = make_segment(&mut self.objects, heap, &maker, label, bytes);
         self.trace.record(self.line, thread, call, answer)
     }
 
     /// Makes a container in a container, and returns its number.
-    pub fn make_container(
+    pub fn make_container<H: Heap>(
         &mut self,
-        alloc: Global,
+        heap: H,
         thread: ObjId,
         container: ObjId,
         label: Label,
     ) -> Result<ObjId, Refusal>
         ensures answered { Answered self.old self.new thread (calls.MakeContainer container label) result }
         ensures numbered { IfOk result (λ number. 0 < number) }
+        ensures memory { OnOutOfMemory result H.Refused }
     {
-        let call = self.trace.store_make_container(container, &label)?;
+        let call = self.trace.store_make_container(heap, container, &label)?;
         let maker = Maker::new(thread, container);
-        let answer = make_container(&mut self.objects, alloc, &maker, label);
+        let answer = make_container(&mut self.objects, heap, &maker, label);
         self.trace.record(self.line, thread, call, answer)
     }
 
     /// Makes a thread in a container, and returns its number. The new thread owns no more than its maker, and
     /// its clearance is at most the maker's.
-    pub fn make_thread(
+    pub fn make_thread<H: Heap>(
         &mut self,
+        heap: H,
         thread: ObjId,
         container: ObjId,
         label: Label,
         clearance: Label,
     ) -> Result<ObjId, Refusal>
-        ensures { Answered self.old self.new thread (calls.MakeThread container label clearance) result }
+        ensures ok { Answered self.old self.new thread (calls.MakeThread container label clearance) result }
+        ensures memory { OnOutOfMemory result H.Refused }
     {
-        let call = self.trace.store_make_thread(container, &label, &clearance)?;
+        let call = self
+            .trace
+            .store_make_thread(heap, container, &label, &clearance)?;
         let maker = Maker::new(thread, container);
-        let answer = make_thread(&mut self.objects, &maker, label, clearance);
+        let answer = make_thread(heap, &mut self.objects, &maker, label, clearance);
         self.trace.record(self.line, thread, call, answer)
     }
 
     /// Makes a gate in a container, and returns its number. The gate gives its label to each thread that
     /// enters it, so its maker must own what the gate is to own.
-    pub fn make_gate(
+    pub fn make_gate<H: Heap>(
         &mut self,
+        heap: H,
         thread: ObjId,
         container: ObjId,
         label: Label,
         clearance: Label,
         entry: Entry,
     ) -> Result<ObjId, Refusal>
-        ensures { Answered self.old self.new thread (calls.MakeGate container label clearance entry) result }
+        ensures ok { Answered self.old self.new thread (calls.MakeGate container label clearance entry) result }
+        ensures memory { OnOutOfMemory result H.Refused }
     {
         let call = self
             .trace
-            .store_make_gate(container, &label, &clearance, entry)?;
+            .store_make_gate(heap, container, &label, &clearance, entry)?;
         let maker = Maker::new(thread, container);
-        let answer = make_gate(&mut self.objects, &maker, label, clearance, entry);
+        let answer = make_gate(heap, &mut self.objects, &maker, label, clearance, entry);
         self.trace.record(self.line, thread, call, answer)
     }
 
     /// Enters a gate that a container links, and returns its entry. The thread gets the label and the
     /// clearance that it wants, within what the gate and its own labels allow.
-    pub fn enter(
+    pub fn enter<H: Heap>(
         &mut self,
+        heap: H,
         thread: ObjId,
         container: ObjId,
         gate: ObjId,
         labels: HandedLabels,
     ) -> Result<Entry, Refusal>
-        ensures { Answered self.old self.new thread (calls.Enter container gate labels.entry.wanted.now
+        ensures ok { Answered self.old self.new thread (calls.Enter container gate labels.entry.wanted.now
             labels.entry.clearance.now labels.entry.verify.now) result }
+        ensures memory { OnOutOfMemory result H.Refused }
     {
-        let call = self.trace.store_enter(container, gate, labels)?;
+        let call = self.trace.store_enter(heap, container, gate, labels)?;
         let access = Access::new(thread, container, gate);
-        let answer = enter(&mut self.objects, &access, labels);
+        let answer = enter(heap, &mut self.objects, &access, labels);
         self.trace.record(self.line, thread, call, answer)
     }
 
     /// Lends the bytes of a segment that the container links. The kernel is free again when they are no
     /// longer used.
-    pub fn read(
+    pub fn read<H: Heap>(
         &mut self,
+        heap: H,
         thread: ObjId,
         container: ObjId,
         segment: ObjId,
     ) -> Result<&[u8], Refusal>
-        ensures* { sem 𝓛 (EndsAs (the_row S.row S.Id.row S.LabelStore S.Id.PartialEq) self.entry
+        ensures* lends { sem 𝓛 (EndsAs (the_row S.row S.Id.row S.LabelStore S.Id.PartialEq) self.entry
             (ReadsLent self.old thread container segment result)) }
+        ensures memory { OnOutOfMemory result H.Refused }
     {
-        self.make_read(thread, container, segment)?;
+        self.make_read(heap, thread, container, segment)?;
         Ok(self.bytes_of(segment))
     }
 
     // Makes a read without its bytes: they are lent once it is recorded.
-    fn make_read(&mut self, thread: ObjId, container: ObjId, segment: ObjId) -> Result<(), Refusal>
-        ensures { AnsweredAs self.old self.new thread (calls.Read container segment) result (λ _. Unit {0}) }
+    fn make_read<H: Heap>(
+        &mut self,
+        heap: H,
+        thread: ObjId,
+        container: ObjId,
+        segment: ObjId,
+    ) -> Result<(), Refusal>
+        ensures ok { AnsweredAs self.old self.new thread (calls.Read container segment) result (λ _. Unit {0}) }
+        ensures memory { OnOutOfMemory result H.Refused }
     {
-        self.trace.make_room()?;
+        self.trace.make_room(heap)?;
         let access = Access::new(thread, container, segment);
-        let answer = check_read(&mut self.objects, &access);
+        let answer = check_read(heap, &mut self.objects, &access);
         let call = StoredCall::Read(container, segment);
         self.trace.record(self.line, thread, call, answer)
     }
@@ -387,70 +433,77 @@ impl<S: LabelStore + Drop> Kernel<S> {
     }
 
     /// Reads a segment, and returns a copy of its bytes, which stays while the kernel goes on.
-    pub fn read_copy(
+    pub fn read_copy<H: Heap>(
         &mut self,
-        alloc: Global,
+        heap: H,
         thread: ObjId,
         container: ObjId,
         segment: ObjId,
     ) -> Result<Bytes, Refusal>
-        ensures { Answered self.old self.new thread (calls.Read container segment) result }
+        ensures ok { Answered self.old self.new thread (calls.Read container segment) result }
+        ensures memory { OnOutOfMemory result H.Refused }
     {
-        self.trace.make_room()?;
+        self.trace.make_room(heap)?;
         let access = Access::new(thread, container, segment);
-        let answer = read(&mut self.objects, alloc, &access);
+        let answer = read(&mut self.objects, heap, &access);
         let call = StoredCall::Read(container, segment);
         self.trace.record(self.line, thread, call, answer)
     }
 
     /// Keeps the first bytes of a segment that the container links, at most `keep`, and appends new ones.
-    pub fn write(
+    pub fn write<H: Heap>(
         &mut self,
-        alloc: Global,
+        heap: H,
         thread: ObjId,
         container: ObjId,
         segment: ObjId,
         keep: u32,
         bytes: Bytes,
     ) -> Result<(), Refusal>
-        ensures { Answered self.old self.new thread (calls.Write container segment keep bytes) result }
+        ensures ok { Answered self.old self.new thread (calls.Write container segment keep bytes) result }
+        ensures memory { OnOutOfMemory result H.Refused }
     {
-        let (call, bytes) = self.trace.store_write(container, segment, keep, bytes)?;
+        let (call, bytes) = self
+            .trace
+            .store_write(heap, container, segment, keep, bytes)?;
         let bytes = self.trace.bytes(bytes);
         let access = Access::new(thread, container, segment);
-        let answer = write(&mut self.objects, alloc, &access, keep, bytes);
+        let answer = write(&mut self.objects, heap, &access, keep, bytes);
         self.trace.record(self.line, thread, call, answer)
     }
 
     /// Unlinks an object from a container, and removes it with all that hangs below it, its threads too.
-    pub fn unlink(
+    pub fn unlink<H: Heap>(
         &mut self,
-        alloc: Global,
+        heap: H,
         thread: ObjId,
         container: ObjId,
         object: ObjId,
     ) -> Result<(), Refusal>
-        ensures { Answered self.old self.new thread (calls.Unlink container object) result }
+        ensures ok { Answered self.old self.new thread (calls.Unlink container object) result }
+        ensures memory { OnOutOfMemory result H.Refused }
     {
-        self.trace.make_room()?;
+        self.trace.make_room(heap)?;
         let access = Access::new(thread, container, object);
-        let answer = unlink(&mut self.objects, alloc, &access);
+        let answer = unlink(&mut self.objects, heap, &access);
         let call = StoredCall::Unlink(container, object);
         self.trace.record(self.line, thread, call, answer)
     }
 
     /// Returns the label of an object that the container links and that is no thread.
-    pub fn label_of(
+    pub fn label_of<H: Heap>(
         &mut self,
+        heap: H,
         thread: ObjId,
         container: ObjId,
         object: ObjId,
     ) -> Result<Label, Refusal>
-        ensures { Answered self.old self.new thread (calls.LabelOf container object) result }
+        ensures ok { Answered self.old self.new thread (calls.LabelOf container object) result }
+        ensures memory { OnOutOfMemory result H.Refused }
     {
-        self.trace.make_room()?;
+        self.trace.make_room(heap)?;
         let access = Access::new(thread, container, object);
-        let answer = self.objects.label_of(&access);
+        let answer = self.objects.label_of(heap, &access);
         let call = StoredCall::LabelOf(container, object);
         self.trace.record(self.line, thread, call, answer)
     }

@@ -15,7 +15,7 @@ const WRITE: u64 = 5;
 fn label_with(alloc: Global, levels: &[(u64, Level)]) -> Result<Label, Fail> {
     let mut label = Label::new(alloc, Level::L1);
     for &(category, level) in levels {
-        label.set(Category::new(category), level)?;
+        label.set(alloc, Category::new(category), level)?;
     }
     Ok(label)
 }

@@ -14,14 +14,14 @@ fn seven() -> Category {
 
 /// Makes a label with this level at category 7, and 1 elsewhere.
 fn at_seven(alloc: Global, level: Level) -> Result<Label, OutOfMemory> {
-    Label::new(alloc, Level::L1).with(seven(), level)
+    Label::new(alloc, Level::L1).with(alloc, seven(), level)
 }
 
 /// Makes a label that needs an allocation of its own: this level at categories 1 to 6, and 1 elsewhere.
 fn at_six(alloc: Global, level: Level) -> Result<Label, OutOfMemory> {
     let mut label = Label::new(alloc, Level::L1);
     for category in 1..7 {
-        label = label.with(Category::new(category), level)?;
+        label = label.with(alloc, Category::new(category), level)?;
     }
     Ok(label)
 }
@@ -41,13 +41,13 @@ fn is_at_six(rt: &impl Abort, label: &Label, level: Level) {
 fn labels_stay_without_memory(rt: HostRuntime) -> Result<(), Fail> {
     let low = at_six(rt.alloc(), Level::L0)?;
     let high = at_six(rt.alloc(), Level::L3)?;
-    if let Ok(joined) = low.join(&high) {
+    if let Ok(joined) = low.join(rt.alloc(), &high) {
         is_at_six(&rt, &joined, Level::L3);
     }
-    if let Ok(floored) = high.floor(&low) {
+    if let Ok(floored) = high.floor(rt.alloc(), &low) {
         is_at_six(&rt, &floored, Level::L3);
     }
-    if let Ok(copied) = low.copy() {
+    if let Ok(copied) = low.copy(rt.alloc()) {
         is_at_six(&rt, &copied, Level::L0);
     }
     is_at_six(&rt, &low, Level::L0);
@@ -68,9 +68,9 @@ fn stays_without_memory<S: LabelStore>(
     alloc: Global,
     store: &mut S,
 ) -> Result<(), OutOfMemory> {
-    let first = store.put(at_seven(alloc, Level::L2)?)?;
+    let first = store.put(alloc, at_seven(alloc, Level::L2)?)?;
     for &level in &LEVELS {
-        if let Ok(id) = store.put(at_seven(alloc, level)?) {
+        if let Ok(id) = store.put(alloc, at_seven(alloc, level)?) {
             has_level(rt, store, id, level);
         }
         has_level(rt, store, first, Level::L2);
@@ -94,10 +94,10 @@ fn puts_bounds<S: LabelStore>(
     alloc: Global,
     store: &mut S,
 ) -> Result<(), OutOfMemory> {
-    let first = store.put(at_seven(alloc, Level::L2)?)?;
-    let second = store.put(at_seven(alloc, Level::Star)?)?;
-    let joined = store.join(first, second)?;
-    let floored = store.floor(first, second)?;
+    let first = store.put(alloc, at_seven(alloc, Level::L2)?)?;
+    let second = store.put(alloc, at_seven(alloc, Level::Star)?)?;
+    let joined = store.join(alloc, first, second)?;
+    let floored = store.floor(alloc, first, second)?;
     has_level(rt, store, joined, Level::L2);
     has_level(rt, store, floored, Level::Star);
     has_level(rt, store, first, Level::L2);

@@ -2,8 +2,8 @@
 ghost use Rattle.std.specs.Prelude.{◌≡◌, IfOk, IfSome, IsSome, OnErr, Some, [], slice_get};
 ghost use Rattle.histar_label.specs.Store.{Keeps};
 
+use histar_heap::Heap;
 use histar_label::{Category, Label, Level, OutOfMemory};
-use std::alloc::Global;
 use std::marker::Model;
 
 /// How many places at hand there are for labels.
@@ -63,40 +63,43 @@ impl Model for TraceLabels {
 
 impl TraceLabels {
     /// Makes a list of no labels.
-    pub(crate) fn new(alloc: Global) -> Result<TraceLabels, OutOfMemory>
-        ensures { IfOk result (λ labels. labels ≡ []) }
+    pub(crate) fn new<H: Heap>(heap: H) -> Result<TraceLabels, OutOfMemory>
+        ensures ok { IfOk result (λ labels. labels ≡ []) }
+        ensures memory { OnErr result H.Refused }
     {
-        let mut at_hand = Vec::with_capacity(alloc, AT_HAND)?;
+        let mut at_hand = heap.with_room(AT_HAND)?;
         for _ in 0..AT_HAND {
-            at_hand.push(0)?;
+            heap.push(&mut at_hand, 0)?;
         }
         Ok(TraceLabels {
-            labels: Vec::new(alloc),
-            exceptions: Vec::with_capacity(alloc, FIRST_EXCEPTIONS)?,
+            labels: Vec::new(heap.alloc()),
+            exceptions: heap.with_room(FIRST_EXCEPTIONS)?,
             at_hand,
         })
     }
 
     /// Copies the label of an Id.
-    pub(crate) fn copy(&self, alloc: Global, id: LabelId) -> Result<Label, OutOfMemory>
+    pub(crate) fn copy<H: Heap>(&self, heap: H, id: LabelId) -> Result<Label, OutOfMemory>
         requires { IsSome (slice_get self.now id) }
-        ensures { IfOk result (λ label. slice_get self.now id ≡ Some label) }
+        ensures ok { IfOk result (λ label. slice_get self.now id ≡ Some label) }
+        ensures memory { OnErr result H.Refused }
     {
         let kept = &self.labels[id.0 as usize];
         let exceptions = &self.exceptions[kept.first..kept.end];
-        Label::from_exceptions(alloc, kept.default, exceptions)
+        Label::from_exceptions(heap, kept.default, exceptions)
     }
 
     /// Keeps a label, and returns its Id. A label that is found at hand is not copied.
-    pub(crate) fn keep(&mut self, label: &Label) -> Result<LabelId, OutOfMemory>
+    pub(crate) fn keep<H: Heap>(&mut self, heap: H, label: &Label) -> Result<LabelId, OutOfMemory>
         ensures kept { IfOk result (λ id. slice_get self.new id ≡ Some label.now) }
         ensures keeps { Keeps (slice_get self.old) (slice_get self.new) }
         ensures unchanged { OnErr result (self.new ≡ self.old) }
+        ensures memory { OnErr result H.Refused }
     {
         let place = label.place_among(AT_HAND);
         match self.found(place, label) {
             Some(id) => Ok(id),
-            None => self.add(place, label),
+            None => self.add(heap, place, label),
         }
     }
 
@@ -117,17 +120,16 @@ impl TraceLabels {
     // Adds a copy of a label to the list, and keeps it at hand.
     // Not inlined, so that a label at hand is found in few steps.
     #[inline(never)]
-    fn add(&mut self, place: usize, label: &Label) -> Result<LabelId, OutOfMemory>
+    fn add<H: Heap>(&mut self, heap: H, place: usize, label: &Label) -> Result<LabelId, OutOfMemory>
         ensures kept { IfOk result (λ id. slice_get self.new id ≡ Some label.now) }
         ensures keeps { Keeps (slice_get self.old) (slice_get self.new) }
         ensures unchanged { OnErr result (self.new ≡ self.old) }
+        ensures memory { OnErr result H.Refused }
     {
-        let Ok(id) = u32::try_from(self.labels.len()) else {
-            return Err(OutOfMemory);
-        };
-        self.labels.reserve(1)?;
+        let id = heap.place(&self.labels)?;
+        heap.reserve(&mut self.labels)?;
         let first = self.exceptions.len();
-        self.exceptions.extend_from_slice(label.exceptions())?;
+        heap.extend(&mut self.exceptions, label.exceptions())?;
         self.labels.push_reserved(KeptLabel {
             default: label.default_level(),
             first,

@@ -1,41 +1,43 @@
 //! Storing raw calls in a trace, before they are decided.
-ghost use Rattle.std.specs.Prelude.{◌≡◌, ◌<◌, IfOk, OnOk, Some, slice_get};
+ghost use Rattle.std.specs.Prelude.{OnErr, ◌≡◌, ◌<◌, IfOk, OnOk, Some, slice_get};
 ghost use Rattle.histar_rules.specs.declared.raw.RawCall.TheVariants as calls;
 ghost use Rattle.histar_trace.specs.Traces.{StandsFor};
 
 use crate::stored::{BytesId, StoredCall};
 use crate::trace::Trace;
 use histar_base::Bytes;
+use histar_heap::Heap;
 use histar_label::Label;
 use histar_object::{Entry, ObjId};
 use histar_rules::{HandedLabels, RawCall};
-use std::alloc::{AllocError, Global};
+use std::alloc::AllocError;
 
 impl Trace {
     /// Stores a raw call of any kind.
-    pub fn store(&mut self, alloc: Global, call: &RawCall) -> Result<StoredCall, AllocError>
+    pub fn store<H: Heap>(&mut self, heap: H, call: &RawCall) -> Result<StoredCall, AllocError>
         ensures stands { IfOk result (λ stored. StandsFor self.new stored call.now) }
         ensures entries { self.new.entries ≡ self.old.entries }
         ensures room { OnOk result (0 < self.new.room) }
+        ensures memory { OnErr result H.Refused }
     {
         match call {
-            RawCall::MakeCategory => self.store_plain(StoredCall::MakeCategory),
-            RawCall::OwnLabel => self.store_plain(StoredCall::OwnLabel),
-            RawCall::SetLabel(label) => self.store_set_label(label.label()),
-            RawCall::SetClearance(clearance) => self.store_set_clearance(clearance.label()),
+            RawCall::MakeCategory => self.store_plain(heap, StoredCall::MakeCategory),
+            RawCall::OwnLabel => self.store_plain(heap, StoredCall::OwnLabel),
+            RawCall::SetLabel(label) => self.store_set_label(heap, label.label()),
+            RawCall::SetClearance(clearance) => self.store_set_clearance(heap, clearance.label()),
             RawCall::MakeSegment(container, label, bytes) => {
-                let bytes = bytes.copy(alloc)?;
-                let (stored, _) = self.store_make_segment(*container, label.label(), bytes)?;
+                let bytes = bytes.copy(heap)?;
+                let (stored, _) = self.store_make_segment(heap, *container, label.label(), bytes)?;
                 Ok(stored)
             }
             RawCall::MakeContainer(container, label) => {
-                self.store_make_container(*container, label.label())
+                self.store_make_container(heap, *container, label.label())
             }
             RawCall::MakeThread(container, label, clearance) => {
-                self.store_make_thread(*container, label.label(), clearance.label())
+                self.store_make_thread(heap, *container, label.label(), clearance.label())
             }
             RawCall::MakeGate(container, label, clearance, entry) => {
-                self.store_make_gate(*container, label.label(), clearance.label(), *entry)
+                self.store_make_gate(heap, *container, label.label(), clearance.label(), *entry)
             }
             RawCall::Enter(container, gate, wanted, clearance, verify) => {
                 let labels = HandedLabels {
@@ -43,60 +45,72 @@ impl Trace {
                     clearance: clearance.label(),
                     verify: verify.label(),
                 };
-                self.store_enter(*container, *gate, labels)
+                self.store_enter(heap, *container, *gate, labels)
             }
             RawCall::Read(container, segment) => {
-                self.store_plain(StoredCall::Read(*container, *segment))
+                self.store_plain(heap, StoredCall::Read(*container, *segment))
             }
             RawCall::Write(container, segment, keep, bytes) => {
-                let bytes = bytes.copy(alloc)?;
-                let (stored, _) = self.store_write(*container, *segment, *keep, bytes)?;
+                let bytes = bytes.copy(heap)?;
+                let (stored, _) = self.store_write(heap, *container, *segment, *keep, bytes)?;
                 Ok(stored)
             }
             RawCall::Unlink(container, object) => {
-                self.store_plain(StoredCall::Unlink(*container, *object))
+                self.store_plain(heap, StoredCall::Unlink(*container, *object))
             }
             RawCall::LabelOf(container, object) => {
-                self.store_plain(StoredCall::LabelOf(*container, *object))
+                self.store_plain(heap, StoredCall::LabelOf(*container, *object))
             }
         }
     }
 
     // Stores a call that names no label and no bytes.
-    fn store_plain(&mut self, call: StoredCall) -> Result<StoredCall, AllocError>
+    fn store_plain<H: Heap>(&mut self, heap: H, call: StoredCall) -> Result<StoredCall, AllocError>
         ensures value { IfOk result (λ stored. stored ≡ call) }
         ensures entries { self.new.entries ≡ self.old.entries }
         ensures room { OnOk result (0 < self.new.room) }
+        ensures memory { OnErr result H.Refused }
     {
-        self.make_room()?;
+        self.make_room(heap)?;
         Ok(call)
     }
 
     /// Stores a call that gives the thread another label.
-    pub fn store_set_label(&mut self, label: &Label) -> Result<StoredCall, AllocError>
+    pub fn store_set_label<H: Heap>(
+        &mut self,
+        heap: H,
+        label: &Label,
+    ) -> Result<StoredCall, AllocError>
         ensures stands { IfOk result (λ stored. StandsFor self.new stored (calls.SetLabel label.now)) }
         ensures entries { self.new.entries ≡ self.old.entries }
         ensures room { OnOk result (0 < self.new.room) }
+        ensures memory { OnErr result H.Refused }
     {
-        let label = self.keep_label(label)?;
-        self.make_room()?;
+        let label = self.keep_label(heap, label)?;
+        self.make_room(heap)?;
         Ok(StoredCall::SetLabel(label))
     }
 
     /// Stores a call that gives the thread another clearance.
-    pub fn store_set_clearance(&mut self, clearance: &Label) -> Result<StoredCall, AllocError>
+    pub fn store_set_clearance<H: Heap>(
+        &mut self,
+        heap: H,
+        clearance: &Label,
+    ) -> Result<StoredCall, AllocError>
         ensures stands { IfOk result (λ stored. StandsFor self.new stored (calls.SetClearance clearance.now)) }
         ensures entries { self.new.entries ≡ self.old.entries }
         ensures room { OnOk result (0 < self.new.room) }
+        ensures memory { OnErr result H.Refused }
     {
-        let clearance = self.keep_label(clearance)?;
-        self.make_room()?;
+        let clearance = self.keep_label(heap, clearance)?;
+        self.make_room(heap)?;
         Ok(StoredCall::SetClearance(clearance))
     }
 
     /// Stores a call that makes a segment, and returns the Id of its bytes too.
-    pub fn store_make_segment(
+    pub fn store_make_segment<H: Heap>(
         &mut self,
+        heap: H,
         container: ObjId,
         label: &Label,
         bytes: Bytes,
@@ -106,16 +120,18 @@ impl Trace {
         ensures bytes { IfOk result (λ stored. slice_get self.new.bytes stored.1 ≡ Some bytes) }
         ensures entries { self.new.entries ≡ self.old.entries }
         ensures room { OnOk result (0 < self.new.room) }
+        ensures memory { OnErr result H.Refused }
     {
-        let label = self.keep_label(label)?;
-        let bytes = self.keep_bytes(bytes)?;
-        self.make_room()?;
+        let label = self.keep_label(heap, label)?;
+        let bytes = self.keep_bytes(heap, bytes)?;
+        self.make_room(heap)?;
         Ok((StoredCall::MakeSegment(container, label, bytes), bytes))
     }
 
     /// Stores a call that makes a container.
-    pub fn store_make_container(
+    pub fn store_make_container<H: Heap>(
         &mut self,
+        heap: H,
         container: ObjId,
         label: &Label,
     ) -> Result<StoredCall, AllocError>
@@ -123,15 +139,17 @@ impl Trace {
             StandsFor self.new stored (calls.MakeContainer container label.now)) }
         ensures entries { self.new.entries ≡ self.old.entries }
         ensures room { OnOk result (0 < self.new.room) }
+        ensures memory { OnErr result H.Refused }
     {
-        let label = self.keep_label(label)?;
-        self.make_room()?;
+        let label = self.keep_label(heap, label)?;
+        self.make_room(heap)?;
         Ok(StoredCall::MakeContainer(container, label))
     }
 
     /// Stores a call that makes a thread.
-    pub fn store_make_thread(
+    pub fn store_make_thread<H: Heap>(
         &mut self,
+        heap: H,
         container: ObjId,
         label: &Label,
         clearance: &Label,
@@ -140,16 +158,18 @@ impl Trace {
             StandsFor self.new stored (calls.MakeThread container label.now clearance.now)) }
         ensures entries { self.new.entries ≡ self.old.entries }
         ensures room { OnOk result (0 < self.new.room) }
+        ensures memory { OnErr result H.Refused }
     {
-        let label = self.keep_label(label)?;
-        let clearance = self.keep_label(clearance)?;
-        self.make_room()?;
+        let label = self.keep_label(heap, label)?;
+        let clearance = self.keep_label(heap, clearance)?;
+        self.make_room(heap)?;
         Ok(StoredCall::MakeThread(container, label, clearance))
     }
 
     /// Stores a call that makes a gate.
-    pub fn store_make_gate(
+    pub fn store_make_gate<H: Heap>(
         &mut self,
+        heap: H,
         container: ObjId,
         label: &Label,
         clearance: &Label,
@@ -159,16 +179,18 @@ impl Trace {
             StandsFor self.new stored (calls.MakeGate container label.now clearance.now entry)) }
         ensures entries { self.new.entries ≡ self.old.entries }
         ensures room { OnOk result (0 < self.new.room) }
+        ensures memory { OnErr result H.Refused }
     {
-        let label = self.keep_label(label)?;
-        let clearance = self.keep_label(clearance)?;
-        self.make_room()?;
+        let label = self.keep_label(heap, label)?;
+        let clearance = self.keep_label(heap, clearance)?;
+        self.make_room(heap)?;
         Ok(StoredCall::MakeGate(container, label, clearance, entry))
     }
 
     /// Stores a call that enters a gate.
-    pub fn store_enter(
+    pub fn store_enter<H: Heap>(
         &mut self,
+        heap: H,
         container: ObjId,
         gate: ObjId,
         labels: HandedLabels,
@@ -177,17 +199,19 @@ impl Trace {
             labels.entry.wanted.now labels.entry.clearance.now labels.entry.verify.now)) }
         ensures entries { self.new.entries ≡ self.old.entries }
         ensures room { OnOk result (0 < self.new.room) }
+        ensures memory { OnErr result H.Refused }
     {
-        let wanted = self.keep_label(labels.wanted)?;
-        let clearance = self.keep_label(labels.clearance)?;
-        let verify = self.keep_label(labels.verify)?;
-        self.make_room()?;
+        let wanted = self.keep_label(heap, labels.wanted)?;
+        let clearance = self.keep_label(heap, labels.clearance)?;
+        let verify = self.keep_label(heap, labels.verify)?;
+        self.make_room(heap)?;
         Ok(StoredCall::Enter(container, gate, wanted, clearance, verify))
     }
 
     /// Stores a call that writes a segment, and returns the Id of its bytes too.
-    pub fn store_write(
+    pub fn store_write<H: Heap>(
         &mut self,
+        heap: H,
         container: ObjId,
         segment: ObjId,
         keep: u32,
@@ -198,9 +222,10 @@ impl Trace {
         ensures bytes { IfOk result (λ stored. slice_get self.new.bytes stored.1 ≡ Some bytes) }
         ensures entries { self.new.entries ≡ self.old.entries }
         ensures room { OnOk result (0 < self.new.room) }
+        ensures memory { OnErr result H.Refused }
     {
-        let bytes = self.keep_bytes(bytes)?;
-        self.make_room()?;
+        let bytes = self.keep_bytes(heap, bytes)?;
+        self.make_room(heap)?;
         Ok((StoredCall::Write(container, segment, keep, bytes), bytes))
     }
 }

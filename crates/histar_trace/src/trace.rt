@@ -1,5 +1,5 @@
 //! The trace of raw calls.
-ghost use Rattle.std.specs.Prelude.{◌≡◌, ◌↔◌, ◌<◌, [], IfOk, IsSome, IsTrue, OnOk, Some, length, slice_get};
+ghost use Rattle.std.specs.Prelude.{OnErr, ◌≡◌, ◌↔◌, ◌<◌, [], IfOk, IsSome, IsTrue, OnOk, Some, length, slice_get};
 ghost use Rattle.histar_label.specs.Store.{Keeps};
 ghost use Rattle.histar_rules.specs.declared.raw.RawCall.{RawCall as RawCallOf};
 ghost use Rattle.histar_trace.specs.Stored.{IsKept, IsStored, call_of, label_of};
@@ -9,10 +9,11 @@ use crate::entries::TraceEntry;
 use crate::labels::{LabelId, TraceLabels};
 use crate::stored::{BytesId, StoredCall, StoredEntry};
 use histar_base::Bytes;
+use histar_heap::Heap;
 use histar_label::Label;
 use histar_object::ObjId;
 use histar_rules::{HandedLabel, RawCall, Refusal};
-use std::alloc::{AllocError, Global};
+use std::alloc::AllocError;
 use std::marker::Model;
 
 /// The number of entries for which a trace has room from the start. Memory that holds no entry yet isn't touched,
@@ -54,13 +55,14 @@ impl Model for Trace {
 
 impl Trace {
     /// Makes a trace of no calls.
-    pub fn new(alloc: Global) -> Result<Trace, AllocError>
-        ensures { IfOk result (λ trace. trace.entries ≡ []) }
+    pub fn new<H: Heap>(heap: H) -> Result<Trace, AllocError>
+        ensures ok { IfOk result (λ trace. trace.entries ≡ []) }
+        ensures memory { OnErr result H.Refused }
     {
         Ok(Trace {
-            entries: Vec::with_capacity(alloc, FIRST_ROOM)?,
-            labels: TraceLabels::new(alloc)?,
-            bytes: Vec::with_capacity(alloc, FIRST_BYTES)?,
+            entries: heap.with_room(FIRST_ROOM)?,
+            labels: TraceLabels::new(heap)?,
+            bytes: heap.with_room(FIRST_BYTES)?,
         })
     }
 
@@ -79,54 +81,56 @@ impl Trace {
     }
 
     /// Returns a copy of the entry at a place, with its labels and its bytes.
-    pub fn entry(&self, alloc: Global, at: usize) -> Result<TraceEntry, AllocError>
+    pub fn entry<H: Heap>(&self, heap: H, at: usize) -> Result<TraceEntry, AllocError>
         requires { at < length self.now.entries }
-        ensures { IfOk result (λ entry. slice_get self.now.entries at ≡ Some entry) }
+        ensures ok { IfOk result (λ entry. slice_get self.now.entries at ≡ Some entry) }
+        ensures memory { OnErr result H.Refused }
     {
         let stored = &self.entries[at];
         Ok(TraceEntry {
             line: stored.line,
             thread: stored.thread,
-            call: self.call(alloc, &stored.call)?,
+            call: self.call(heap, &stored.call)?,
             denied: stored.denied,
         })
     }
 
     // Makes the raw call that a stored call stands for.
-    fn call(&self, alloc: Global, stored: &StoredCall) -> Result<RawCall, AllocError>
+    fn call<H: Heap>(&self, heap: H, stored: &StoredCall) -> Result<RawCall, AllocError>
         requires { IsStored self.now.labels self.now.bytes stored.now }
-        ensures { IfOk result (λ call. call ≡ call_of self.now.labels self.now.bytes stored.now) }
+        ensures ok { IfOk result (λ call. call ≡ call_of self.now.labels self.now.bytes stored.now) }
+        ensures memory { OnErr result H.Refused }
     {
         match *stored {
             StoredCall::MakeCategory => Ok(RawCall::MakeCategory),
             StoredCall::OwnLabel => Ok(RawCall::OwnLabel),
-            StoredCall::SetLabel(label) => self.label(alloc, label).map(RawCall::SetLabel),
-            StoredCall::SetClearance(label) => self.label(alloc, label).map(RawCall::SetClearance),
+            StoredCall::SetLabel(label) => self.label(heap, label).map(RawCall::SetLabel),
+            StoredCall::SetClearance(label) => self.label(heap, label).map(RawCall::SetClearance),
             StoredCall::MakeSegment(container, label, bytes) => {
-                let label = self.label(alloc, label)?;
-                let bytes = self.bytes(bytes).copy(alloc)?;
+                let label = self.label(heap, label)?;
+                let bytes = self.bytes(bytes).copy(heap)?;
                 Ok(RawCall::MakeSegment(container, label, bytes))
             }
             StoredCall::MakeContainer(container, label) => {
-                let label = self.label(alloc, label)?;
+                let label = self.label(heap, label)?;
                 Ok(RawCall::MakeContainer(container, label))
             }
             StoredCall::MakeThread(container, label, clearance) => {
-                let (label, clearance) = self.pair(alloc, label, clearance)?;
+                let (label, clearance) = self.pair(heap, label, clearance)?;
                 Ok(RawCall::MakeThread(container, label, clearance))
             }
             StoredCall::MakeGate(container, label, clearance, entry) => {
-                let (label, clearance) = self.pair(alloc, label, clearance)?;
+                let (label, clearance) = self.pair(heap, label, clearance)?;
                 Ok(RawCall::MakeGate(container, label, clearance, entry))
             }
             StoredCall::Enter(container, gate, wanted, clearance, verify) => {
-                let (wanted, clearance) = self.pair(alloc, wanted, clearance)?;
-                let verify = self.label(alloc, verify)?;
+                let (wanted, clearance) = self.pair(heap, wanted, clearance)?;
+                let verify = self.label(heap, verify)?;
                 Ok(RawCall::Enter(container, gate, wanted, clearance, verify))
             }
             StoredCall::Read(container, segment) => Ok(RawCall::Read(container, segment)),
             StoredCall::Write(container, segment, keep, bytes) => {
-                let bytes = self.bytes(bytes).copy(alloc)?;
+                let bytes = self.bytes(bytes).copy(heap)?;
                 Ok(RawCall::Write(container, segment, keep, bytes))
             }
             StoredCall::Unlink(container, object) => Ok(RawCall::Unlink(container, object)),
@@ -135,27 +139,29 @@ impl Trace {
     }
 
     // Copies the label of an Id.
-    fn label(&self, alloc: Global, id: LabelId) -> Result<HandedLabel, AllocError>
+    fn label<H: Heap>(&self, heap: H, id: LabelId) -> Result<HandedLabel, AllocError>
         requires { IsKept self.now.labels id }
-        ensures { IfOk result (λ label. label ≡ label_of self.now.labels id) }
+        ensures ok { IfOk result (λ label. label ≡ label_of self.now.labels id) }
+        ensures memory { OnErr result H.Refused }
     {
-        HandedLabel::new(alloc, self.labels.copy(alloc, id)?)
+        HandedLabel::new(heap, self.labels.copy(heap, id)?)
     }
 
     // Copies the labels of two Ids.
-    fn pair(
+    fn pair<H: Heap>(
         &self,
-        alloc: Global,
+        heap: H,
         first: LabelId,
         second: LabelId,
     ) -> Result<(HandedLabel, HandedLabel), AllocError>
         requires first { IsKept self.now.labels first }
         requires second { IsKept self.now.labels second }
-        ensures { IfOk result (λ labels. (labels.0 ≡ label_of self.now.labels first)
+        ensures ok { IfOk result (λ labels. (labels.0 ≡ label_of self.now.labels first)
             × (labels.1 ≡ label_of self.now.labels second)) }
+        ensures memory { OnErr result H.Refused }
     {
-        let first = self.label(alloc, first)?;
-        let second = self.label(alloc, second)?;
+        let first = self.label(heap, first)?;
+        let second = self.label(heap, second)?;
         Ok((first, second))
     }
 
@@ -168,36 +174,45 @@ impl Trace {
     }
 
     /// Keeps a label, to be named by a stored call.
-    pub(crate) fn keep_label(&mut self, label: &Label) -> Result<LabelId, AllocError>
+    pub(crate) fn keep_label<H: Heap>(
+        &mut self,
+        heap: H,
+        label: &Label,
+    ) -> Result<LabelId, AllocError>
         ensures kept { IfOk result (λ id. slice_get self.new.labels id ≡ Some label.now) }
         ensures keeps { Keeps (slice_get self.old.labels) (slice_get self.new.labels) }
         ensures bytes { self.new.bytes ≡ self.old.bytes }
         ensures entries { self.new.entries ≡ self.old.entries }
+        ensures memory { OnErr result H.Refused }
     {
-        self.labels.keep(label)
+        self.labels.keep(heap, label)
     }
 
     /// Keeps bytes, to be named by a stored call.
-    pub(crate) fn keep_bytes(&mut self, bytes: Bytes) -> Result<BytesId, AllocError>
+    pub(crate) fn keep_bytes<H: Heap>(
+        &mut self,
+        heap: H,
+        bytes: Bytes,
+    ) -> Result<BytesId, AllocError>
         ensures kept { IfOk result (λ id. slice_get self.new.bytes id ≡ Some bytes) }
         ensures labels { self.new.labels ≡ self.old.labels }
         ensures entries { self.new.entries ≡ self.old.entries }
+        ensures memory { OnErr result H.Refused }
     {
-        let Ok(id) = u32::try_from(self.bytes.len()) else {
-            return Err(AllocError);
-        };
-        self.bytes.push(bytes)?;
+        let id = heap.place(&self.bytes)?;
+        heap.push(&mut self.bytes, bytes)?;
         Ok(BytesId(id))
     }
 
     /// Makes room for one more entry.
-    pub fn make_room(&mut self) -> Result<(), AllocError>
+    pub fn make_room<H: Heap>(&mut self, heap: H) -> Result<(), AllocError>
         ensures room { OnOk result (0 < self.new.room) }
         ensures labels { self.new.labels ≡ self.old.labels }
         ensures bytes { self.new.bytes ≡ self.old.bytes }
         ensures entries { self.new.entries ≡ self.old.entries }
+        ensures memory { OnErr result H.Refused }
     {
-        self.entries.reserve(1)
+        heap.reserve(&mut self.entries)
     }
 
     /// Records a call that was stored, with its outcome, and returns the outcome. A call that ran out of memory

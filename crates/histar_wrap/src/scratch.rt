@@ -46,7 +46,7 @@ pub fn make_scratch<S: LabelStore + Drop>(
         name,
     } = room;
     let thread = wrapper.thread;
-    let same = label.copy()?;
+    let same = label.copy(alloc)?;
     let container = make_or_give_back(alloc, kernel, wrapper, place.container, label)?;
     let empty = Bytes::new(alloc);
     let listing = kernel.make_segment(alloc, thread, container, same, empty)?;
@@ -76,17 +76,21 @@ fn make_or_give_back<S: LabelStore + Drop>(
     let CallError::Refused(errno) = CallError::from(refusal) else {
         return Err(CallError::Stopped);
     };
-    restore(kernel, wrapper)?;
+    restore(alloc, kernel, wrapper)?;
     Err(CallError::Refused(errno))
 }
 
 // Gives the wrapper its own label and clearance again.
-fn restore<S: LabelStore + Drop>(kernel: &mut Kernel<S>, wrapper: &Wrapper) -> Result<(), CallError>
+fn restore<S: LabelStore + Drop>(
+    alloc: Global,
+    kernel: &mut Kernel<S>,
+    wrapper: &Wrapper,
+) -> Result<(), CallError>
     ensures { RunsPart (restore (wrapper.now.own, wrapper.now.clearance)) kernel.old kernel.new
         wrapper.now.thread result }
 {
-    stopping(kernel.set_label(wrapper.thread, wrapper.own.copy()?))?;
-    stopping(kernel.set_clearance(wrapper.thread, wrapper.clearance.copy()?))
+    stopping(kernel.set_label(alloc, wrapper.thread, wrapper.own.copy(alloc)?))?;
+    stopping(kernel.set_clearance(alloc, wrapper.thread, wrapper.clearance.copy(alloc)?))
 }
 
 // Returns the answer of a raw call that may not be refused: a refusal ends the call without a reply.
@@ -102,6 +106,7 @@ fn stopping(answer: Result<(), Refusal>) -> Result<(), CallError>
 /// Gives the wrapper its own label and clearance again, but the label owns the job's category, and the
 /// clearance has it at 3.
 pub fn hold_job<S: LabelStore + Drop>(
+    alloc: Global,
     kernel: &mut Kernel<S>,
     wrapper: &Wrapper,
     job: Category,
@@ -109,9 +114,9 @@ pub fn hold_job<S: LabelStore + Drop>(
     ensures { RunsPart (hold_job (wrapper.now.own, wrapper.now.clearance) job) kernel.old kernel.new
         wrapper.now.thread result }
 {
-    let label = wrapper.own.with(job, Level::Star)?;
-    kernel.set_label(wrapper.thread, label)?;
-    let clearance = wrapper.clearance.with(job, Level::L3)?;
-    kernel.set_clearance(wrapper.thread, clearance)?;
+    let label = wrapper.own.with(alloc, job, Level::Star)?;
+    kernel.set_label(alloc, wrapper.thread, label)?;
+    let clearance = wrapper.clearance.with(alloc, job, Level::L3)?;
+    kernel.set_clearance(alloc, wrapper.thread, clearance)?;
     Ok(())
 }

@@ -89,8 +89,8 @@ fn start_job<S: LabelStore + Drop>(
         unix.now.caller.now.thread result }
 {
     let (home, thread) = (&unix.caller.home, unix.caller.thread);
-    let (own, clearance) = kernel.own_label(thread)?;
-    let job = kernel.make_category(thread)?;
+    let (own, clearance) = kernel.own_label(alloc, thread)?;
+    let job = kernel.make_category(alloc, thread)?;
     let wrapper = Wrapper {
         thread,
         own,
@@ -151,7 +151,7 @@ fn fill_job<S: LabelStore + Drop>(
         jobs: jobs.as_slice(),
     };
     give_birth(alloc, kernel, wrapper.thread, parent, &inherited)?;
-    hold_job(kernel, &wrapper, job)
+    hold_job(alloc, kernel, &wrapper, job)
 }
 
 // Returns the jobs that a thread of this label is in, and one more.

@@ -33,7 +33,7 @@ listing_it g c =
 pub returns-in_err-listing : goal.returns-in_err-listing
 returns-in_err-listing g c =
     ends_in_so _ (after_listing _ _) (listing_it g (goal.at.returns-in_err-listing g c).In_ok-container) _ _ _
-    c.from_residual-in_err-listing.ensures.1 (makes _ _ _ _ _ _ _ c.in_ok-same.ensures c.new-empty.ensures _ (refuses _ _ _
+    c.from_residual-in_err-listing.ensures.1 (makes _ _ _ _ _ _ _ c.in_ok-same.ensures.ok c.new-empty.ensures _ (refuses _ _ _
     _ _ _ c.in_err-listing.ensures.answered))
 
 -- once the directory segment was made, the entry is left
@@ -43,7 +43,7 @@ entering : (g : given.Over) (c : In_ok-listing g)
     → LeavesPart (Unit {0}) c.args.thread (add_directory c.args.label c.args.room) c.args.kernel.now
     (after_listing c.args.room c.in_ok-container.container c.in_ok-listing.listing) c.make_segment.new.self
 entering g c way =
-    further_in _ (after_listing _ _) way _ _ (makes _ _ _ _ _ _ _ c.in_ok-same.ensures c.new-empty.ensures _ (grants _ _ _
+    further_in _ (after_listing _ _) way _ _ (makes _ _ _ _ _ _ _ c.in_ok-same.ensures.ok c.new-empty.ensures _ (grants _ _ _
     _ _ c.in_ok-listing.ensures.answered.0 c.in_ok-listing.ensures.answered.1))
 
 pub returns-in_err-insert : goal.returns-in_err-insert

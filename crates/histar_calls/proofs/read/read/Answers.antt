@@ -25,12 +25,12 @@ reading g c =
 pub returns-in_err-bytes : goal.returns-in_err-bytes
 returns-in_err-bytes g c =
     ends_so (ask (read_of _)) (λ bytes. Answers (Data bytes)) (reading g (goal.at.returns-in_err-bytes g c).In_ok-file)
-    _ _ _ c.from_residual-in_err-bytes.ensures.1 (refuses _ (read_of _) _ _ _ _ c.in_err-bytes.ensures)
+    _ _ _ c.from_residual-in_err-bytes.ensures.1 (refuses _ (read_of _) _ _ _ _ c.in_err-bytes.ensures.ok)
 
 pub returns : goal.returns
 returns g c =
     let end = c.read_copy.new.self in
     let bytes = c.in_ok-bytes.bytes in
     let done = further (ask (read_of _)) (λ found. Answers (Data found)) (reading g (goal.at.returns g c).In_ok-file) end bytes
-    (grants _ (read_of _) _ end bytes c.in_ok-bytes.ensures.0 c.in_ok-bytes.ensures.1) in
+    (grants _ (read_of _) _ end bytes c.in_ok-bytes.ensures.ok.0 c.in_ok-bytes.ensures.ok.1) in
     done.leads end (Ok _) (says _ end _)

@@ -54,14 +54,14 @@ asking g c =
 pub returns-in_err-label : goal.returns-in_err-label
 returns-in_err-label g c =
     ends_so _ _ (asking g (goal.at.returns-in_err-label g c).In_ok-found) _ _ _ c.from_residual-in_err-label.ensures.1 (refuses _ _ _ _ _
-    _ c.in_err-label.ensures)
+    _ c.in_err-label.ensures.ok)
 
 -- once the label is known, the reply is left
 labelled : (g : given.Over) (c : In_ok-label g)
     → Leaves c.args.unix.now.caller.now.thread (stat_program c.args.unix.now.users.now c.args.unix.now.roots.now c.args.path.now) c.args.kernel.now
     (after_label c.args.unix.now.users.now c.in_ok-found.found c.in_ok-label.label) c.label_of.new.self
 labelled g c =
-    further _ _ (asking g c.before.before.before.before) _ _ (grants _ _ _ _ _ c.in_ok-label.ensures.0 c.in_ok-label.ensures.1)
+    further _ _ (asking g c.before.before.before.before) _ _ (grants _ _ _ _ _ c.in_ok-label.ensures.ok.0 c.in_ok-label.ensures.ok.1)
 
 pub returns-in_default : goal.returns-in_default
 returns-in_default g c =

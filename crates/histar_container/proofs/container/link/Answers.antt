@@ -46,4 +46,5 @@ returns-in_default-kind g c =
           changes.objects;
       err = tt;
       room = changes.room;
+      memory = tt;
     }

@@ -8,7 +8,7 @@ pub loop-read-init : goal.loop-read-init
 loop-read-init g c = record {
   in_list = omega arith;
   gathers =
-      gathers_init (objects_of c.args.table.now) c.args.object c.new-list.result.items c.push.new.self.items
+      gathers_init (objects_of c.args.table.now) c.args.object c.new-list.result.items c.push.new.list.items
       c.new-list.ensures.items c.in_ok-push.ensures.items;
 }
 
@@ -16,21 +16,21 @@ pub loop-read-smaller : goal.loop-read-smaller
 loop-read-smaller g c =
     step_fewer c.args.table.now c.requires.tree c.args.container c.args.object c.requires.linked c.loop-read.list.items
     c.append_links.new.list.items c.loop-read.read c.index-number.result.now
-    (omega arith) c.index-number.ensures c.loop-read.invariant.gathers c.in_ok-append_links.ensures
+    (omega arith) c.index-number.ensures c.loop-read.invariant.gathers c.in_ok-append_links.ensures.ok
 
 pub loop-read-preserved : goal.loop-read-preserved
 loop-read-preserved g c = record {
   in_list =
       step_in_list c.args.table.now c.requires.tree c.args.container c.args.object c.requires.linked
       c.loop-read.list.items c.append_links.new.list.items c.loop-read.read c.index-number.result.now
-      (omega arith) c.index-number.ensures c.loop-read.invariant.gathers c.in_ok-append_links.ensures;
+      (omega arith) c.index-number.ensures c.loop-read.invariant.gathers c.in_ok-append_links.ensures.ok;
   gathers =
       step_gathers c.args.table.now c.requires.tree c.args.container c.args.object c.requires.linked
       c.loop-read.list.items c.append_links.new.list.items c.loop-read.read c.index-number.result.now
-      (omega arith) c.index-number.ensures c.loop-read.invariant.gathers c.in_ok-append_links.ensures;
+      (omega arith) c.index-number.ensures c.loop-read.invariant.gathers c.in_ok-append_links.ensures.ok;
 }
 
-pub returns : goal.returns
-returns g c =
+pub returns-clause-ok : goal.returns-clause-ok
+returns-clause-ok g c =
     gathers_end (objects_of c.args.table.now) c.args.object c.loop-read.list.items c.loop-read.read (omega arith)
     c.loop-read.invariant.gathers

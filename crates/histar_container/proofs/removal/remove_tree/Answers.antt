@@ -19,5 +19,5 @@ returns-clause-ok g c =
     c.requires.tree c.args.container c.args.object c.requires.linked
     c.deref-number-items.result.now c.loop-number.number-index (omega arith)
     (λ q. subst (λ l. (is_member nat_eq l q ≡ true) ↔ Reached (objects_of c.args.table.now) c.args.object q)
-    (sym c.deref-number-items.ensures.value) (c.in_ok-gone.ensures q))
+    (sym c.deref-number-items.ensures.value) (c.in_ok-gone.ensures.ok q))
     c.unlink.ensures c.loop-number.invariant

@@ -4,4 +4,4 @@ use Rattle.std.specs.List.{All}
 use Rattle.histar_label.proofs.intern_store.no_answers.Given as goal
 
 abbrev pub invariant-places : goal.invariant-places
-invariant-places l = All (λ o. o ≡ None) l.places.items
+invariant-places g l = All (λ o. o ≡ None) l.places.items

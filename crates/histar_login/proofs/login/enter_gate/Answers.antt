@@ -30,8 +30,8 @@ is_gate g c result =
 pub returns-in_err-entry : goal.returns-in_err-entry
 returns-in_err-entry g c =
     fails_so _ _ _ _ _ _ c.from_residual-in_err-entry.ensures.1 (is_gate g (goal.at.returns-in_err-entry g c).After-enter _ (refuses _ _
-    _ _ _ _ c.in_err-entry.ensures))
+    _ _ _ _ c.in_err-entry.ensures.ok))
 
 pub returns : goal.returns
 returns g c =
-    is_gate g (goal.at.returns g c).After-enter _ (grants _ _ _ _ _ c.in_ok-entry.ensures.0 c.in_ok-entry.ensures.1)
+    is_gate g (goal.at.returns g c).After-enter _ (grants _ _ _ _ _ c.in_ok-entry.ensures.ok.0 c.in_ok-entry.ensures.ok.1)

@@ -12,7 +12,7 @@ use Rattle.histar_login.proofs.login.login_as.Goals.{In_ok-own, In_ok-enter_gate
 pub returns-in_err-own : goal.returns-in_err-own
 returns-in_err-own g c =
     ends_so _ (after_own c.args.caller.now _ c.args.given.owners.now c.args.password) (begun _ _ _ _ _ _) _ _ _ c.from_residual.ensures.1
-    (refuses _ OwnLabel _ _ _ _ c.in_err-own.ensures)
+    (refuses _ OwnLabel _ _ _ _ c.in_err-own.ensures.ok)
 
 -- once the thread has its own label, the gate is left
 at_gate : (g : given.Over) (c : In_ok-own g)
@@ -20,7 +20,7 @@ at_gate : (g : given.Over) (c : In_ok-own g)
     (after_own c.args.caller.now c.args.number c.args.given.owners.now c.args.password c.in_ok-own.own) c.own_label.new.self
 at_gate g c =
     further _ (after_own c.args.caller.now _ c.args.given.owners.now c.args.password) (begun _ _ _ _ _ _) _ _
-    (grants _ OwnLabel _ _ _ c.in_ok-own.ensures.0 c.in_ok-own.ensures.1)
+    (grants _ OwnLabel _ _ _ c.in_ok-own.ensures.ok.0 c.in_ok-own.ensures.ok.1)
 
 pub returns-in_err-enter_gate : goal.returns-in_err-enter_gate
 returns-in_err-enter_gate g c =

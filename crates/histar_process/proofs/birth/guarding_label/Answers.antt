@@ -8,4 +8,4 @@ pub returns : goal.returns
 returns c =
     let guard = c.args.guard.now in
     c.in_ok-set.ensures.ok
-    ∙ guarding _ _ _ L1 L3 L0 guard.own.now guard.jobs.now c.in_ok-label.ensures c.in_ok-set_each.ensures _ c.in_ok-set_each-2.ensures
+    ∙ guarding _ _ _ L1 L3 L0 guard.own.now guard.jobs.now c.in_ok-label.ensures.ok c.in_ok-set_each.ensures _ c.in_ok-set_each-2.ensures

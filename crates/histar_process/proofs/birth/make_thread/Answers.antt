@@ -16,9 +16,9 @@ returns-in_err-label g c =
 pub returns-in_err-made : goal.returns-in_err-made
 returns-in_err-made g c =
     fails_so _ _ _ _ _ _ c.from_residual-in_err-made.ensures.1
-    (thread_so _ _ _ _ _ _ _ _ c.in_ok-label.ensures.label c.in_ok-label.ensures.clearance _ (refuses _ _ _ _ _ _ c.in_err-made.ensures))
+    (thread_so _ _ _ _ _ _ _ _ c.in_ok-label.ensures.label c.in_ok-label.ensures.clearance _ (refuses _ _ _ _ _ _ c.in_err-made.ensures.ok))
 
 pub returns : goal.returns
 returns g c =
     thread_so _ _ _ _ _ _ _ _ c.in_ok-label.ensures.label c.in_ok-label.ensures.clearance _
-    (grants _ _ _ _ _ c.in_ok-made.ensures.0 c.in_ok-made.ensures.1)
+    (grants _ _ _ _ _ c.in_ok-made.ensures.ok.0 c.in_ok-made.ensures.ok.1)

@@ -38,10 +38,10 @@ pub returns-in_err-unlink : goal.returns-in_err-unlink
 returns-in_err-unlink g c status segment =
     fails_so _ _ _ _ _ _ c.from_residual-in_err-unlink.ensures.1 (unlinked _ _ status _ _ _ _ segment _
     (written g (goal.at.returns-in_err-unlink g c).After-write_segment status segment (Ok tt) c.in_ok-write_segment.ensures) _
-    (refuses _ _ _ _ _ _ c.in_err-unlink.ensures))
+    (refuses _ _ _ _ _ _ c.in_err-unlink.ensures.ok))
 
 pub returns : goal.returns
 returns g c status segment =
     unlinked _ _ status _ _ _ _ segment _
     (written g (goal.at.returns g c).After-write_segment status segment (Ok tt) c.in_ok-write_segment.ensures) (Ok tt)
-    (grants _ _ _ _ tt c.in_ok-unlink.ensures.0 tt)
+    (grants _ _ _ _ tt c.in_ok-unlink.ensures.ok.0 tt)

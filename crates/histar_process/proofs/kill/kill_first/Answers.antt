@@ -24,11 +24,11 @@ returns-in_err-unlink g c =
     call_fails_so _ _ _ _ _ _ c.from_residual-in_err-unlink.ensures.1 (then_call _ _ _ _
     (λ (head : StatusHead). ask (Unlink root_number c.args.unix.now.roots.now.home.container) (λ _. Answers Done)) _ _ c.in_ok-read_head.ensures _
     (call_fails _ _ _ _ (λ _. Answers Done) _ (unlinked_so _ _ _ _ root_number _ _ c.new.ensures refl _ (refuses _ _ _ _
-    _ _ c.in_err-unlink.ensures))))
+    _ _ c.in_err-unlink.ensures.ok))))
 
 pub returns : goal.returns
 unfolding kill_program read_head
 returns g c =
     then_call _ _ _ _ (λ (head : StatusHead). ask (Unlink root_number c.args.unix.now.roots.now.home.container) (λ _. Answers Done)) _
     _ c.in_ok-read_head.ensures _ (then_call _ _ _ _ (λ _. Answers Done) _ tt (unlinked_so _ _ _ _ root_number _ _ c.new.ensures refl (Ok tt)
-    (grants _ _ _ _ tt c.in_ok-unlink.ensures.0 tt)) _ (says _ _ Done))
+    (grants _ _ _ _ tt c.in_ok-unlink.ensures.ok.0 tt)) _ (says _ _ Done))

@@ -80,10 +80,10 @@ pub returns-in_err-unlink : goal.returns-in_err-unlink
 returns-in_err-unlink g c status is =
     ends_in_so _ (after_unlink _ status _) (left g (goal.at.returns-in_err-unlink g c).After-read_head status is _ c.in_ok-read_head.ensures)
     _ _ _ c.from_residual-in_err-unlink.ensures.1 (its_container g (goal.at.returns-in_err-unlink g c).After-unlink _
-    (refuses _ _ _ _ _ _ c.in_err-unlink.ensures))
+    (refuses _ _ _ _ _ _ c.in_err-unlink.ensures.ok))
 
 pub returns : goal.returns
 returns g c status is =
     (further_in _ (after_unlink _ status _) (left g (goal.at.returns g c).After-read_head status is _ c.in_ok-read_head.ensures)
-    _ tt (its_container g (goal.at.returns g c).After-unlink (Ok tt) (grants _ _ _ _ tt c.in_ok-unlink.ensures.0 tt))).leads _ _
+    _ tt (its_container g (goal.at.returns g c).After-unlink (Ok tt) (grants _ _ _ _ tt c.in_ok-unlink.ensures.ok.0 tt))).leads _ _
     (written_so _ _ _ _ _ _ (c.in_ok-without.ensures status is) _ c.write_segment.ensures)

@@ -5,13 +5,13 @@ use Rattle.histar_process.proofs.spawn.take_labels.Goals as goal
 
 pub returns-in_err-set_label : goal.returns-in_err-set_label
 returns-in_err-set_label g c =
-    without_label _ _ _ _ _ _ c.from_residual.ensures.1 (refuses _ _ _ _ _ _ c.in_err-set_label.ensures)
+    without_label _ _ _ _ _ _ c.from_residual.ensures.1 (refuses _ _ _ _ _ _ c.in_err-set_label.ensures.ok)
 
 pub returns-in_err-set_clearance : goal.returns-in_err-set_clearance
 returns-in_err-set_clearance g c =
     fails_so _ _ _ _ _ _ c.from_residual-in_err-set_clearance.ensures.1
-    ((with_label _ _ _ _ c.in_ok-set_label.ensures.0).leads _ _ (refuses _ _ _ _ _ _ c.in_err-set_clearance.ensures))
+    ((with_label _ _ _ _ c.in_ok-set_label.ensures.ok.0).leads _ _ (refuses _ _ _ _ _ _ c.in_err-set_clearance.ensures.ok))
 
 pub returns : goal.returns
 returns g c =
-    (with_label _ _ _ _ c.in_ok-set_label.ensures.0).leads _ _ (grants _ _ _ _ tt c.in_ok-set_clearance.ensures.0 tt)
+    (with_label _ _ _ _ c.in_ok-set_label.ensures.ok.0).leads _ _ (grants _ _ _ _ tt c.in_ok-set_clearance.ensures.ok.0 tt)

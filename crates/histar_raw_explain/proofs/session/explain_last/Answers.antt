@@ -8,5 +8,5 @@ pub returns : goal.returns
 returns g c =
     let S = c.trace-trace.result.now.entries in
     let e = c.in_ok-entry.entry in
-    let is : Some e ≡ slice_get S (length S - 1) = sym c.in_ok-entry.ensures ∙ ap (λ (n : ℕ). slice_get S (n - 1)) c.len.ensures in
+    let is : Some e ≡ slice_get S (length S - 1) = sym c.in_ok-entry.ensures.ok ∙ ap (λ (n : ℕ). slice_get S (n - 1)) c.len.ensures in
     last_explained c.args.kernel.now S e c.trace-trace.ensures is c.explain_entry-lines.result c.explain_entry-lines.ensures

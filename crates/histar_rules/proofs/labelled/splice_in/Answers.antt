@@ -16,7 +16,7 @@ pub returns-in_ok-new-clause-ok : goal.returns-in_ok-new-clause-ok
 returns-in_ok-new-clause-ok g c =
     let left : Object g.row.L.Denot = record { label = c.in-Some.object.now.label; kind = Segment c.in_ok-new.new } in
     spliced_there _ _ _ _ _ c.args.keep c.args.bytes.now _ c.in-Some.ensures.value c.in-Segment.is
-    (c.in_ok-new.ensures ∙ ap (λ (b : List ℕ). take c.args.keep b ++ c.args.bytes.now) c.as_slice.ensures)
+    (c.in_ok-new.ensures.ok ∙ ap (λ (b : List ℕ). take c.args.keep b ++ c.args.bytes.now) c.as_slice.ensures)
     (on_some _ _ _ c.in-Some.is (c.get_mut.follows.holds left)).objects
 
 pub returns-in_default-kind : goal.returns-in_default-kind
@@ -26,4 +26,5 @@ returns-in_default-kind g c =
       ok = held_not _ _ _ left _ c.in-Some.ensures.value (search rules)
           (on_some _ _ _ c.in-Some.is (c.get_mut.follows.holds left)).objects;
       err = tt;
+      memory = tt;
     }

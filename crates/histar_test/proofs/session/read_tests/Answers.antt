@@ -24,7 +24,7 @@ files-preserved c =
     let lt : c.files.file-index < length c.args.files.now = search rules in
     let named : NamedTest = record { name = c.in_ok-name.name; test = c.in_ok-test.test } in
     let is : IsTestOf c.file-item.result named = record {
-      name = c.in_ok-name.ensures ∙ c.as_slice-in-files.ensures.value;
+      name = c.in_ok-name.ensures.ok ∙ c.as_slice-in-files.ensures.value;
       test = ap test_of (sym c.as_slice.ensures.value) ∙ c.in_ok-test.ensures;
     } in
     subst (AllZip IsTestOf (take (c.files.file-index + 1) c.args.files.now)) (sym c.in_ok-push.ensures.items)

@@ -8,8 +8,8 @@ use Rattle.histar_container.specs.ObjectsModel.{state_of}
 use Rattle.histar_thread.proofs.Owning.{category_made}
 use Rattle.histar_thread.proofs.threads.make_category.Goals as goal
 
-pub returns : goal.returns
-returns g c =
+pub returns-clause-ok : goal.returns-clause-ok
+returns-clause-ok g c =
     let s = state_of c.args.objects.now in
     let t = c.args.thread in
     let own = c.in_ok-label.ensures.own in

@@ -29,21 +29,21 @@ returns-in_err-label g c =
 pub returns-in_err-set_label : goal.returns-in_err-set_label
 returns-in_err-set_label g c =
     without_label _ (own_of c.args.wrapper.now) _ _ _ _ _ c.from_residual-in_err-set_label.ensures.1
-    (label_so _ _ _ _ _ c.in_ok-label.ensures.value _ (refuses _ _ _ _ _ _ c.in_err-set_label.ensures))
+    (label_so _ _ _ _ _ c.in_ok-label.ensures.value _ (refuses _ _ _ _ _ _ c.in_err-set_label.ensures.ok))
 
 pub returns-in_err-clearance : goal.returns-in_err-clearance
 returns-in_err-clearance g c =
     fails_so _ _ _ _ _ _ c.from_residual-in_err-clearance.ensures.1
-    ((left g (goal.at.returns-in_err-clearance g c).After-set_label (grants _ _ _ _ tt c.in_ok-set_label.ensures.0 tt)).leads _ _
+    ((left g (goal.at.returns-in_err-clearance g c).After-set_label (grants _ _ _ _ tt c.in_ok-set_label.ensures.ok.0 tt)).leads _ _
     (before_ask c.args.wrapper.now.thread (SetClearance (with_level c.args.wrapper.now.clearance c.args.job L3)) c.set_label.new.self))
 
 pub returns-in_err-set_clearance : goal.returns-in_err-set_clearance
 returns-in_err-set_clearance g c =
     fails_so _ _ _ _ _ _ c.from_residual-in_err-set_clearance.ensures.1
-    ((left g (goal.at.returns-in_err-set_clearance g c).After-set_label (grants _ _ _ _ tt c.in_ok-set_label.ensures.0 tt)).leads _ _
-    (clearance_so _ _ _ _ _ c.in_ok-clearance.ensures.value _ (refuses _ _ _ _ _ _ c.in_err-set_clearance.ensures)))
+    ((left g (goal.at.returns-in_err-set_clearance g c).After-set_label (grants _ _ _ _ tt c.in_ok-set_label.ensures.ok.0 tt)).leads _ _
+    (clearance_so _ _ _ _ _ c.in_ok-clearance.ensures.value _ (refuses _ _ _ _ _ _ c.in_err-set_clearance.ensures.ok)))
 
 pub returns : goal.returns
 returns g c =
-    (left g (goal.at.returns g c).After-set_label (grants _ _ _ _ tt c.in_ok-set_label.ensures.0 tt)).leads _ _
-    (clearance_so _ _ _ _ _ c.in_ok-clearance.ensures.value _ (grants _ _ _ _ tt c.in_ok-set_clearance.ensures.0 tt))
+    (left g (goal.at.returns g c).After-set_label (grants _ _ _ _ tt c.in_ok-set_label.ensures.ok.0 tt)).leads _ _
+    (clearance_so _ _ _ _ _ c.in_ok-clearance.ensures.value _ (grants _ _ _ _ tt c.in_ok-set_clearance.ensures.ok.0 tt))

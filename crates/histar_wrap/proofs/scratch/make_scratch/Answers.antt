@@ -21,7 +21,7 @@ module _ (g : given.Over) (c : After-make_segment g) where
       c.make_segment.new.self c.args.wrapper.now.thread result
       → RunsPart {A = ℕ} (ask (MakeSegment c.in_ok-container.container c.args.label [])) c.make_or_give_back.new.kernel c.make_segment.new.self
       c.args.wrapper.now.thread result
-  listed = makes _ _ _ _ _ _ _ c.in_ok-same.ensures c.new-empty.ensures
+  listed = makes _ _ _ _ _ _ _ c.in_ok-same.ensures.ok c.new-empty.ensures
 
   -- the directory segment is made, and the entry is still to be made
   left : (listing : ℕ)

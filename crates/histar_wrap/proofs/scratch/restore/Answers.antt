@@ -14,7 +14,7 @@ use Rattle.histar_wrap.proofs.scratch.restore.Goals as goal
 -- the label that the wrapper had was given, or that stopped the call
 label_back : (g : given.Over) (c : After-set_label g) (result : Result (Unit {0}) CallError) → result ≡ stopping c.set_label.result
     → RunsPart (ask_or_stop (SetLabel c.args.wrapper.now.own)) c.args.kernel.now c.set_label.new.self c.args.wrapper.now.thread result
-label_back g c = label_given _ _ _ _ _ c.in_ok-copy.ensures _ c.set_label.ensures
+label_back g c = label_given _ _ _ _ _ c.in_ok-copy.ensures.ok _ c.set_label.ensures.ok
 
 pub returns-in_err-copy : goal.returns-in_err-copy
 returns-in_err-copy g c =
@@ -35,4 +35,4 @@ returns-in_err-copy-2 g c =
 pub returns : goal.returns
 returns g c =
     label_then _ _ _ (own_of c.args.wrapper.now) _ (label_back g (goal.at.returns g c).After-set_label (Ok tt) c.in_ok-stopping.ensures) _
-    (clearance_given _ _ _ _ _ c.in_ok-copy-2.ensures _ c.set_clearance.ensures _ c.stopping-2.ensures)
+    (clearance_given _ _ _ _ _ c.in_ok-copy-2.ensures.ok _ c.set_clearance.ensures.ok _ c.stopping-2.ensures)

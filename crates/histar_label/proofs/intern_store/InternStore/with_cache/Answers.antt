@@ -11,8 +11,8 @@ of_none : (P : Comparison × Bool → Type 0) (o : Option (Comparison × Bool)) 
 of_none P o none = subst (λ (p : Option (Comparison × Bool)). IfSome p P) (sym none) tt
 
 pub invariant_of-result : goal.invariant_of-result
-invariant_of-result c = record {
+invariant_of-result g c = record {
   one_id = search rules;
   right = search rules;
-  right_at_hand = All-weaker _ _ (of_none (λ e. IsRight c.new.result.keys e.0 e.1)) c.in_ok-no_answers.field-0.items c.in_ok-no_answers.ensures;
+  right_at_hand = All-weaker _ _ (of_none (λ e. IsRight c.new.result.keys e.0 e.1)) c.in_ok-no_answers.field-0.items c.in_ok-no_answers.ensures.ok;
 }

@@ -15,12 +15,12 @@ own : (L : Levels) → is_same L L ≡ true
 own L = own_label L L refl
 
 pub returns-in_err-place-clause-known : goal.returns-in_err-place-clause-known
-returns-in_err-place-clause-known c id is =
+returns-in_err-place-clause-known g c id is =
     absurd (false≢true (sym c.in_err-place.ensures.absent ∙ found_by_id is_same own c.self.inside.labels.keys c.args.label id (rw c.self.view_is is)))
 
 pub invariant_of-self-2 : goal.invariant_of-self-2
-invariant_of-self-2 c = record {
-  one_id = HasOneId-distinct is_same own c.insert_full.new.self.keys c.in_ok-place.ensures.unique;
+invariant_of-self-2 g c = record {
+  one_id = HasOneId-distinct is_same own c.insert_full.new.set.keys c.in_ok-place.ensures.unique;
   right =
       λ e there. rw c.in_ok-place.ensures.keys
       (IsRight-insert_key is_same c.self.inside.labels.keys c.args.label e.0 e.1 (c.self.invariant.right e there));
@@ -31,20 +31,20 @@ invariant_of-self-2 c = record {
 }
 
 pub returns-clause-stands : goal.returns-clause-stands
-returns-clause-stands c =
+returns-clause-stands g c =
     rw (same_label _ _ c.in_ok-place.ensures.stored.2) c.in_ok-place.ensures.stored.1
 
 pub returns-clause-keeps : goal.returns-clause-keeps
-returns-clause-keeps c id L is =
+returns-clause-keeps g c id L is =
     rw c.in_ok-place.ensures.keys
     (Keeps-insert_key is_same c.self.inside.labels.keys c.args.label id L (rw c.self.view_is is))
 
 pub returns-clause-one_id : goal.returns-clause-one_id
-returns-clause-one_id c = HasOneId-distinct is_same own c.insert_full.new.self.keys c.in_ok-place.ensures.unique
+returns-clause-one_id g c = HasOneId-distinct is_same own c.insert_full.new.set.keys c.in_ok-place.ensures.unique
 
 pub returns-clause-known : goal.returns-clause-known
-returns-clause-known c id is =
-    let here : slice_get c.insert_full.new.self.keys c.in_ok-place.place ≡ Some c.args.label = rw (same_label _ _ c.in_ok-place.ensures.stored.2)
+returns-clause-known g c id is =
+    let here : slice_get c.insert_full.new.set.keys c.in_ok-place.place ≡ Some c.args.label = rw (same_label _ _ c.in_ok-place.ensures.stored.2)
     c.in_ok-place.ensures.stored.1 in
-    ap Ok (HasOneId-distinct is_same own c.insert_full.new.self.keys c.in_ok-place.ensures.unique c.in_ok-place.place id
-    c.args.label here (returns-clause-keeps c id c.args.label is))
+    ap Ok (HasOneId-distinct is_same own c.insert_full.new.set.keys c.in_ok-place.ensures.unique c.in_ok-place.place id
+    c.args.label here (returns-clause-keeps g c id c.args.label is))

@@ -6,7 +6,7 @@ use Rattle.histar_label.proofs.Edits.{edited_last}
 use Rattle.histar_label.proofs.labels.Label.set.Goals as goal
 
 pub returns-then-comes_last-clause-ok : goal.returns-then-comes_last-clause-ok
-returns-then-comes_last-clause-ok c =
+returns-then-comes_last-clause-ok g c =
     let es = c.self.inside.exceptions.items in
     let gap = rw c.as_slice.ensures.value at c.comes_last.ensures c.if-comes_last.true in
     ap (from_exceptions c.self.inside.default) c.in_ok-push.ensures.items

@@ -5,11 +5,11 @@ use Rattle.histar_object.proofs.LinkLemmas.{inserted, up_to_inserted}
 use Rattle.histar_object.proofs.links.Links.insert.Goals as goal
 
 pub returns-clause-ok : goal.returns-clause-ok
-returns-clause-ok c =
+returns-clause-ok g c =
     rw (← c.self.view_is, ← c.number.ensures) (inserted _ _ _ c.in_ok-insert.ensures.updates.0)
 
 pub invariant_of-self-2 : goal.invariant_of-self-2
-invariant_of-self-2 c =
+invariant_of-self-2 g c =
     let most = c.max-self-inside.ensures in
     let same = c.number.ensures in
     let again = c.number-2.ensures in

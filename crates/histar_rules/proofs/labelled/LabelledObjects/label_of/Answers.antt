@@ -10,8 +10,8 @@ use Rattle.histar_rules.proofs.Passing.{label_revealed}
 use Rattle.histar_rules.proofs.LinkedObjects.{no_label_shown, found_stands}
 use Rattle.histar_rules.proofs.labelled.LabelledObjects.label_of.Goals as goal
 
-pub returns-in_default : goal.returns-in_default
-returns-in_default g c =
+pub returns-in_default-clause-ok : goal.returns-in_default-clause-ok
+returns-in_default-clause-ok g c =
     let labels = g.S.LabelStore.labels c.self.inside.store in
     absurd (label_revealed (state_shown labels c.self.inside.table) _ _ _
     (subst (λ (k : ObjectsModel). AreTree (objects_of k.objects)) (sym c.self.view_is) c.requires) c.in_ok-label.ensures.answer

@@ -8,13 +8,13 @@ use Rattle.histar_syscall.proofs.kernel.Kernel.lend_own_label.Goals as goal
 
 pub unwrap-requires : goal.unwrap-requires
 unwrap-requires g c =
-    let own = c.in_ok-ask_own_label.ensures.1.1.0 in
-    let still = own ∙ sym (ap (λ (s : State). label_there (s.objects c.args.thread)) c.in_ok-ask_own_label.ensures.0.state) in
+    let own = c.in_ok-ask_own_label.ensures.ok.1.1.0 in
+    let still = own ∙ sym (ap (λ (s : State). label_there (s.objects c.args.thread)) c.in_ok-ask_own_label.ensures.ok.0.state) in
     copied_some _ _ c.label.ensures (subst IsSome still refl)
 
 pub returns : goal.returns
 returns g c =
-    let labels = c.in_ok-ask_own_label.ensures.1 in
+    let labels = c.in_ok-ask_own_label.ensures.ok.1 in
     let own = ap option_copied (sym c.unwrap.ensures) ∙ c.label.ensures ∙ ap (λ (s : State). label_there (s.objects c.args.thread))
-    c.in_ok-ask_own_label.ensures.0.state in
-    ((refl, (λ _. tt), (c.in_ok-ask_own_label.ensures.0, (labels.0.1, (own, labels.1.1)))), tt)
+    c.in_ok-ask_own_label.ensures.ok.0.state in
+    ((refl, (λ _. tt), (c.in_ok-ask_own_label.ensures.ok.0, (labels.0.1, (own, labels.1.1)))), record { lends = tt; memory = tt })

@@ -14,10 +14,10 @@ pub invariant_of-self-2 : goal.invariant_of-self-2
 invariant_of-self-2 g c =
     let before : KernelModel = record { kept = c.self.inside.objects; line = c.self.inside.line; trace = c.self.inside.trace.entries } in
     sound_decided c.self.inside.objects c.decide-answer.new.objects _ _ _
-    (IsAnswerValue (state before) c.args.thread c.args.call.now) c.self.invariant c.decide-answer.ensures
+    (IsAnswerValue (state before) c.args.thread c.args.call.now) c.self.invariant c.decide-answer.ensures.ok
 
 pub returns-clause-answered : goal.returns-clause-answered
 returns-clause-answered g c =
     let before : KernelModel = record { kept = c.self.inside.objects; line = c.self.inside.line; trace = c.self.inside.trace.entries } in
-    recorded _ before _ _ c.record.new.self.entries _ _ _ c.record.result (λ k. IsAnswerValue (state k) c.args.thread c.args.call.now) c.self.view_is
-    c.store.ensures.entries c.decide-answer.ensures c.record.ensures.outcome (c.record.ensures.entries c.args.call.now c.in_ok-stored.ensures.stands)
+    recorded _ before _ _ c.record.new.self.entries _ _ _ c.record.result (λ k. IsAnswerValue (state k) c.args.thread c.args.call.now)
+    c.self.view_is c.store.ensures.entries c.decide-answer.ensures.ok c.record.ensures.outcome (c.record.ensures.entries c.args.call.now c.in_ok-stored.ensures.stands)

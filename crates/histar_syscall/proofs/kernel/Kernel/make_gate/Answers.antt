@@ -5,20 +5,20 @@ use Rattle.histar_syscall.specs.KernelModel.{KernelModel}
 use Rattle.histar_syscall.proofs.Rooms.{recorded_answer, unstored}
 use Rattle.histar_syscall.proofs.kernel.Kernel.make_gate.Goals as goal
 
-pub returns-in_err-call : goal.returns-in_err-call
-returns-in_err-call g c =
+pub returns-in_err-call-clause-ok : goal.returns-in_err-call-clause-ok
+returns-in_err-call-clause-ok g c =
     let before : KernelModel = record { kept = c.self.inside.objects; line = c.self.inside.line; trace = c.self.inside.trace.entries } in
     unstored _ before _ _ _ _ _ c.self.view_is c.store_make_gate.ensures.entries c.from_residual.ensures.1
 
 pub invariant_of-self-2 : goal.invariant_of-self-2
 invariant_of-self-2 g c =
     sound_decided c.self.inside.objects c.make_gate-answer.new.objects c.args.thread (MakeGate c.args.container c.args.label c.args.clearance
-    c.args.entry) _ _ c.self.invariant (rw c.new-maker.ensures at c.make_gate-answer.ensures)
+    c.args.entry) _ _ c.self.invariant (rw c.new-maker.ensures at c.make_gate-answer.ensures.ok)
 
-pub returns : goal.returns
-returns g c =
+pub returns-clause-ok : goal.returns-clause-ok
+returns-clause-ok g c =
     let before : KernelModel = record { kept = c.self.inside.objects; line = c.self.inside.line; trace = c.self.inside.trace.entries } in
     recorded_answer _ before _ _ c.record.new.self.entries _
     (MakeGate c.args.container c.args.label c.args.clearance c.args.entry) _ c.record.result
-    c.self.view_is c.store_make_gate.ensures.entries (rw c.new-maker.ensures at c.make_gate-answer.ensures) c.record.ensures.outcome
+    c.self.view_is c.store_make_gate.ensures.entries (rw c.new-maker.ensures at c.make_gate-answer.ensures.ok) c.record.ensures.outcome
     (c.record.ensures.entries (MakeGate c.args.container c.args.label c.args.clearance c.args.entry) c.in_ok-call.ensures.stands)

@@ -6,19 +6,19 @@ use Rattle.histar_syscall.specs.KernelModel.{KernelModel}
 use Rattle.histar_syscall.proofs.Rooms.{recorded, unstored}
 use Rattle.histar_syscall.proofs.kernel.Kernel.make_read.Goals as goal
 
-pub returns-in_err-make_room : goal.returns-in_err-make_room
-returns-in_err-make_room g c =
+pub returns-in_err-make_room-clause-ok : goal.returns-in_err-make_room-clause-ok
+returns-in_err-make_room-clause-ok g c =
     let before : KernelModel = record { kept = c.self.inside.objects; line = c.self.inside.line; trace = c.self.inside.trace.entries } in
     unstored _ before _ _ _ _ (λ _. Unit {0}) c.self.view_is c.make_room.ensures.entries c.from_residual.ensures.1
 
 pub invariant_of-self-2 : goal.invariant_of-self-2
 invariant_of-self-2 g c =
     sound_decided c.self.inside.objects c.check_read-answer.new.objects c.args.thread (Read c.args.container c.args.segment)
-    _ (λ _. Unit {0}) c.self.invariant (rw c.new-access.ensures at c.check_read-answer.ensures)
+    _ (λ _. Unit {0}) c.self.invariant (rw c.new-access.ensures at c.check_read-answer.ensures.ok)
 
-pub returns : goal.returns
-returns g c =
+pub returns-clause-ok : goal.returns-clause-ok
+returns-clause-ok g c =
     let before : KernelModel = record { kept = c.self.inside.objects; line = c.self.inside.line; trace = c.self.inside.trace.entries } in
     recorded _ before _ _ c.record.new.self.entries _ _ _ c.record.result (λ _ _. Unit {0}) c.self.view_is c.make_room.ensures.entries (rw
-    c.new-access.ensures at c.check_read-answer.ensures) c.record.ensures.outcome (c.record.ensures.entries (Read c.args.container c.args.segment)
+    c.new-access.ensures at c.check_read-answer.ensures.ok) c.record.ensures.outcome (c.record.ensures.entries (Read c.args.container c.args.segment)
     (record { kept = tt; is = refl }))

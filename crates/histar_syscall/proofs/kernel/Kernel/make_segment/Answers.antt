@@ -15,7 +15,7 @@ pub invariant_of-self-2 : goal.invariant_of-self-2
 invariant_of-self-2 g c =
     let same : c.bytes-bytes.result.now ≡ c.args.bytes = cc (c.in_ok-call.ensures.bytes, c.bytes-bytes.ensures) in
     sound_decided c.self.inside.objects c.make_segment-answer.new.objects c.args.thread (MakeSegment c.args.container c.args.label c.args.bytes)
-    _ _ c.self.invariant (rw (c.new-maker.ensures, same) at c.make_segment-answer.ensures)
+    _ _ c.self.invariant (rw (c.new-maker.ensures, same) at c.make_segment-answer.ensures.ok)
 
 pub returns-clause-answered : goal.returns-clause-answered
 returns-clause-answered g c =
@@ -23,7 +23,7 @@ returns-clause-answered g c =
     let same : c.bytes-bytes.result.now ≡ c.args.bytes = cc (c.in_ok-call.ensures.bytes, c.bytes-bytes.ensures) in
     recorded_answer _ before _ _ c.record.new.self.entries _
     (MakeSegment c.args.container c.args.label c.args.bytes) _ c.record.result c.self.view_is
-    c.store_make_segment.ensures.entries (rw (c.new-maker.ensures, same) at c.make_segment-answer.ensures) c.record.ensures.outcome
+    c.store_make_segment.ensures.entries (rw (c.new-maker.ensures, same) at c.make_segment-answer.ensures.ok) c.record.ensures.outcome
     (c.record.ensures.entries (MakeSegment c.args.container c.args.label c.args.bytes) c.in_ok-call.ensures.stands)
 
 pub returns-clause-numbered : goal.returns-clause-numbered
@@ -31,5 +31,5 @@ returns-clause-numbered g c =
     let before : KernelModel = record { kept = c.self.inside.objects; line = c.self.inside.line; trace = c.self.inside.trace.entries } in
     let same : c.bytes-bytes.result.now ≡ c.args.bytes = cc (c.in_ok-call.ensures.bytes, c.bytes-bytes.ensures) in
     made_numbered before c.make_segment-answer.new.objects c.args.thread (MakeSegment c.args.container c.args.label c.args.bytes)
-    c.make_segment-answer.result c.record.result c.self.invariant (rw (c.new-maker.ensures, same) at c.make_segment-answer.ensures)
+    c.make_segment-answer.result c.record.result c.self.invariant (rw (c.new-maker.ensures, same) at c.make_segment-answer.ensures.ok)
     c.record.ensures.outcome

@@ -6,5 +6,7 @@ use Rattle.histar_syscall.proofs.kernel.Kernel.read.Goals as goal
 
 pub returns : goal.returns
 returns g c =
-    let called = c.in_ok-make_read.ensures.0 in
-    ((refl, (λ _. tt), (called, c.bytes_of.ensures ∙ ap (λ (s : State). bytes_in (s.objects c.args.segment)) called.state)), tt)
+    let called = c.in_ok-make_read.ensures.ok.0 in (
+      (refl, (λ _. tt), (called, c.bytes_of.ensures ∙ ap (λ (s : State). bytes_in (s.objects c.args.segment)) called.state)),
+      record { lends = tt; memory = tt },
+    )

@@ -5,19 +5,19 @@ use Rattle.histar_syscall.specs.KernelModel.{KernelModel}
 use Rattle.histar_syscall.proofs.Rooms.{recorded_answer, unstored}
 use Rattle.histar_syscall.proofs.kernel.Kernel.set_label.Goals as goal
 
-pub returns-in_err-call : goal.returns-in_err-call
-returns-in_err-call g c =
+pub returns-in_err-call-clause-ok : goal.returns-in_err-call-clause-ok
+returns-in_err-call-clause-ok g c =
     let before : KernelModel = record { kept = c.self.inside.objects; line = c.self.inside.line; trace = c.self.inside.trace.entries } in
     unstored _ before _ _ _ _ _ c.self.view_is c.store_set_label.ensures.entries c.from_residual.ensures.1
 
 pub invariant_of-self-2 : goal.invariant_of-self-2
 invariant_of-self-2 g c =
     sound_decided c.self.inside.objects c.set_label-answer.new.objects c.args.thread (SetLabel c.args.label) _ _
-    c.self.invariant c.set_label-answer.ensures
+    c.self.invariant c.set_label-answer.ensures.ok
 
-pub returns : goal.returns
-returns g c =
+pub returns-clause-ok : goal.returns-clause-ok
+returns-clause-ok g c =
     let before : KernelModel = record { kept = c.self.inside.objects; line = c.self.inside.line; trace = c.self.inside.trace.entries } in
     recorded_answer _ before _ _ c.record.new.self.entries _
     (SetLabel c.args.label) _ c.record.result c.self.view_is c.store_set_label.ensures.entries
-    c.set_label-answer.ensures c.record.ensures.outcome (c.record.ensures.entries (SetLabel c.args.label) c.in_ok-call.ensures.stands)
+    c.set_label-answer.ensures.ok c.record.ensures.outcome (c.record.ensures.entries (SetLabel c.args.label) c.in_ok-call.ensures.stands)

@@ -8,8 +8,8 @@ use Rattle.histar_trace.specs.Traces.{TraceModel}
 use Rattle.histar_trace.proofs.Staying.{entry_at}
 use Rattle.histar_trace.proofs.trace.Trace.entry.Goals as goal
 
-pub returns : goal.returns
-returns c =
+pub returns-clause-ok : goal.returns-clause-ok
+returns-clause-ok g c =
     let labels = c.self.inside.labels in
     let bytes = c.self.inside.bytes.items in
     let es = c.self.inside.entries.items in
@@ -18,4 +18,4 @@ returns c =
     es _) c.requires in
     ap (λ (t : TraceModel). slice_get t.entries c.args.at) (sym c.self.view_is)
     ∙ entry_at labels bytes es c.args.at e c.in_ok-call.field-0 (slice_get_read es (length es) c.args.at e refl within c.index-stored.ensures)
-    (c.in_ok-call.ensures ∙ ap (λ (t : TraceModel). call_of t.labels t.bytes e.call) (sym c.self.view_is))
+    (c.in_ok-call.ensures.ok ∙ ap (λ (t : TraceModel). call_of t.labels t.bytes e.call) (sym c.self.view_is))

@@ -5,10 +5,10 @@ use Rattle.histar_trace.proofs.Staying.{more_bytes, same_entries}
 use Rattle.histar_trace.proofs.trace.Trace.keep_bytes.Goals as goal
 
 pub returns-clause-entries : goal.returns-clause-entries
-returns-clause-entries c =
+returns-clause-entries g c =
     let labels = c.self.inside.labels in
     let bytes = c.self.inside.bytes.items in
-    let new = c.push.new.self.items in
+    let new = c.push.new.list.items in
     same_entries labels bytes labels new (more_bytes labels bytes new c.args.bytes c.in_ok-push.ensures.items)
     c.self.inside.entries.items c.self.invariant
     ∙ ap (λ (t : TraceModel). t.entries) c.self.view_is

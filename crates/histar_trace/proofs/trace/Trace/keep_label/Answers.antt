@@ -5,7 +5,7 @@ use Rattle.histar_trace.proofs.Staying.{more_labels, same_entries}
 use Rattle.histar_trace.proofs.trace.Trace.keep_label.Goals as goal
 
 pub returns-clause-entries : goal.returns-clause-entries
-returns-clause-entries c =
+returns-clause-entries g c =
     let labels = c.self.inside.labels in
     let bytes = c.self.inside.bytes.items in
     let new = c.keep.new.self in

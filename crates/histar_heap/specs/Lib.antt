@@ -1,0 +1,2 @@
+-- The definitions that the contracts of heaps cite.
+pub mod Room
