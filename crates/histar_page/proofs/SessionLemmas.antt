@@ -289,10 +289,10 @@ pub adds_as : {shown all old new : List Item} {raw why numbers raws whys others 
 adds_as is_all are_raws are_whys are_others h = rw (is_all, are_raws, are_whys, are_others) h
 
 -- a session that was added to an empty list
-pub session_is : {script replies reasons raw why lines output : List (List ℕ)} {old new : List Item}
-    → script ≡ lines → replies ≡ filter is_reply output → reasons ≡ filter is_reason output → raw ≡ filter is_raw_call output
+pub session_is : {script replies reasons raw why lines output log : List (List ℕ)} {old new : List Item}
+    → script ≡ lines → replies ≡ filter is_reply output → reasons ≡ filter is_reason log → raw ≡ filter is_raw_call output
     → why ≡ filter is_explanation output → old ≡ []
-    → AddsSession (story_from script [] replies reasons) raw why (session_numbers replies raw why) old new → IsSession lines output new
+    → AddsSession (story_from script [] replies reasons) raw why (session_numbers replies raw why) old new → IsSession lines output log new
 session_is is_script are_replies are_reasons are_raw are_why is_empty h =
     let all = h.is_added ∙ ap (λ l. l ++ h.added) is_empty in
     record {

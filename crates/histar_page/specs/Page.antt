@@ -19,13 +19,14 @@ pub record Sources : Type 0 where
   pub version : List ℕ
   pub script : List ℕ
   pub output : List ℕ
+  pub reasons : List ℕ
   pub table : List ℕ
   pub secrets : List ℕ
   pub flows : List ℕ
 
 -- the texts behind the references
 abbrev pub sources_of : Texts → Sources
-sources_of texts = record { name = texts.name.now; version = texts.version.now; script = texts.script.now; output = texts.output.now; table = texts.table.now; secrets = texts.secrets.now; flows = texts.flows.now }
+sources_of texts = record { name = texts.name.now; version = texts.version.now; script = texts.script.now; output = texts.output.now; reasons = texts.reasons.now; table = texts.table.now; secrets = texts.secrets.now; flows = texts.flows.now }
 
 -- the files, with the jobs of the session and the users of its processes
 abbrev pub files_shown : Sources → List Item
@@ -48,7 +49,7 @@ head_shown sources =
 pub record IsReport (sources : Sources) (items : List Item) : Type 0 where
   pub session : List Item
   pub parts : items ≡ head_shown sources ++ session ++ rights_shown sources
-  pub is_session : IsSession (lines_of sources.script) (lines_of sources.output) session
+  pub is_session : IsSession (lines_of sources.script) (lines_of sources.output) (lines_of sources.reasons) session
 
 -- The page is written of pieces that show the session. All else in it is fixed text of the program.
 pub record IsPage (sources : Sources) (page : List ℕ) : Type 0 where

@@ -72,11 +72,11 @@ AreOwn number (item ∷ items) =
     ((is_raw_kind item.0 || is_why_kind item.0) ≡ true → mark_number item.1 ≡ number)
     × AreOwn (if is_number_kind item.0 then item.1 else number) items
 
--- The story is the one of the script and the output. The raw calls and explanations are those of the output: each line is shown once, in its
+-- The story is the one of the script, the output and the reasons. The raw calls and explanations are those of the output: each line is shown once, in its
 -- order, and after the number of its line. If they are in the order of the replies, that number is the one of its call, since only the 0 of boot
 -- is then shown without a call.
-pub record IsSession (script output : List (List ℕ)) (items : List Item) : Type 0 where
-  pub story : of_kinds is_story_kind items ≡ story_from script [] (filter is_reply output) (filter is_reason output)
+pub record IsSession (script output reasons : List (List ℕ)) (items : List Item) : Type 0 where
+  pub story : of_kinds is_story_kind items ≡ story_from script [] (filter is_reply output) (filter is_reason reasons)
   pub raw_calls : of_kinds is_raw_kind items ≡ map raw_item (filter is_raw_call output)
   pub explanations : of_kinds is_why_kind items ≡ map why_item (filter is_explanation output)
   pub own : AreOwn [] items

@@ -25,6 +25,8 @@ pub struct Texts<'a> {
     pub script: &'a [u8],
     /// What a run of the script writes, with its trace and its explanations.
     pub output: &'a [u8],
+    /// What a run of the script writes with the reasons of refused calls.
+    pub reasons: &'a [u8],
     /// What `access` writes of the script.
     pub table: &'a [u8],
     /// The lines on secrets: one of the processes with their users, and then one for each file that not
@@ -42,7 +44,10 @@ pub fn page_text(alloc: Global, texts: &Texts) -> Result<Vec<u8>, AllocError>
 {
     let mut page = Vec::new(alloc);
     render_head(alloc, &mut page, texts)?;
-    render_part(&mut page, session_pieces(alloc, texts.script, texts.output))?;
+    render_part(
+        &mut page,
+        session_pieces(alloc, texts.script, texts.output, texts.reasons),
+    )?;
     render_rights(alloc, &mut page, texts)?;
     Ok(page)
 }

@@ -40,26 +40,34 @@ pub(crate) fn session_pieces<'a>(
     alloc: Global,
     script: &'a [u8],
     output: &'a [u8],
+    reasons: &'a [u8],
 ) -> Result<Vec<Piece<'a>>, AllocError>
-    ensures { IfOk result (λ pieces.
-        IsSession (lines_of script.entry.now) (lines_of output.entry.now) (items_of pieces.items)) }
+    ensures { IfOk result (λ pieces. IsSession (lines_of script.entry.now)
+        (lines_of output.entry.now) (lines_of reasons.entry.now) (items_of pieces.items)) }
 {
     let script = lines_in(alloc, script)?;
     let output = lines_in(alloc, output)?;
-    line_pieces(alloc, script.as_slice(), output.as_slice())
+    let reasons = lines_in(alloc, reasons)?;
+    line_pieces(
+        alloc,
+        script.as_slice(),
+        output.as_slice(),
+        reasons.as_slice(),
+    )
 }
 
-/// Returns the pieces of the session of these lines of a script and of its output.
+/// Returns the pieces of the session of these lines of a script, of its output and of its reasons.
 fn line_pieces<'a>(
     alloc: Global,
     script: &[&'a [u8]],
     output: &[&'a [u8]],
+    reasons: &[&'a [u8]],
 ) -> Result<Vec<Piece<'a>>, AllocError>
-    ensures { IfOk result (λ pieces.
-        IsSession (texts script.now) (texts output.now) (items_of pieces.items)) }
+    ensures { IfOk result (λ pieces. IsSession (texts script.now) (texts output.now)
+        (texts reasons.now) (items_of pieces.items)) }
 {
     let replies = among(alloc, LineKind::Reply, output)?;
-    let reasons = among(alloc, LineKind::Reason, output)?;
+    let reasons = among(alloc, LineKind::Reason, reasons)?;
     let raw_calls = among(alloc, LineKind::RawCall, output)?;
     let explanations = among(alloc, LineKind::Explanation, output)?;
     let lines = Lines {

@@ -9,11 +9,20 @@ use Rattle.histar_shell.specs.declared.session.Options.{Options}
 use Rattle.histar_run_explain.specs.Output.{IsExplainedOutput}
 use Rattle.histar_access.specs.Session.{AccessText}
 use Rattle.histar_trust.specs.Session.{FlowsText, SecretsText}
+use Rattle.histar_why.specs.Run.{RunsWithReasons}
 use Rattle.histar_page.specs.Page.{IsPage}
 
 -- the options of the run: it prints its raw calls
 abbrev pub with_trace : Options
 with_trace = record { tree = false; trace = true }
+
+-- the options of the run with reasons
+abbrev pub of_replies : Options
+of_replies = record { tree = false; trace = false }
+
+-- this is the output of a run of the script in a text with the reasons of its refused calls
+abbrev pub AreReasons : List ℕ → List ℕ → Type 0
+AreReasons text reasons = RunsWithReasons of_replies text (Some []) (Some reasons) (Ok tt)
 
 -- this is the table of rights after the script in a text
 abbrev pub IsTable : List ℕ → List ℕ → Type 0
@@ -27,11 +36,13 @@ AreSecrets text secrets = SecretsText text (Some []) (Some secrets) (Ok tt)
 abbrev pub AreFlows : List ℕ → List ℕ → Type 0
 AreFlows text flows = FlowsText None text (Some []) (Some flows) (Ok tt)
 
--- A page was written as far as `Writes` says: one that shows the output of the run of the script in a text, its table of rights, which
+-- A page was written as far as `Writes` says: one that shows the output of the run of the script in a text, why calls were refused, its table of rights, which
 -- processes have to be trusted with its secret files, and to whom each process can pass on what it learns.
 pub record WritesPageAs (Writes : List ℕ → Type 0) (name version text : List ℕ) : Type 0 where
   pub output : List ℕ
   pub is_output : IsExplainedOutput with_trace text output
+  pub reasons : List ℕ
+  pub are_reasons : AreReasons text reasons
   pub table : List ℕ
   pub is_table : IsTable text table
   pub secrets : List ℕ
@@ -40,7 +51,7 @@ pub record WritesPageAs (Writes : List ℕ → Type 0) (name version text : List
   pub are_flows : AreFlows text flows
   pub page : List ℕ
   pub is_page : IsPage
-      (record { name = name; version = version; script = text; output = output; table = table; secrets = secrets; flows = flows }) page
+      (record { name = name; version = version; script = text; output = output; reasons = reasons; table = table; secrets = secrets; flows = flows }) page
   pub written : Writes page
 
 -- A page of the run was written; or the fault of the script is returned, and nothing was written. At a failed write a beginning was

@@ -2,7 +2,7 @@
 ghost use Rattle.std.specs.Prelude.{◌≡◌, false, None, IfErr, IfSome};
 ghost use Rattle.histar_io.specs.Device.{CountsFailure};
 ghost use Rattle.histar_script.specs.Runs.{LeavesSink, RunsInput, is_read_failed, is_write_failed};
-ghost use Rattle.histar_report.specs.Session.{AreFlows, AreSecrets, IsTable, WritesPage};
+ghost use Rattle.histar_report.specs.Session.{AreFlows, AreReasons, AreSecrets, IsTable, WritesPage};
 ghost use Rattle.histar_run_explain.specs.Output.{GivesText};
 
 use histar_access::access;
@@ -13,6 +13,7 @@ use histar_run_explain::{explained_output, in_memory};
 use histar_script::Fault;
 use histar_shell::{Counted, Options};
 use histar_trust::{flows, secrets};
+use histar_why::run_with_reasons;
 use std::alloc::Global;
 
 /// The options of the run: it prints its raw calls, and no tree, since the table of rights has the files.
@@ -21,7 +22,13 @@ const OPTIONS: Options = Options {
     trace: true,
 };
 
-/// Reads a script, runs it with explanations, and writes one page that shows the session, who may do what at
+/// The options of the run with reasons: it prints its replies and no more.
+const REPLIES: Options = Options {
+    tree: false,
+    trace: false,
+};
+
+/// Reads a script, runs it with reasons and explanations, and writes one page that shows the session, who may do what at
 /// its end, which processes have to be trusted with its secret files, and to whom each process can pass on
 /// what it learns. The name is that of the script's file.
 ///
@@ -90,6 +97,7 @@ fn report_text<W: Sink>(
         (W.written writer.new) result }
 {
     let output = explained_output(alloc, text, OPTIONS)?;
+    let reasons = reasons_of(alloc, text)?;
     let table = table_of(alloc, text)?;
     let secret_lines = secrets_of(alloc, text)?;
     let flow_lines = flows_of(alloc, text)?;
@@ -100,6 +108,7 @@ fn report_text<W: Sink>(
             version,
             script: text,
             output: output.as_slice(),
+            reasons: reasons.as_slice(),
             table: table.as_slice(),
             secrets: secret_lines.as_slice(),
             flows: flow_lines.as_slice(),
@@ -107,6 +116,18 @@ fn report_text<W: Sink>(
     )?;
     write_bytes(writer, page.as_slice())?;
     Ok(())
+}
+
+/// Returns what the run of the script in a text writes with the reasons of refused calls.
+fn reasons_of(alloc: Global, text: &[u8]) -> Result<Vec<u8>, Fault>
+    ensures { GivesText AreReasons text.now result }
+{
+    let mut reader = Counted::new(text);
+    let mut writer = Counted::new(Vec::new(alloc));
+    match run_with_reasons(alloc, &mut reader, &mut writer, REPLIES) {
+        Ok(()) => Ok(writer.into_inner()),
+        Err(fault) => Err(in_memory(fault)),
+    }
 }
 
 /// Returns what `access` writes for the script in a text.

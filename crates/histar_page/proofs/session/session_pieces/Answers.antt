@@ -10,8 +10,9 @@ pub returns : goal.returns
 returns c =
     let script = ap texts c.as_slice.ensures.value ∙ c.in_ok-script.ensures in
     let output = ap texts c.as_slice-2.ensures.value ∙ c.in_ok-output.ensures in
+    let reasons = ap texts c.as_slice-3.ensures.value ∙ c.in_ok-reasons.ensures in
     IfOk-weaker c.line_pieces.result _ _
     (λ pieces is.
-    let P : List (List ℕ) × List (List ℕ) → Type 0 = λ lines. IsSession lines.0 lines.1 (items_of pieces.items) in
-    subst P (λ i. (script i, output i)) is)
+    let P : List (List ℕ) × List (List ℕ) × List (List ℕ) → Type 0 = λ lines. IsSession lines.0 lines.1 lines.2 (items_of pieces.items) in
+    subst P (λ i. (script i, output i, reasons i)) is)
     c.line_pieces.ensures

@@ -7,13 +7,15 @@ returns-in_err-write_bytes-clause-runs g c =
     rw (passed_on _ _ c.from_residual-in_err-write_bytes.ensures.1) (record {
       output = c.as_slice.result.now;
       is_output = rw c.as_slice.ensures.value c.in_ok-output.ensures;
-      table = c.as_slice-2.result.now;
-      is_table = rw c.as_slice-2.ensures.value c.in_ok-table.ensures;
-      secrets = c.as_slice-3.result.now;
-      are_secrets = rw c.as_slice-3.ensures.value c.in_ok-secret_lines.ensures;
-      flows = c.as_slice-4.result.now;
-      are_flows = rw c.as_slice-4.ensures.value c.in_ok-flow_lines.ensures;
-      page = c.as_slice-5.result.now;
-      is_page = rw c.as_slice-5.ensures.value c.in_ok-page.ensures;
+      reasons = c.as_slice-2.result.now;
+      are_reasons = rw c.as_slice-2.ensures.value c.in_ok-reasons.ensures;
+      table = c.as_slice-3.result.now;
+      is_table = rw c.as_slice-3.ensures.value c.in_ok-table.ensures;
+      secrets = c.as_slice-4.result.now;
+      are_secrets = rw c.as_slice-4.ensures.value c.in_ok-secret_lines.ensures;
+      flows = c.as_slice-5.result.now;
+      are_flows = rw c.as_slice-5.ensures.value c.in_ok-flow_lines.ensures;
+      page = c.as_slice-6.result.now;
+      is_page = rw c.as_slice-6.ensures.value c.in_ok-page.ensures;
       written = c.in_err-write_bytes.ensures.err;
     })
