@@ -10,6 +10,7 @@ mod session;
 mod texts;
 
 pub use confinement::{is_outside_caller, is_tainted_caller, job_category};
+pub use handling::Target;
 pub use items::{Mark, MixedItem};
 pub use reader::{Mixed, read_mixed};
-pub use session::attack;
+pub use session::{AttackOptions, attack};
