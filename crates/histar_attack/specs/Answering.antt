@@ -1,5 +1,6 @@
 -- Calls that a machine answers, one after another, and what is written of them.
-use Rattle.std.specs.Prelude.{◌≡◌, ℕ, Bool, List, [], ◌++◌, codes, MatchOption, Option, Some, slice_get, Result, Ok, if◌then◌else◌}
+use Rattle.std.specs.Prelude.{◌≡◌, ℕ, Bool, List, [], ◌++◌, codes, slice_get, if◌then◌else◌}
+use Rattle.std.specs.Prelude.{MatchOption, Option, Some, Result, Ok}
 use Rattle.histar_flat.specs.declared.calls.CallLine.{CallLine}
 use Rattle.histar_flat.specs.Calls.{IsCall}
 use Rattle.histar_flat.specs.declared.replies.Reply.{Reply}
@@ -25,8 +26,8 @@ use Rattle.histar_attack.specs.declared.session.Parts.{Parts}
 use Rattle.histar_attack.specs.Confinement.{job_category}
 use Rattle.histar_attack.specs.Handling.{HandlesItems}
 
--- Wherever the old machine is under way, the new one is, in the flat state after these calls, and their replies are those
--- of the rules.
+-- Wherever the old machine is under way, the new one is, in the flat state after these calls, and their replies are
+-- those of the rules.
 abbrev pub LeadsOn : MachineModel → MachineModel → List RepliedCall → Type 0
 LeadsOn old new answers = (accounts : Accounts) (f : Flat) → IsUnderWay accounts old f
     → IsUnderWay accounts new (flat_end accounts f (calls_of answers))
@@ -55,7 +56,8 @@ pub record AnswersRawLine (old new : MachineModel) (before after : List ℕ) (as
 
 -- the line of the entry at a place of a trace was added to a text
 abbrev pub AddsEntry : List TraceEntry → ℕ → List ℕ → List ℕ → Type 0
-AddsEntry entries place before after = (entry : TraceEntry) × (slice_get entries place ≡ Some entry) × (after ≡ before ++ trace_line entry)
+AddsEntry entries place before after =
+    (entry : TraceEntry) × (slice_get entries place ≡ Some entry) × (after ≡ before ++ trace_line entry)
 
 -- the lines of a trace, if it is asked for
 abbrev pub asked_trace : Bool → List TraceEntry → List ℕ

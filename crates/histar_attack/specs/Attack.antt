@@ -105,8 +105,8 @@ Outputs Writes options job text = (output : List ℕ) × IsAttack options job te
 
 -- The output was written; or the fault of the text is returned, and nothing was written. At a failed write a beginning
 -- was written, and if memory runs out nothing.
-abbrev pub WritesAttack : AttackOptions → ProcName → List ℕ → Option (List ℕ) → Option (List ℕ) → Result (Unit {0}) Fault
-    → Type 0
+abbrev pub WritesAttack : AttackOptions → ProcName → List ℕ → Option (List ℕ) → Option (List ℕ)
+    → Result (Unit {0}) Fault → Type 0
 WritesAttack options job text old new (Ok done) = Outputs (Appends old new) options job text
 WritesAttack options job text old new (Err WriteFailed) = Outputs (AppendsFront old new) options job text
 WritesAttack options job text old new (Err OutOfMemory) = Keeps old new

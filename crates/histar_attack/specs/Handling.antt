@@ -39,8 +39,8 @@ line_of (NotConfined asked) = items.Raw asked
 line_of (Inside call) = items.Unix call
 line_of (Followed a) = items.Unix a.call
 
--- What became of a line in a state of the machine. A Unix call is made if its process is outside the category, or if such
--- calls are followed, and a raw call if its thread is tainted in the category, if it is a thread. What is not made
+-- What became of a line in a state of the machine. A Unix call is made if its process is outside the category, or if
+-- such calls are followed, and a raw call if its thread is tainted in the category, if it is a thread. What is not made
 -- changes nothing.
 abbrev pub Handles : Target → MachineModel → MachineModel → Handled → Type 0
 Handles at old new (Replied a) =
@@ -92,7 +92,8 @@ pub record HandlesItem (at : Target) (old new : MachineModel) (before after : Li
   pub written : after ≡ before ++ handled_text handled
 
 -- this became of lines, which were written
-pub record HandlesItems (at : Target) (old new : MachineModel) (before after : List ℕ) (items : List MixedItem) : Type 0 where
+pub record HandlesItems (at : Target) (old new : MachineModel) (before after : List ℕ) (items : List MixedItem)
+    : Type 0 where
   pub handled : List Handled
   pub lines : map line_of handled ≡ items
   pub in_turn : HandlesInTurn at old handled new

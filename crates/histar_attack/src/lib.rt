@@ -1,5 +1,5 @@
-//! A process that bypasses the Unix library: sessions in which the threads of a job make raw calls between the
-//! Unix calls of a script.
+//! A process that bypasses the Unix library: sessions in which the threads of a job make raw calls
+//! between the Unix calls of a script.
 #![tactic(auto)]
 
 mod confinement;

@@ -41,10 +41,11 @@ struct Parts {
 }
 
 /// Reads a mixed session, makes its calls, and writes a line for each call: of a Unix call the
-/// reply, and of a raw call the answer or the denial. From the first raw call on it makes a raw call
-/// only if its thread is tainted in the category of the job, and a Unix call only if its process is
-/// outside; of other calls it writes why they are not made. If the first process of the job doesn't
-/// run at the first raw call, or at the end where there is none, it writes `no job` alone.
+/// reply, and of a raw call the answer or the denial. From the first raw call on it makes a raw
+/// call only if its thread is tainted in the category of the job, and a Unix call only if its
+/// process is outside; of other calls it writes why they are not made. If the first process of the
+/// job doesn't run at the first raw call, or at the end where there is none, it writes `no job`
+/// alone.
 ///
 /// The whole session is read and checked before the first call. It writes once all calls are made.
 /// It doesn't flush the sink.
@@ -59,13 +60,15 @@ pub fn attack<R: Source, W: Sink>(
     ensures nothing { IfErr result (LeavesSink writer.old writer.new) }
 
     // A device has failed exactly if its fault is returned.
-    ensures reads { CountsFailure (R.failures reader.old) (R.failures reader.new) (is_read_failed result) }
-    ensures writes { CountsFailure (W.failures writer.old) (W.failures writer.new) (is_write_failed result) }
+    ensures reads { CountsFailure (R.failures reader.old) (R.failures reader.new)
+        (is_read_failed result) }
+    ensures writes { CountsFailure (W.failures writer.old) (W.failures writer.new)
+        (is_write_failed result) }
 
     // Some bytes of the source were read, to its end but never more than 1,048,577, and run as a
-    // mixed session: its fault is returned, or what became of its calls is written; and unless calls
-    // inside are followed, the Unix calls that were made are answered as the rules say for a script
-    // of these alone.
+    // mixed session: its fault is returned, or what became of its calls is written; and unless
+    // calls inside are followed, the Unix calls that were made are answered as the rules say for a
+    // script of these alone.
     ensures runs { RunsInput (WritesAttack options job.now) (R.left reader.old) (R.left reader.new)
         (W.written writer.old) (W.written writer.new) result }
 
@@ -110,8 +113,10 @@ fn attack_text<W: Sink>(
 ) -> Result<(), Fault>
     ensures nothing { IfErr result (LeavesSink writer.old writer.new) }
     ensures reads { is_read_failed result ≡ false }
-    ensures writes { CountsFailure (W.failures writer.old) (W.failures writer.new) (is_write_failed result) }
-    ensures runs { WritesAttack options job.now text.now (W.written writer.old) (W.written writer.new) result }
+    ensures writes { CountsFailure (W.failures writer.old) (W.failures writer.new)
+        (is_write_failed result) }
+    ensures runs { WritesAttack options job.now text.now
+        (W.written writer.old) (W.written writer.new) result }
 {
     let output = attack_output(alloc, text, job, options)?;
     write_bytes(writer, output.as_slice())?;
@@ -168,7 +173,8 @@ fn run_attack<S: LabelStore + Drop>(
     parts: Parts,
     options: AttackOptions,
 ) -> Result<Vec<u8>, Fault>
-    ensures ok { IfOk result (λ output. GivesOutput options job.now machine.old parts output.items) }
+    ensures ok { IfOk result (λ output.
+        GivesOutput options job.now machine.old parts output.items) }
     ensures faults { IfErr result (λ fault. fault ≡ Fault.OutOfMemory) }
 {
     let Parts { before, later } = parts;

@@ -80,12 +80,7 @@ fn push_trace(alloc: Global, text: &mut Vec<u8>, trace: &Trace) -> Result<(), Al
 }
 
 /// Adds the line of the entry at a place of a trace.
-fn push_entry(
-    alloc: Global,
-    text: &mut Vec<u8>,
-    trace: &Trace,
-    at: usize,
-) -> Result<(), AllocError>
+fn push_entry(alloc: Global, text: &mut Vec<u8>, trace: &Trace, at: usize) -> Result<(), AllocError>
     requires { at < length trace.now.entries }
     ensures { OnOk result (AddsEntry trace.now.entries at text.old.items text.new.items) }
 {
