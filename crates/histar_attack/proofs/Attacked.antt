@@ -1,5 +1,5 @@
 -- The Unix calls that are made in an attack are answered as the rules say for these calls alone.
-use Rattle.std.proofs.Common.{◌≡◌, ℕ, ◌+◌, ◌*◌, ◌≤◌, ◌<◌, ◌⊎◌, Bool, true, false, List, [], ◌∷◌, ◌++◌, codes, length, map}
+use Rattle.std.proofs.Common.{◌≡◌, ℕ, ◌+◌, ◌*◌, ◌≤◌, ◌<◌, ◌⊎◌, Bool, true, false, List, [], ◌∷◌, ◌++◌, codes, length}
 use Rattle.std.proofs.Common.{Option, None, Some, Result, Ok, Err}
 use Rattle.std.proofs.Common.{refl, sym, ap, ◌∙◌, subst, inl, inr}
 use Rattle.std.specs.Prelude.{IfErr, IfOk, MatchOption}
@@ -7,7 +7,6 @@ use Rattle.std.specs.Global.{Vec}
 use Rattle.std.proofs.lemmas.Bool.{or_left}
 use Rattle.std.proofs.lemmas.List.{map-append}
 use mathlib.Core.Bool.{false≢true}
-use Rattle.histar_flat.specs.declared.calls.CallLine.{CallLine}
 use Rattle.histar_flat.specs.Words.{ProcName}
 use Rattle.histar_flat.specs.Accounts.{Accounts, has}
 use Rattle.histar_flat.specs.FlatState.{Flat}
@@ -39,10 +38,10 @@ use Rattle.histar_outside.proofs.Starts.{attacks_start}
 use Rattle.histar_attack.specs.declared.items.MixedItem.{MixedItem}
 use Rattle.histar_attack.specs.declared.session.AttackOptions.{AttackOptions}
 use Rattle.histar_attack.specs.declared.session.Parts.{Parts}
-use Rattle.histar_attack.specs.Answering.{GivesOutput, HandlesAll, asked_trace}
+use Rattle.histar_attack.specs.Answering.{GivesOutput, HandlesAll, trace_if_asked}
 use Rattle.histar_attack.specs.Attack.{Attacks, FindsNoJob, GivesAttack, HasAnswered, IsAttack, IsUnseen, first_unix, from_raw}
 use Rattle.histar_attack.specs.Confinement.{RunsJob, job_category}
-use Rattle.histar_attack.specs.Handling.{Handled, HandlesInTurn, HandlesItems, handled_texts, replied_of}
+use Rattle.histar_attack.specs.Handling.{Handled, HandlesInTurn, handled_texts, replied_of}
 use Rattle.histar_attack.specs.Handling.Handled.{Answered, Followed, Inside, NotConfined, Replied}
 use Rattle.histar_attack.specs.Mixed.{IsMixed}
 use Rattle.histar_attack.proofs.JobCategories.{jobs_have_their_categories}
@@ -200,7 +199,7 @@ module _ (accounts : Accounts) (start : MachineModel) (starts : IsStart accounts
         in_turn = all.handles.in_turn;
         unseen = unseen;
         is = all.traced
-            ∙ ap (λ (t : List ℕ). t ++ asked_trace options.trace all.end.kernel.trace)
+            ∙ ap (λ (t : List ℕ). t ++ trace_if_asked options.trace all.end.kernel.trace)
             (all.handles.written ∙ ap (λ (t : List ℕ). t ++ handled_texts all.handles.handled) gives.answered.written);
       }
 

@@ -67,9 +67,9 @@ answers_none m text = record {
   written = sym (append-nil text);
 }
 
-pub answers_more : (first mid last : MachineModel) (a b c : List ℕ) (calls : List CallLine) (call : CallLine)
+pub answers_more : {first mid last : MachineModel} {a b c : List ℕ} (calls : List CallLine) (call : CallLine)
     → AnswersEach first mid a b calls → AnswersOne mid last b c call → AnswersEach first last a c (calls ++ call ∷ [])
-answers_more first mid last a b c calls call done one =
+answers_more {first = first} {mid = mid} {last = last} {a = a} {b = b} {c = c} calls call done one =
     let now : RepliedCall = record { call = call; reply = one.reply } in
     record {
       answers = done.answers ++ now ∷ [];
@@ -91,9 +91,9 @@ handles_more at m mid end (x ∷ xs) ys one two = (one.0, one.1, handles_more at
 pub handled_none : (at : Target) (m : MachineModel) (text : List ℕ) → HandlesItems at m m text text []
 handled_none at m text = record { handled = []; lines = refl; in_turn = refl; written = sym (append-nil text) }
 
-pub handled_more : (at : Target) (first mid last : MachineModel) (a b c : List ℕ) (its : List MixedItem) (item : MixedItem)
+pub handled_more : (at : Target) {first mid last : MachineModel} {a b c : List ℕ} (its : List MixedItem) (item : MixedItem)
     → HandlesItems at first mid a b its → HandlesItem at mid last b c item → HandlesItems at first last a c (its ++ item ∷ [])
-handled_more at first mid last a b c its item done one = record {
+handled_more at {first = first} {mid = mid} {last = last} {a = a} {b = b} {c = c} its item done one = record {
   handled = done.handled ++ one.handled ∷ [];
   lines = map-append line_of done.handled (one.handled ∷ []) ∙ (λ i. done.lines i ++ one.line i ∷ []);
   in_turn = handles_more at first mid last done.handled (one.handled ∷ []) done.in_turn (last, one.handles, refl);
@@ -103,9 +103,9 @@ handled_more at first mid last a b c its item done one = record {
 }
 
 -- the tests of the machine's kernel and places
-pub outside_there : (m : MachineModel) (k : KernelModel) (r : Roots) (v : ℕ) (me : ProcName) (t : Bool) → k ≡ m.kernel → r ≡ m.roots
+pub outside_there : (m : MachineModel) {k : KernelModel} {r : Roots} (v : ℕ) (me : ProcName) (t : Bool) → k ≡ m.kernel → r ≡ m.roots
     → Decides t (IsOutsideCaller (state k) v r.home me) → Decides t (IsOutsideCaller (state m.kernel) v m.roots.home me)
-outside_there m k r v me t kernel roots decided =
+outside_there m {k = k} {r = r} v me t kernel roots decided =
     subst (λ (x : KernelModel). Decides t (IsOutsideCaller (state x) v m.roots.home me)) kernel
     (subst (λ (x : Roots). Decides t (IsOutsideCaller (state k) v x.home me)) roots decided)
 

@@ -1,6 +1,6 @@
 -- Calls that a machine answers, one after another, and what is written of them.
 use Rattle.std.specs.Prelude.{◌≡◌, ℕ, Bool, List, [], ◌++◌, codes, slice_get, if◌then◌else◌}
-use Rattle.std.specs.Prelude.{MatchOption, Option, Some, Result, Ok}
+use Rattle.std.specs.Prelude.{MatchOption, Some, Result, Ok}
 use Rattle.histar_flat.specs.declared.calls.CallLine.{CallLine}
 use Rattle.histar_flat.specs.Calls.{IsCall}
 use Rattle.histar_flat.specs.declared.replies.Reply.{Reply}
@@ -60,8 +60,8 @@ AddsEntry entries place before after =
     (entry : TraceEntry) × (slice_get entries place ≡ Some entry) × (after ≡ before ++ trace_line entry)
 
 -- the lines of a trace, if it is asked for
-abbrev pub asked_trace : Bool → List TraceEntry → List ℕ
-asked_trace asked trace = if asked then trace_text trace else []
+abbrev pub trace_if_asked : Bool → List TraceEntry → List ℕ
+trace_if_asked asked trace = if asked then trace_text trace else []
 
 -- the lines of an attack were handled, and then the trace is written, if it is asked for
 pub record HandlesAll (options : AttackOptions) (v : ℕ) (mid : MachineModel) (text : List ℕ) (later : List MixedItem)
@@ -69,7 +69,7 @@ pub record HandlesAll (options : AttackOptions) (v : ℕ) (mid : MachineModel) (
   pub end : MachineModel
   pub lines : List ℕ
   pub handles : HandlesItems (record { category = v; follow = options.follow }) mid end text lines later
-  pub traced : output ≡ lines ++ asked_trace options.trace end.kernel.trace
+  pub traced : output ≡ lines ++ trace_if_asked options.trace end.kernel.trace
 
 -- What is written of the calls before an attack and of its lines, on a machine: `no job` alone, where the job has no
 -- category after the calls before; or the replies, and what became of the lines.

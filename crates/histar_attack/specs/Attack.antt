@@ -24,7 +24,7 @@ use Rattle.histar_attack.specs.declared.items.MixedItem.{MixedItem}
 use Rattle.histar_attack.specs.declared.items.MixedItem.TheVariants.{Unix, Raw}
 use Rattle.histar_attack.specs.declared.session.AttackOptions.{AttackOptions}
 use Rattle.histar_attack.specs.Mixed.{IsMixed, IsMixedFault}
-use Rattle.histar_attack.specs.Answering.{asked_trace}
+use Rattle.histar_attack.specs.Answering.{trace_if_asked}
 use Rattle.histar_attack.specs.Confinement.{RunsJob}
 use Rattle.histar_attack.specs.Handling.{Handled, HandlesInTurn, handled_texts, line_of, replied_of}
 
@@ -73,7 +73,7 @@ pub record Attacks (options : AttackOptions) (job : ProcName) (accounts : Accoun
   pub end : MachineModel
   pub in_turn : HandlesInTurn (record { category = v; follow = options.follow }) m handled end
   pub unseen : options.follow ≡ false → IsUnseen accounts v (before ++ replied_of handled) end
-  pub is : output ≡ answers_text before ++ handled_texts handled ++ asked_trace options.trace end.kernel.trace
+  pub is : output ≡ answers_text before ++ handled_texts handled ++ trace_if_asked options.trace end.kernel.trace
 
 -- The first process of the job doesn't run when the first raw call comes, or at the end if none comes: no call from
 -- there on is made, and this alone is written.

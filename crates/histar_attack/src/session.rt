@@ -9,7 +9,7 @@ use crate::confinement::job_category;
 use crate::handling::{Target, answer_before, handle_all};
 use crate::items::MixedItem;
 use crate::reader::{Mixed, read_mixed};
-use crate::texts::push_asked_trace;
+use crate::texts::push_trace_if;
 use histar_command::{Command, run_command};
 use histar_flat::{CallLine, ProcName};
 use histar_io::{Sink, Source, write_bytes};
@@ -189,6 +189,6 @@ fn run_attack<S: LabelStore + Drop>(
         follow: options.follow,
     };
     handle_all(alloc, machine, &target, later, &mut output)?;
-    push_asked_trace(alloc, &mut output, machine.trace(), options.trace)?;
+    push_trace_if(alloc, &mut output, machine.trace(), options.trace)?;
     Ok(output)
 }

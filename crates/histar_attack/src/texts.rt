@@ -1,7 +1,7 @@
 //! The lines that are written of an attack.
 ghost use Rattle.std.specs.Prelude.{◌≡◌, ◌<◌, ◌++◌, codes, decimal, length, OnOk};
 ghost use Rattle.histar_rawtext.specs.RawText.{trace_text};
-ghost use Rattle.histar_attack.specs.Answering.{AddsEntry, asked_trace};
+ghost use Rattle.histar_attack.specs.Answering.{AddsEntry, trace_if_asked};
 ghost use Rattle.histar_raw_session.specs.Answers.{line_text as raw_line_text};
 ghost use Rattle.histar_shell.specs.Answers.{line_text};
 
@@ -55,13 +55,14 @@ pub(crate) fn push_outcome(
 }
 
 /// Adds the lines of a trace, if it is asked for.
-pub(crate) fn push_asked_trace(
+pub(crate) fn push_trace_if(
     alloc: Global,
     text: &mut Vec<u8>,
     trace: &Trace,
     asked: bool,
 ) -> Result<(), AllocError>
-    ensures { OnOk result (text.new.items ≡ text.old.items ++ asked_trace asked trace.now.entries) }
+    ensures { OnOk result (text.new.items
+        ≡ text.old.items ++ trace_if_asked asked trace.now.entries) }
 {
     if asked {
         push_trace(alloc, text, trace)?;

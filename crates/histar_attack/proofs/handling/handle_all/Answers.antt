@@ -6,4 +6,4 @@ pub items-init : goal.items-init
 items-init g c = handled_none c.args.target.now c.args.machine.now c.args.output.now.items
 
 pub items-preserved : goal.items-preserved
-items-preserved g c = handled_more c.args.target.now _ _ _ _ _ _ c.items.yielded c.in-Some.item c.items.invariant c.in_ok-handle.ensures.ok
+items-preserved g c = handled_more c.args.target.now c.items.yielded c.in-Some.item c.items.invariant c.in_ok-handle.ensures.ok
