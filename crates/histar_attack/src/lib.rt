@@ -2,6 +2,7 @@
 //! between the Unix calls of a script.
 #![tactic(auto)]
 
+pub mod attack_laws;
 mod confinement;
 mod handling;
 mod items;
@@ -10,7 +11,6 @@ mod session;
 mod texts;
 
 pub use confinement::{is_outside_caller, is_tainted_caller, job_category};
-pub use handling::Target;
-pub use items::{Mark, MixedItem};
+pub use items::MixedItem;
 pub use reader::{Mixed, read_mixed};
 pub use session::{AttackOptions, attack};
