@@ -22,7 +22,7 @@ use Rattle.histar_shell.proofs.LineMeanings.{line_follows}
 use Rattle.histar_outside.specs.NamedAttacks.{IsUnderWay}
 use Rattle.histar_outside.specs.Search.{IsOutsideCaller}
 use Rattle.histar_outside.proofs.JobsBegin.{lines_lead_on}
-use Rattle.histar_attack.specs.declared.handling.Target.{Target}
+use Rattle.histar_attack.specs.declared.handling.LineRule.{LineRule}
 use Rattle.histar_attack.specs.declared.items.MixedItem.{MixedItem}
 use Rattle.histar_attack.specs.declared.items.MixedItem.TheVariants as items
 use Rattle.histar_attack.specs.Answering.{AnswersEach, AnswersOne, AnswersRawLine, LeadsOn}
@@ -83,15 +83,15 @@ answers_more {first = first} {mid = mid} {last = last} {a = a} {b = b} {c = c} c
 
 -- ---- the lines of an attack
 
-handles_more : (at : Target) (m mid end : MachineModel) (xs ys : List Handled) → HandlesInTurn at m xs mid → HandlesInTurn at mid ys end
+handles_more : (at : LineRule) (m mid end : MachineModel) (xs ys : List Handled) → HandlesInTurn at m xs mid → HandlesInTurn at mid ys end
     → HandlesInTurn at m (xs ++ ys) end
 handles_more at m mid end [] ys one two = subst (λ (x : MachineModel). HandlesInTurn at x ys end) one two
 handles_more at m mid end (x ∷ xs) ys one two = (one.0, one.1, handles_more at one.0 mid end xs ys one.2 two)
 
-pub handled_none : (at : Target) (m : MachineModel) (text : List ℕ) → HandlesItems at m m text text []
+pub handled_none : (at : LineRule) (m : MachineModel) (text : List ℕ) → HandlesItems at m m text text []
 handled_none at m text = record { handled = []; lines = refl; in_turn = refl; written = sym (append-nil text) }
 
-pub handled_more : (at : Target) {first mid last : MachineModel} {a b c : List ℕ} (its : List MixedItem) (item : MixedItem)
+pub handled_more : (at : LineRule) {first mid last : MachineModel} {a b c : List ℕ} (its : List MixedItem) (item : MixedItem)
     → HandlesItems at first mid a b its → HandlesItem at mid last b c item → HandlesItems at first last a c (its ++ item ∷ [])
 handled_more at {first = first} {mid = mid} {last = last} {a = a} {b = b} {c = c} its item done one = record {
   handled = done.handled ++ one.handled ∷ [];
@@ -124,7 +124,7 @@ left_in true follow e is = absurd (false≢true (sym is))
 left_in false true e is = refl
 left_in false false e is = absurd (false≢true (sym e))
 
-module _ (at : Target) (m : MachineModel) (a b : List ℕ) where
+module _ (at : LineRule) (m : MachineModel) (a b : List ℕ) where
   -- whether the process of a call is outside
   abbrev Out : CallLine → Bool → Type 0
   Out call t = Decides t (IsOutsideCaller (state m.kernel) at.category m.roots.home call.process)

@@ -14,7 +14,7 @@ use Rattle.histar_shell.specs.Answers.{answer_text}
 use Rattle.histar_shell.specs.Machine.{MachineModel, AnswersLine}
 use Rattle.histar_shell.specs.RawCalls.{MakesRaw}
 use Rattle.histar_outside.specs.Search.{IsOutsideCaller}
-use Rattle.histar_attack.specs.declared.handling.Target.{Target}
+use Rattle.histar_attack.specs.declared.handling.LineRule.{LineRule}
 use Rattle.histar_attack.specs.declared.items.MixedItem.{MixedItem}
 use Rattle.histar_attack.specs.declared.items.MixedItem.TheVariants as items
 
@@ -42,25 +42,25 @@ line_of (Followed a) = items.Unix a.call
 -- What became of a line in a state of the machine. A Unix call is made if its process is outside the category, or if
 -- such calls are followed, and a raw call if its thread is tainted in the category, if it is a thread. What is not made
 -- changes nothing.
-abbrev pub Handles : Target → MachineModel → MachineModel → Handled → Type 0
-Handles at old new (Replied a) =
-    IsCall a.call.call × IsOutsideCaller (state old.kernel) at.category old.roots.home a.call.process
+abbrev pub Handles : LineRule → MachineModel → MachineModel → Handled → Type 0
+Handles rule old new (Replied a) =
+    IsCall a.call.call × IsOutsideCaller (state old.kernel) rule.category old.roots.home a.call.process
     × AnswersLine old new a.call.line a.call.process a.call.call (Ok a.reply)
-Handles at old new (Answered asked outcome) =
-    IsTaintedCaller (state old.kernel) at.category asked.thread
+Handles rule old new (Answered asked outcome) =
+    IsTaintedCaller (state old.kernel) rule.category asked.thread
     × MakesRaw old new asked.line asked.thread asked.call (Ok outcome)
-Handles at old new (NotConfined asked) = (IsTaintedCaller (state old.kernel) at.category asked.thread → ⊥) × (new ≡ old)
-Handles at old new (Inside call) =
-    (at.follow ≡ false) × (IsOutsideCaller (state old.kernel) at.category old.roots.home call.process → ⊥)
+Handles rule old new (NotConfined asked) = (IsTaintedCaller (state old.kernel) rule.category asked.thread → ⊥) × (new ≡ old)
+Handles rule old new (Inside call) =
+    (rule.follow ≡ false) × (IsOutsideCaller (state old.kernel) rule.category old.roots.home call.process → ⊥)
     × (new ≡ old)
-Handles at old new (Followed a) =
-    (at.follow ≡ true) × (IsOutsideCaller (state old.kernel) at.category old.roots.home a.call.process → ⊥)
+Handles rule old new (Followed a) =
+    (rule.follow ≡ true) × (IsOutsideCaller (state old.kernel) rule.category old.roots.home a.call.process → ⊥)
     × AnswersLine old new a.call.line a.call.process a.call.call (Ok a.reply)
 
 -- this became of lines, one after another, each in the state after the one before
-abbrev pub HandlesInTurn : Target → MachineModel → List Handled → MachineModel → Type 0
-HandlesInTurn at m [] end = end ≡ m
-HandlesInTurn at m (x ∷ more) end = (mid : MachineModel) × Handles at m mid x × HandlesInTurn at mid more end
+abbrev pub HandlesInTurn : LineRule → MachineModel → List Handled → MachineModel → Type 0
+HandlesInTurn rule m [] end = end ≡ m
+HandlesInTurn rule m (x ∷ more) end = (mid : MachineModel) × Handles rule m mid x × HandlesInTurn rule mid more end
 
 -- the line that is written: the number, and the reply or the answer as `run` and `raw` write them, or why the call was
 -- not made
@@ -85,16 +85,17 @@ replied_of (Inside call ∷ more) = replied_of more
 replied_of (Followed a ∷ more) = replied_of more
 
 -- this became of a line, which was written
-pub record HandlesItem (at : Target) (old new : MachineModel) (before after : List ℕ) (item : MixedItem) : Type 0 where
+pub record HandlesItem (rule : LineRule) (old new : MachineModel) (before after : List ℕ) (item : MixedItem)
+    : Type 0 where
   pub handled : Handled
   pub line : line_of handled ≡ item
-  pub handles : Handles at old new handled
+  pub handles : Handles rule old new handled
   pub written : after ≡ before ++ handled_text handled
 
 -- this became of lines, which were written
-pub record HandlesItems (at : Target) (old new : MachineModel) (before after : List ℕ) (items : List MixedItem)
+pub record HandlesItems (rule : LineRule) (old new : MachineModel) (before after : List ℕ) (items : List MixedItem)
     : Type 0 where
   pub handled : List Handled
   pub lines : map line_of handled ≡ items
-  pub in_turn : HandlesInTurn at old handled new
+  pub in_turn : HandlesInTurn rule old handled new
   pub written : after ≡ before ++ handled_texts handled

@@ -19,9 +19,9 @@ const INSIDE: &[u8] = b"inside";
 /// What is written of a raw call whose thread is not tainted.
 const NOT_CONFINED: &[u8] = b"not confined";
 
-/// What is attacked.
+/// By what a line is made or left out.
 #[derive(Clone, Copy)]
-pub struct Target {
+pub struct LineRule {
     /// The category of the job.
     pub category: Category,
     /// Whether Unix calls are made whose process is inside.
@@ -82,18 +82,18 @@ fn is_left_out(is_outside: bool, follow: bool) -> bool
 fn handle_unix<S: LabelStore + Drop>(
     alloc: Global,
     machine: &mut Machine<S>,
-    target: &Target,
+    rule: &LineRule,
     call: CallLine,
     output: &mut Vec<u8>,
 ) -> Result<(), Fault>
-    ensures ok { OnOk result (HandlesItem target.now machine.old machine.new
+    ensures ok { OnOk result (HandlesItem rule.now machine.old machine.new
         output.old.items output.new.items (MixedItem.Unix call)) }
     ensures faults { IfErr result (λ fault. fault ≡ Fault.OutOfMemory) }
 {
     let first = machine.roots().home;
-    let category = target.category;
+    let category = rule.category;
     let is_outside = is_outside_caller(machine.kernel(), category, &first, &call.process);
-    if is_left_out(is_outside, target.follow) {
+    if is_left_out(is_outside, rule.follow) {
         let number = call.line;
         drop(call);
         push_line(output, number, INSIDE)?;
@@ -106,15 +106,15 @@ fn handle_unix<S: LabelStore + Drop>(
 fn handle_raw<S: LabelStore + Drop>(
     alloc: Global,
     machine: &mut Machine<S>,
-    target: &Target,
+    rule: &LineRule,
     asked: RawLine,
     output: &mut Vec<u8>,
 ) -> Result<(), Fault>
-    ensures ok { OnOk result (HandlesItem target.now machine.old machine.new
+    ensures ok { OnOk result (HandlesItem rule.now machine.old machine.new
         output.old.items output.new.items (MixedItem.Raw asked)) }
     ensures faults { IfErr result (λ fault. fault ≡ Fault.OutOfMemory) }
 {
-    if !is_tainted_caller(machine.kernel(), target.category, asked.thread) {
+    if !is_tainted_caller(machine.kernel(), rule.category, asked.thread) {
         let number = asked.line;
         drop(asked);
         push_line(output, number, NOT_CONFINED)?;
@@ -150,17 +150,17 @@ fn answer_raw<S: LabelStore + Drop>(
 fn handle<S: LabelStore + Drop>(
     alloc: Global,
     machine: &mut Machine<S>,
-    target: &Target,
+    rule: &LineRule,
     item: MixedItem,
     output: &mut Vec<u8>,
 ) -> Result<(), Fault>
-    ensures ok { OnOk result (HandlesItem target.now machine.old machine.new
+    ensures ok { OnOk result (HandlesItem rule.now machine.old machine.new
         output.old.items output.new.items item) }
     ensures faults { IfErr result (λ fault. fault ≡ Fault.OutOfMemory) }
 {
     match item {
-        MixedItem::Unix(call) => handle_unix(alloc, machine, target, call, output),
-        MixedItem::Raw(asked) => handle_raw(alloc, machine, target, asked, output),
+        MixedItem::Unix(call) => handle_unix(alloc, machine, rule, call, output),
+        MixedItem::Raw(asked) => handle_raw(alloc, machine, rule, asked, output),
     }
 }
 
@@ -168,16 +168,16 @@ fn handle<S: LabelStore + Drop>(
 pub(crate) fn handle_all<S: LabelStore + Drop>(
     alloc: Global,
     machine: &mut Machine<S>,
-    target: &Target,
+    rule: &LineRule,
     items: Vec<MixedItem>,
     output: &mut Vec<u8>,
 ) -> Result<(), Fault>
-    ensures ok { OnOk result (HandlesItems target.now machine.old machine.new
+    ensures ok { OnOk result (HandlesItems rule.now machine.old machine.new
         output.old.items output.new.items items.items) }
     ensures faults { IfErr result (λ fault. fault ≡ Fault.OutOfMemory) }
 {
     'items: for item in items {
-        handle(alloc, machine, target, item, output)?;
+        handle(alloc, machine, rule, item, output)?;
     }
     Ok(())
 }

@@ -6,7 +6,7 @@ ghost use Rattle.histar_attack.specs.Answering.{GivesOutput};
 ghost use Rattle.histar_attack.specs.Attack.{GivesAttack, WritesAttack, first_unix, from_raw};
 
 use crate::confinement::job_category;
-use crate::handling::{Target, answer_before, handle_all};
+use crate::handling::{LineRule, answer_before, handle_all};
 use crate::items::MixedItem;
 use crate::reader::{Mixed, read_mixed};
 use crate::texts::push_trace_if;
@@ -184,11 +184,11 @@ fn run_attack<S: LabelStore + Drop>(
     let Some(category) = job_category(machine.kernel(), &first, job) else {
         return Ok(Vec::from_slice(alloc, NO_JOB)?);
     };
-    let target = Target {
+    let rule = LineRule {
         category,
         follow: options.follow,
     };
-    handle_all(alloc, machine, &target, later, &mut output)?;
+    handle_all(alloc, machine, &rule, later, &mut output)?;
     push_trace_if(alloc, &mut output, machine.trace(), options.trace)?;
     Ok(output)
 }
