@@ -7,3 +7,4 @@ pub mod JobCategories
 pub mod HandledLines
 pub mod Parting
 pub mod Attacked
+pub mod TracedLines

@@ -179,7 +179,8 @@ module _ (text rest after line : List ℕ) (count : ℕ) (old : ScriptModel) (ms
       let marked_too = marks_more ms marks.Unix in
       let fits = so.fits in (
         omega (arith, longer, marked_too, fits),
-        subst (λ (l : List MixedItem). RiseWithin 0 l (count + 1)) (sym items) (rise_more 0 count (in_order old.calls ms) (Unix adds.0) adds.1 so.rising),
+        subst (λ (l : List MixedItem). RiseWithin 0 l (count + 1)) (sym items)
+            (rise_more 0 count (in_order old.calls ms) (Unix adds.0) adds.1 so.rising),
         ap raw_of items ∙ raws_apart (in_order old.calls ms) (Unix adds.0 ∷ []) ∙ append-nil (raw_of (in_order old.calls ms)),
       )
     where
@@ -240,7 +241,8 @@ module _ (text rest after line : List ℕ) (count : ℕ) (old : ScriptModel) (ms
   }
 
   -- a bad line of either kind is the first one
-  pub line_bad : is_too_long text ≡ false → (fault : Fault) → IsLineFault (count + 1) (IsBadPart (raw_part line) (count + 1) line old) fault → IsMixedFault text fault
+  pub line_bad : is_too_long text ≡ false → (fault : Fault) → IsLineFault (count + 1) (IsBadPart (raw_part line) (count + 1) line old) fault
+      → IsMixedFault text fault
   line_bad short (BadScript n) bad = (short, subst (IsFirstBad text) (sym bad.0) (by (raw_part line) refl bad.1))
     where
       by : (part : Option (List ℕ)) → raw_part line ≡ part → IsBadPart part (count + 1) line old → IsFirstBad text (count + 1)

@@ -39,7 +39,8 @@ AddsRaw (Some text) n more raws = (asked : RawLine) × SaysCall n text asked × 
 -- the raw lines among those after the first n contain these calls, one after another
 abbrev pub SayRaw : ℕ → List (List ℕ) → List RawLine → Type 0
 SayRaw n [] raws = raws ≡ []
-SayRaw n (line ∷ lines) raws = (more : List RawLine) × AddsRaw (raw_part line) (n + 1) more raws × SayRaw (n + 1) lines more
+SayRaw n (line ∷ lines) raws =
+    (more : List RawLine) × AddsRaw (raw_part line) (n + 1) more raws × SayRaw (n + 1) lines more
 
 -- the Unix calls
 abbrev pub unix_of : List MixedItem → List CallLine

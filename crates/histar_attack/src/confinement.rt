@@ -1,4 +1,5 @@
-//! Whether a line of an attack may be made: tests of labels in the kernel's own table, with no raw call.
+//! Whether a line of an attack may be made: tests of labels in the kernel's own table, with no raw
+//! call.
 ghost use Rattle.std.specs.Prelude.{◌≡◌, ◌&&◌, not};
 ghost use Rattle.histar_level.specs.Levels.{level_of};
 ghost use Rattle.histar_layout.specs.Jobs.{is_three};
@@ -6,7 +7,8 @@ ghost use Rattle.histar_outside.specs.Search.{IsClear, IsClearHome, IsClearWay, 
 ghost use Rattle.histar_programs.specs.Caller.{read_category_in};
 ghost use Rattle.histar_rules.specs.Visible.{IsTaintedCaller};
 ghost use Rattle.histar_syscall.specs.KernelModel.{state};
-ghost use Rattle.histar_attack.specs.Confinement.{Decides, IsClearInside, IsFreeThread, is_free, job_category};
+ghost use Rattle.histar_attack.specs.Confinement.{Decides, IsClearInside, IsFreeThread, is_free};
+ghost use Rattle.histar_attack.specs.Confinement.{job_category};
 
 use histar_flat::ProcName;
 use histar_label::{Category, Label, LabelStore, Level};
@@ -95,7 +97,8 @@ fn is_free(own: &Label, category: Category) -> bool
     !is_three(level) && !level.is_star()
 }
 
-/// Checks whether the thread of the process at a place, if it runs, neither is tainted nor owns the category.
+/// Checks whether the thread of the process at a place, if it runs, neither is tainted nor owns the
+/// category.
 fn is_free_thread<S: LabelStore + Drop>(kernel: &Kernel<S>, category: Category, home: &Home) -> bool
     ensures { Decides result (IsFreeThread (state kernel.now) category home.now) }
 {
@@ -108,8 +111,8 @@ fn is_free_thread<S: LabelStore + Drop>(kernel: &Kernel<S>, category: Category, 
     }
 }
 
-/// Checks whether the process of a line is outside a category: nothing that the search for it looks at is
-/// tainted, and its thread neither is tainted nor owns the category.
+/// Checks whether the process of a line is outside a category: nothing that the search for it looks
+/// at is tainted, and its thread neither is tainted nor owns the category.
 pub fn is_outside_caller<S: LabelStore + Drop>(
     kernel: &Kernel<S>,
     category: Category,
@@ -149,8 +152,8 @@ fn own_category(outer: &Label, inner: &Label) -> Option<Category>
     None
 }
 
-/// Returns the category of a job whose first process has this name, if that runs: its container is tainted in
-/// it, and that of the process above isn't.
+/// Returns the category of a job whose first process has this name, if that runs: its container is
+/// tainted in it, and that of the process above isn't.
 pub fn job_category<S: LabelStore + Drop>(
     kernel: &Kernel<S>,
     first: &Home,

@@ -1,5 +1,5 @@
 //! The lines of an attack: each is made, or it is written why it isn't.
-ghost use Rattle.std.specs.Prelude.{◌≡◌, IfErr, OnOk};
+ghost use Rattle.std.specs.Prelude.{◌≡◌, ◌&&◌, not, IfErr, OnOk};
 ghost use Rattle.histar_attack.specs.Answering.{AnswersEach, AnswersOne, AnswersRawLine};
 ghost use Rattle.histar_attack.specs.Handling.{HandlesItem, HandlesItems};
 
@@ -19,6 +19,15 @@ const INSIDE: &[u8] = b"inside";
 /// What is written of a raw call whose thread is not tainted.
 const NOT_CONFINED: &[u8] = b"not confined";
 
+/// By what a line is made or left out.
+#[derive(Clone, Copy)]
+pub struct LineRule {
+    /// The category of the job.
+    pub category: Category,
+    /// Whether Unix calls are made whose process is inside.
+    pub follow: bool,
+}
+
 /// Makes a Unix call, and writes its reply.
 fn answer_unix<S: LabelStore + Drop>(
     alloc: Global,
@@ -26,7 +35,8 @@ fn answer_unix<S: LabelStore + Drop>(
     call: CallLine,
     output: &mut Vec<u8>,
 ) -> Result<(), Fault>
-    ensures ok { OnOk result (AnswersOne machine.old machine.new output.old.items output.new.items call) }
+    ensures ok { OnOk result (AnswersOne machine.old machine.new
+        output.old.items output.new.items call) }
     ensures faults { IfErr result (λ fault. fault ≡ Fault.OutOfMemory) }
 {
     let CallLine {
@@ -51,7 +61,8 @@ pub(crate) fn answer_before<S: LabelStore + Drop>(
     calls: Vec<CallLine>,
     output: &mut Vec<u8>,
 ) -> Result<(), Fault>
-    ensures ok { OnOk result (AnswersEach machine.old machine.new output.old.items output.new.items calls.items) }
+    ensures ok { OnOk result (AnswersEach machine.old machine.new
+        output.old.items output.new.items calls.items) }
     ensures faults { IfErr result (λ fault. fault ≡ Fault.OutOfMemory) }
 {
     'calls: for call in calls {
@@ -60,20 +71,29 @@ pub(crate) fn answer_before<S: LabelStore + Drop>(
     Ok(())
 }
 
-/// Makes a Unix call if its process is outside, and writes its reply.
+/// Checks whether a Unix call is left out: its process is inside, and such calls are not followed.
+fn is_left_out(is_outside: bool, follow: bool) -> bool
+    ensures { result ≡ (not is_outside && not follow) }
+{
+    !is_outside && !follow
+}
+
+/// Makes a Unix call if its process is outside, or such calls are followed, and writes its reply.
 fn handle_unix<S: LabelStore + Drop>(
     alloc: Global,
     machine: &mut Machine<S>,
-    category: Category,
+    rule: &LineRule,
     call: CallLine,
     output: &mut Vec<u8>,
 ) -> Result<(), Fault>
-    ensures ok { OnOk result (HandlesItem category machine.old machine.new output.old.items output.new.items
-        (MixedItem.Unix call)) }
+    ensures ok { OnOk result (HandlesItem rule.now machine.old machine.new
+        output.old.items output.new.items (MixedItem.Unix call)) }
     ensures faults { IfErr result (λ fault. fault ≡ Fault.OutOfMemory) }
 {
     let first = machine.roots().home;
-    if !is_outside_caller(machine.kernel(), category, &first, &call.process) {
+    let category = rule.category;
+    let is_outside = is_outside_caller(machine.kernel(), category, &first, &call.process);
+    if is_left_out(is_outside, rule.follow) {
         let number = call.line;
         drop(call);
         push_line(output, number, INSIDE)?;
@@ -86,15 +106,15 @@ fn handle_unix<S: LabelStore + Drop>(
 fn handle_raw<S: LabelStore + Drop>(
     alloc: Global,
     machine: &mut Machine<S>,
-    category: Category,
+    rule: &LineRule,
     asked: RawLine,
     output: &mut Vec<u8>,
 ) -> Result<(), Fault>
-    ensures ok { OnOk result (HandlesItem category machine.old machine.new output.old.items output.new.items
-        (MixedItem.Raw asked)) }
+    ensures ok { OnOk result (HandlesItem rule.now machine.old machine.new
+        output.old.items output.new.items (MixedItem.Raw asked)) }
     ensures faults { IfErr result (λ fault. fault ≡ Fault.OutOfMemory) }
 {
-    if !is_tainted_caller(machine.kernel(), category, asked.thread) {
+    if !is_tainted_caller(machine.kernel(), rule.category, asked.thread) {
         let number = asked.line;
         drop(asked);
         push_line(output, number, NOT_CONFINED)?;
@@ -110,7 +130,8 @@ fn answer_raw<S: LabelStore + Drop>(
     asked: RawLine,
     output: &mut Vec<u8>,
 ) -> Result<(), Fault>
-    ensures ok { OnOk result (AnswersRawLine machine.old machine.new output.old.items output.new.items asked) }
+    ensures ok { OnOk result (AnswersRawLine machine.old machine.new
+        output.old.items output.new.items asked) }
     ensures faults { IfErr result (λ fault. fault ≡ Fault.OutOfMemory) }
 {
     let RawLine {
@@ -129,16 +150,17 @@ fn answer_raw<S: LabelStore + Drop>(
 fn handle<S: LabelStore + Drop>(
     alloc: Global,
     machine: &mut Machine<S>,
-    category: Category,
+    rule: &LineRule,
     item: MixedItem,
     output: &mut Vec<u8>,
 ) -> Result<(), Fault>
-    ensures ok { OnOk result (HandlesItem category machine.old machine.new output.old.items output.new.items item) }
+    ensures ok { OnOk result (HandlesItem rule.now machine.old machine.new
+        output.old.items output.new.items item) }
     ensures faults { IfErr result (λ fault. fault ≡ Fault.OutOfMemory) }
 {
     match item {
-        MixedItem::Unix(call) => handle_unix(alloc, machine, category, call, output),
-        MixedItem::Raw(asked) => handle_raw(alloc, machine, category, asked, output),
+        MixedItem::Unix(call) => handle_unix(alloc, machine, rule, call, output),
+        MixedItem::Raw(asked) => handle_raw(alloc, machine, rule, asked, output),
     }
 }
 
@@ -146,16 +168,16 @@ fn handle<S: LabelStore + Drop>(
 pub(crate) fn handle_all<S: LabelStore + Drop>(
     alloc: Global,
     machine: &mut Machine<S>,
-    category: Category,
+    rule: &LineRule,
     items: Vec<MixedItem>,
     output: &mut Vec<u8>,
 ) -> Result<(), Fault>
-    ensures ok { OnOk result (HandlesItems category machine.old machine.new output.old.items output.new.items
-        items.items) }
+    ensures ok { OnOk result (HandlesItems rule.now machine.old machine.new
+        output.old.items output.new.items items.items) }
     ensures faults { IfErr result (λ fault. fault ≡ Fault.OutOfMemory) }
 {
     'items: for item in items {
-        handle(alloc, machine, category, item, output)?;
+        handle(alloc, machine, rule, item, output)?;
     }
     Ok(())
 }

@@ -1,7 +1,8 @@
-//! A process that bypasses the Unix library: sessions in which the threads of a job make raw calls between the
-//! Unix calls of a script.
+//! A process that bypasses the Unix library: sessions in which the threads of a job make raw calls
+//! between the Unix calls of a script.
 #![tactic(auto)]
 
+pub mod attack_laws;
 mod confinement;
 mod handling;
 mod items;
@@ -10,6 +11,6 @@ mod session;
 mod texts;
 
 pub use confinement::{is_outside_caller, is_tainted_caller, job_category};
-pub use items::{Mark, MixedItem};
+pub use items::MixedItem;
 pub use reader::{Mixed, read_mixed};
-pub use session::attack;
+pub use session::{AttackOptions, attack};

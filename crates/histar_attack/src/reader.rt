@@ -3,7 +3,8 @@ ghost use Rattle.std.specs.Prelude.{◌≡◌, ◌≤◌, false, IfErr, IfOk, le
 ghost use Rattle.std.specs.Option.{option_copied};
 ghost use Rattle.histar_raw_session.specs.Session.{SaysCall};
 ghost use Rattle.histar_script.specs.Lines.{is_too_long as too_long, most_script_bytes};
-ghost use Rattle.histar_attack.specs.Mixed.{FindsMixed, IsBadRaw, IsLineFault, IsMixedFault, is_call, raw_part};
+ghost use Rattle.histar_attack.specs.Mixed.{FindsMixed, IsBadRaw, IsLineFault, IsMixedFault};
+ghost use Rattle.histar_attack.specs.Mixed.{is_call, raw_part};
 ghost use Rattle.histar_attack.specs.Taking.{TakesLine, TakesUnix};
 
 use crate::items::{Mark, MixedItem, in_order};
@@ -79,7 +80,8 @@ fn read_line(
     script: &mut Script,
     marks: &mut Vec<Mark>,
 ) -> Result<(), Fault>
-    ensures { TakesLine number line.now script.old marks.old.items script.new marks.new.items result }
+    ensures { TakesLine number line.now script.old marks.old.items
+        script.new marks.new.items result }
 {
     match raw_part(line) {
         Some(text) => {
@@ -119,8 +121,8 @@ fn read_lines(alloc: Global, text: &[u8]) -> Result<Mixed, Fault>
     Ok(Mixed { accounts, items })
 }
 
-/// Reads a mixed session from its bytes. The whole text is read before a call is made. Its limits are those of a
-/// script.
+/// Reads a mixed session from its bytes. The whole text is read before a call is made. Its limits
+/// are those of a script.
 pub fn read_mixed(alloc: Global, text: &[u8]) -> Result<Mixed, Fault>
     ensures ok { IfOk result (FindsMixed text.now) }
     ensures err { IfErr result (IsMixedFault text.now) }

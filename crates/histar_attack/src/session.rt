@@ -6,9 +6,10 @@ ghost use Rattle.histar_attack.specs.Answering.{GivesOutput};
 ghost use Rattle.histar_attack.specs.Attack.{GivesAttack, WritesAttack, first_unix, from_raw};
 
 use crate::confinement::job_category;
-use crate::handling::{answer_before, handle_all};
+use crate::handling::{LineRule, answer_before, handle_all};
 use crate::items::MixedItem;
 use crate::reader::{Mixed, read_mixed};
+use crate::texts::push_trace_if;
 use histar_command::{Command, run_command};
 use histar_flat::{CallLine, ProcName};
 use histar_io::{Sink, Source, write_bytes};
@@ -23,44 +24,67 @@ const REMEMBERED_ANSWERS: usize = 256;
 /// What is written where the job's first process doesn't run.
 const NO_JOB: &[u8] = b"no job\n";
 
-/// Reads a mixed session, makes its calls, and writes a line for each call: of a Unix call the reply, and of a raw
-/// call the answer or the denial. From the first raw call on it makes a raw call only if its thread is tainted in
-/// the category of the job, and a Unix call only if its process is outside; of other calls it writes why they are
-/// not made. If the first process of the job doesn't run at the first raw call, or at the end where there is none,
-/// it writes `no job` alone.
+/// What is done beside an attack.
+#[derive(Clone, Copy)]
+pub struct AttackOptions {
+    /// Writes the trace at the end: a line for each raw call, those of boot first.
+    pub trace: bool,
+    /// Makes each Unix call, also one whose process is inside.
+    pub follow: bool,
+}
+
+/// The calls before the first raw call, and the others.
+#[derive(Drop)]
+struct Parts {
+    before: Vec<CallLine>,
+    later: Vec<MixedItem>,
+}
+
+/// Reads a mixed session, makes its calls, and writes a line for each call: of a Unix call the
+/// reply, and of a raw call the answer or the denial. From the first raw call on it makes a raw
+/// call only if its thread is tainted in the category of the job, and a Unix call only if its
+/// process is outside; of other calls it writes why they are not made. If the first process of the
+/// job doesn't run at the first raw call, or at the end where there is none, it writes `no job`
+/// alone.
 ///
-/// The whole session is read and checked before the first call. It writes once all calls are made. It doesn't
-/// flush the sink.
+/// The whole session is read and checked before the first call. It writes once all calls are made.
+/// It doesn't flush the sink.
 pub fn attack<R: Source, W: Sink>(
     alloc: Global,
     job: &ProcName,
     reader: &mut R,
     writer: &mut W,
+    options: AttackOptions,
 ) -> Result<(), Fault>
     // After a bad session, one that is too long or a failed read, the sink is as it was.
     ensures nothing { IfErr result (LeavesSink writer.old writer.new) }
 
     // A device has failed exactly if its fault is returned.
-    ensures reads { CountsFailure (R.failures reader.old) (R.failures reader.new) (is_read_failed result) }
-    ensures writes { CountsFailure (W.failures writer.old) (W.failures writer.new) (is_write_failed result) }
+    ensures reads { CountsFailure (R.failures reader.old) (R.failures reader.new)
+        (is_read_failed result) }
+    ensures writes { CountsFailure (W.failures writer.old) (W.failures writer.new)
+        (is_write_failed result) }
 
-    // Some bytes of the source were read, to its end but never more than 1,048,577, and run as a mixed session:
-    // its fault is returned, or what became of its calls is written, and the Unix calls that were made are
-    // answered as the rules say for a script of these alone.
-    ensures runs { RunsInput (WritesAttack job.now) (R.left reader.old) (R.left reader.new)
+    // Some bytes of the source were read, to its end but never more than 1,048,577, and run as a
+    // mixed session: its fault is returned, or what became of its calls is written; and unless
+    // calls inside are followed, the Unix calls that were made are answered as the rules say for a
+    // script of these alone.
+    ensures runs { RunsInput (WritesAttack options job.now) (R.left reader.old) (R.left reader.new)
         (W.written writer.old) (W.written writer.new) result }
 
     // If the input is known, the session of the whole input was run.
     ensures known { IfSome (R.left reader.old)
-        (λ input. WritesAttack job.now input (W.written writer.old) (W.written writer.new) result) }
+        (λ input. WritesAttack options job.now input
+        (W.written writer.old) (W.written writer.new) result) }
 {
-    run_command(alloc, reader, writer, Attacking { job })
+    run_command(alloc, reader, writer, Attacking { job, options })
 }
 
 /// The command of `attack`.
 #[derive(Drop)]
 struct Attacking<'a> {
     job: &'a ProcName,
+    options: AttackOptions,
 }
 
 impl<'a> Command for Attacking<'a> {
@@ -68,10 +92,10 @@ impl<'a> Command for Attacking<'a> {
 
     type Answer = ();
 
-    ghost Runs = { λ command. WritesAttack command.job.now };
+    ghost Runs = { λ command. WritesAttack command.options command.job.now };
 
     fn on_text<W: Sink>(self, alloc: Global, text: Vec<u8>, writer: &mut W) -> Result<(), Fault> {
-        attack_text(alloc, text.as_slice(), self.job, writer)
+        attack_text(alloc, text.as_slice(), self.job, writer, self.options)
     }
 
     ghost unread = { Prim.search rules };
@@ -85,39 +109,44 @@ fn attack_text<W: Sink>(
     text: &[u8],
     job: &ProcName,
     writer: &mut W,
+    options: AttackOptions,
 ) -> Result<(), Fault>
     ensures nothing { IfErr result (LeavesSink writer.old writer.new) }
     ensures reads { is_read_failed result ≡ false }
-    ensures writes { CountsFailure (W.failures writer.old) (W.failures writer.new) (is_write_failed result) }
-    ensures runs { WritesAttack job.now text.now (W.written writer.old) (W.written writer.new) result }
+    ensures writes { CountsFailure (W.failures writer.old) (W.failures writer.new)
+        (is_write_failed result) }
+    ensures runs { WritesAttack options job.now text.now
+        (W.written writer.old) (W.written writer.new) result }
 {
-    let output = attack_output(alloc, text, job)?;
+    let output = attack_output(alloc, text, job, options)?;
     write_bytes(writer, output.as_slice())?;
     Ok(())
 }
 
 /// Returns what is written of the mixed session in a text.
-fn attack_output(alloc: Global, text: &[u8], job: &ProcName) -> Result<Vec<u8>, Fault>
-    ensures { GivesAttack job.now text.now result }
+fn attack_output(
+    alloc: Global,
+    text: &[u8],
+    job: &ProcName,
+    options: AttackOptions,
+) -> Result<Vec<u8>, Fault>
+    ensures { GivesAttack options job.now text.now result }
 {
     let Mixed { accounts, items } = read_mixed(alloc, text)?;
-    let (before, later) = parted(alloc, items)?;
+    let parts = parted(alloc, items)?;
     let store = InternStore::new(alloc, REMEMBERED_ANSWERS)?;
     let Ok(mut machine) = Machine::boot(alloc, store, accounts) else {
         return Err(Fault::OutOfMemory);
     };
-    let output = run_attack(alloc, &mut machine, job, before, later);
+    let output = run_attack(alloc, &mut machine, job, parts, options);
     drop(machine);
     output
 }
 
 /// Parts the calls before the first raw call from the others.
-fn parted(
-    alloc: Global,
-    items: Vec<MixedItem>,
-) -> Result<(Vec<CallLine>, Vec<MixedItem>), AllocError>
-    ensures before { IfOk result (λ parts. parts.0.items ≡ first_unix items.items) }
-    ensures later { IfOk result (λ parts. parts.1.items ≡ from_raw items.items) }
+fn parted(alloc: Global, items: Vec<MixedItem>) -> Result<Parts, AllocError>
+    ensures before { IfOk result (λ parts. parts.before.items ≡ first_unix items.items) }
+    ensures later { IfOk result (λ parts. parts.later.items ≡ from_raw items.items) }
 {
     let mut before = Vec::new(alloc);
     let mut later = Vec::new(alloc);
@@ -133,7 +162,7 @@ fn parted(
             }
         }
     }
-    Ok((before, later))
+    Ok(Parts { before, later })
 }
 
 /// Makes the calls before an attack and those of the attack, and returns what is written of them.
@@ -141,18 +170,25 @@ fn run_attack<S: LabelStore + Drop>(
     alloc: Global,
     machine: &mut Machine<S>,
     job: &ProcName,
-    before: Vec<CallLine>,
-    later: Vec<MixedItem>,
+    parts: Parts,
+    options: AttackOptions,
 ) -> Result<Vec<u8>, Fault>
-    ensures ok { IfOk result (λ output. GivesOutput job.now machine.old before.items later.items output.items) }
+    ensures ok { IfOk result (λ output.
+        GivesOutput options job.now machine.old parts output.items) }
     ensures faults { IfErr result (λ fault. fault ≡ Fault.OutOfMemory) }
 {
+    let Parts { before, later } = parts;
     let mut output = Vec::new(alloc);
     answer_before(alloc, machine, before, &mut output)?;
     let first = machine.roots().home;
     let Some(category) = job_category(machine.kernel(), &first, job) else {
         return Ok(Vec::from_slice(alloc, NO_JOB)?);
     };
-    handle_all(alloc, machine, category, later, &mut output)?;
+    let rule = LineRule {
+        category,
+        follow: options.follow,
+    };
+    handle_all(alloc, machine, &rule, later, &mut output)?;
+    push_trace_if(alloc, &mut output, machine.trace(), options.trace)?;
     Ok(output)
 }

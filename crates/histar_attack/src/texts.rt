@@ -1,13 +1,16 @@
 //! The lines that are written of an attack.
-ghost use Rattle.std.specs.Prelude.{◌≡◌, ◌++◌, codes, decimal, OnOk};
+ghost use Rattle.std.specs.Prelude.{◌≡◌, ◌<◌, ◌++◌, codes, decimal, length, OnOk};
+ghost use Rattle.histar_rawtext.specs.RawText.{trace_text};
+ghost use Rattle.histar_attack.specs.Answering.{AddsEntry, trace_if_asked};
 ghost use Rattle.histar_raw_session.specs.Answers.{line_text as raw_line_text};
 ghost use Rattle.histar_shell.specs.Answers.{line_text};
 
 use histar_flat::Reply;
 use histar_raw_session::{answer_line, denial_line};
+use histar_rawtext::trace_line;
 use histar_rules::Denied;
 use histar_shell::reply_text;
-use histar_syscall::Answer;
+use histar_syscall::{Answer, Trace};
 use itoa::Buffer;
 use std::alloc::{AllocError, Global};
 
@@ -49,4 +52,41 @@ pub(crate) fn push_outcome(
         Err(denied) => denial_line(alloc, number, denied)?,
     };
     text.extend_from_slice(line.as_slice())
+}
+
+/// Adds the lines of a trace, if it is asked for.
+pub(crate) fn push_trace_if(
+    alloc: Global,
+    text: &mut Vec<u8>,
+    trace: &Trace,
+    asked: bool,
+) -> Result<(), AllocError>
+    ensures { OnOk result (text.new.items
+        ≡ text.old.items ++ trace_if_asked asked trace.now.entries) }
+{
+    if asked {
+        push_trace(alloc, text, trace)?;
+    }
+    Ok(())
+}
+
+/// Adds the lines of a trace.
+fn push_trace(alloc: Global, text: &mut Vec<u8>, trace: &Trace) -> Result<(), AllocError>
+    ensures { OnOk result (text.new.items ≡ text.old.items ++ trace_text trace.now.entries) }
+{
+    'lines: for at in 0..trace.len() {
+        push_entry(alloc, text, trace, at)?;
+    }
+    Ok(())
+}
+
+/// Adds the line of the entry at a place of a trace.
+fn push_entry(alloc: Global, text: &mut Vec<u8>, trace: &Trace, at: usize) -> Result<(), AllocError>
+    requires { at < length trace.now.entries }
+    ensures { OnOk result (AddsEntry trace.now.entries at text.old.items text.new.items) }
+{
+    let entry = trace.entry(alloc, at)?;
+    let line = trace_line(alloc, &entry);
+    drop(entry);
+    text.extend_from_slice(line?.as_slice())
 }

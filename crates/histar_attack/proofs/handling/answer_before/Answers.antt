@@ -6,4 +6,4 @@ pub calls-init : goal.calls-init
 calls-init g c = answers_none c.args.machine.now c.args.output.now.items
 
 pub calls-preserved : goal.calls-preserved
-calls-preserved g c = answers_more _ _ _ _ _ _ c.calls.yielded c.in-Some.call c.calls.invariant c.in_ok-answer_unix.ensures.ok
+calls-preserved g c = answers_more c.calls.yielded c.in-Some.call c.calls.invariant c.in_ok-answer_unix.ensures.ok

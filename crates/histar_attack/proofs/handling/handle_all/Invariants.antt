@@ -3,4 +3,4 @@ use Rattle.histar_attack.specs.Handling.{HandlesItems}
 use Rattle.histar_attack.proofs.handling.handle_all.Given as goal
 
 abbrev pub invariant-items : goal.invariant-items
-invariant-items g l = HandlesItems l.category l.fn.machine l.machine l.fn.output.items l.output.items l.yielded
+invariant-items g l = HandlesItems l.rule l.fn.machine l.machine l.fn.output.items l.output.items l.yielded

@@ -16,7 +16,8 @@ loop-rest-preserved c =
 
 pub returns-in_err-read_line-clause-err : goal.returns-in_err-read_line-clause-err
 returns-in_err-read_line-clause-err c =
-    rw (passed_on _ _ c.from_residual.ensures.1) (line_bad c.args.text.now c.loop-rest.rest.now c.split_line.result.1.now c.split_line.result.0.now c.loop-rest.count
+    rw (passed_on _ _ c.from_residual.ensures.1) (line_bad c.args.text.now c.loop-rest.rest.now c.split_line.result.1.now
+    c.split_line.result.0.now c.loop-rest.count
     c.loop-rest.script c.loop-rest.marks.items c.loop-rest.invariant.so_far c.split_line.ensures.first c.requires.short
     c.in_err-read_line.field-0.0
     c.in_err-read_line.ensures)

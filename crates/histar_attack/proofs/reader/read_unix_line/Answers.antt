@@ -12,7 +12,8 @@ returns-in_default c = (refl, line_lost c.args.script.now c.args.number c.args.l
 pub returns-in_err-add : goal.returns-in_err-add
 returns-in_err-add c =
     let taken = line_taken c.args.script.now c.args.number c.args.line.now c.in-Some.item _ (sym c.in_ok-item.ensures ∙ c.in-Some.is) refl in
-    rw (passed_on _ _ c.from_residual-in_err-add.ensures.1) (subst (λ (o : Option ScriptModel). IsLineFault c.args.number (o ≡ None) c.in_err-add.field-0.0) (sym taken)
+    rw (passed_on _ _ c.from_residual-in_err-add.ensures.1) (subst (λ (o : Option ScriptModel). IsLineFault c.args.number (o ≡ None)
+    c.in_err-add.field-0.0) (sym taken)
     (fault_of c.args.number c.add.new.self _ c.in_err-add.field-0.0 c.in_err-add.ensures))
 
 pub returns : goal.returns
