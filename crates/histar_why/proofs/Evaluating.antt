@@ -12,6 +12,7 @@ use Rattle.std.proofs.lemmas.Option.{none-some, same_Some}
 use Rattle.histar_base.specs.Paths.{path_cmp, same}
 use Rattle.histar_base.proofs.PathLaws.{path_cmp_total, path_cmp_exact}
 use Rattle.histar_base.specs.Refusals.{◌orelse◌, unless}
+use Rattle.histar_flat.specs.declared.calls.CallLine.{CallLine}
 use Rattle.histar_flat.specs.declared.calls.Mode.{Mode}
 use Rattle.histar_flat.specs.declared.calls.Mode.TheVariants as modes
 use Rattle.histar_flat.specs.declared.calls.UnixCall.{UnixCall}
@@ -248,8 +249,14 @@ module _ (accounts : Accounts) (s : State) (f : Flat) (births : Births) (names :
 
   -- ---- part by part
 
-  module _ (me : ProcName) (call : UnixCall) (caller : Caller) (caller_is : process_of caller ≡ p) (asked : Asked)
-      (is_asked : IsAsked me call asked) (view : View) (is : IsViewOf users roots births s caller asked view) where
+  module _ (line : CallLine) (caller : Caller) (caller_is : process_of caller ≡ p) (asked : Asked) (is_asked : IsAsked line asked)
+      (view : View) (is : IsViewOf users roots births s caller asked view) where
+    abbrev me : ProcName
+    me = line.process
+
+    abbrev call : UnixCall
+    call = line.call
+
     abbrev q : Path
     q = path_of call
 
@@ -361,7 +368,7 @@ module _ (accounts : Accounts) (s : State) (f : Flat) (births : Births) (names :
 
     found_met : (name : ProcName) → other_of call ≡ name → reason (parts.OfProcess (of_process.Found name)) ≡ why_not_found accounts f p name
     found_met name given =
-        is.facts.search ∙ search_is accounts s f births names (process_of caller) asked.other
+        is.facts.sought ∙ search_is accounts s f births names (process_of caller) asked.other
         ∙ (λ i. why_not_found accounts f (caller_is i) ((is_asked.other ∙ given) i))
 
     child_met : (name : ProcName) → reason (parts.OfProcess (of_process.IsChild name)) ≡ unless (is_child me name) (IsNoChild name)

@@ -20,7 +20,7 @@ use Rattle.histar_why.specs.declared.views.View.{View}
 use Rattle.histar_why.specs.Absences.{absence_by}
 use Rattle.histar_why.specs.Names.{process_of}
 use Rattle.histar_why.specs.Reasons.{first_reason, reason_of}
-use Rattle.histar_why.specs.Telling.{Adds, SaysLine, SaysReason, SaysWords, words_of}
+use Rattle.histar_why.specs.Logging.{Adds, SaysLine, SaysReason, SaysWords, words_of}
 use Rattle.histar_why.specs.Views.{IsViewOf}
 
 module _ (users : Accounts) (roots : Roots) (births : Births) (s : State) (asked : Asked) where
@@ -53,14 +53,14 @@ added_as (Err e) Says Says' old new says a = tt
 
 -- ---- a whole line
 
-module _ (m : MachineModel) (births : Births) (number : ℕ) (asked : Asked) (reply : Reply) where
+module _ (m : MachineModel) (births : Births) (asked : Asked) (reply : Reply) where
   abbrev head : List ℕ
-  head = codes "!" ++ decimal number ++ codes " " ++ reply_text reply ++ codes ": "
+  head = codes "!" ++ decimal asked.line ++ codes " " ++ reply_text reply ++ codes ": "
 
   pub line_added : {X E : Type 0} (r : Result X E) (users : Accounts) (roots : Roots) (kernel : KernelModel) (known : Births)
       → users ≡ m.users → roots ≡ m.roots → kernel ≡ m.kernel → known ≡ births
       → (old first second new : List ℕ) → first ≡ old ++ head → Adds (SaysWords users roots known (state kernel) asked) first second
-      → new ≡ (if is_ok r then second ++ codes "\n" else second) → OnOk r (Adds (SaysLine m births number asked reply) old new)
+      → new ≡ (if is_ok r then second ++ codes "\n" else second) → OnOk r (Adds (SaysLine m births asked reply) old new)
   line_added (Err e) users roots kernel known us rs ks bs old first second new a b c = tt
   line_added (Ok x) users roots kernel known us rs ks bs old first second new a b c = (
     head ++ b.0 ++ codes "\n",

@@ -3,6 +3,7 @@ use Rattle.std.specs.Prelude.{◌≡◌, ℕ, Bool, true, false, List, [], lengt
 use Rattle.std.proofs.Common.{ap, sym, ◌∙◌, subst}
 use Rattle.std.proofs.lemmas.Bool.{true≢false}
 use Rattle.std.proofs.lemmas.Option.{none-some}
+use Rattle.histar_flat.specs.declared.calls.CallLine.{CallLine}
 use Rattle.histar_flat.specs.declared.calls.UnixCall.{UnixCall}
 use Rattle.histar_flat.specs.declared.replies.Errno.{Errno}
 use Rattle.histar_flat.specs.declared.replies.Reply.{Reply}
@@ -29,11 +30,17 @@ use Rattle.histar_why.specs.declared.names.Caller.{Caller}
 use Rattle.histar_why.specs.Absences.{absence_by}
 use Rattle.histar_why.specs.Asked.{IsAsked}
 use Rattle.histar_why.specs.Names.{IsReached, Knows, process_of, running_at}
-use Rattle.histar_why.specs.Telling.{SaysIfRefused, SaysLine, SaysReason, SaysWords, words_of}
+use Rattle.histar_why.specs.Logging.{SaysIfRefused, SaysLine, SaysReason, SaysWords, words_of}
 use Rattle.histar_why.proofs.Evaluating.{reason_is}
 use Rattle.histar_why.proofs.Found.{absence_is, running_found}
 
-module _ (accounts : Accounts) (f : Flat) (reached : IsReached accounts f) (me : ProcName) (call : UnixCall) where
+module _ (accounts : Accounts) (f : Flat) (reached : IsReached accounts f) (line : CallLine) where
+  abbrev me : ProcName
+  me = line.process
+
+  abbrev call : UnixCall
+  call = line.call
+
   tree : IsTree f
   tree = subst IsTree (sym reached.1) (paths_are_a_tree accounts reached.0)
 
@@ -70,7 +77,7 @@ module _ (accounts : Accounts) (f : Flat) (reached : IsReached accounts f) (me :
       by None runs = refl
       by (Some p) runs = unchanged p runs (refused accounts f me p call) refl
 
-  module _ (m : MachineModel) (births : Births) (known : Knows births accounts m f) (asked : Asked) (is_asked : IsAsked me call asked)
+  module _ (m : MachineModel) (births : Births) (known : Knows births accounts m f) (asked : Asked) (is_asked : IsAsked line asked)
       (refusal : is_refusal (reply_to accounts f me call) ≡ true) where
     abbrev s : State
     s = state m.kernel
@@ -88,7 +95,7 @@ module _ (accounts : Accounts) (f : Flat) (reached : IsReached accounts f) (me :
         let some : is_some (why accounts f me p call) ≡ true =
         sym (some_words p (why accounts f me p call)) ∙ sym (ap (λ (o : Option Process). is_some (sentence_by accounts f me o call)) runs)
         ∙ spoken ∙ refusal in
-        let found = reason_is accounts s f births known.names tree p me call caller is asked is_asked says.0 says.1 some in
+        let found = reason_is accounts s f births known.names tree p line caller is asked is_asked says.0 says.1 some in
         said (why accounts f me p call) some
         (says.2 ∙ (λ i. words_of (is_asked.by i) (is i) (found i)))
       where
@@ -115,15 +122,16 @@ module _ (accounts : Accounts) (f : Flat) (reached : IsReached accounts f) (me :
 
   -- the line is that of the rules, whether the call was refused or not
   pub line_said : (m : MachineModel) (births : Births) → Knows births accounts m (flat_after accounts f me call) → (asked : Asked)
-      → IsAsked me call asked → (number : ℕ) (reply : Reply) → reply ≡ reply_to accounts f me call → (line : List ℕ)
-      → SaysIfRefused m births number asked reply line → line ≡ line_text number reply (sentence accounts f me call)
-  line_said m births known asked is_asked number reply is line says = by (is_refusal reply) refl says
+      → IsAsked line asked → (reply : Reply) → reply ≡ reply_to accounts f me call → (text : List ℕ)
+      → SaysIfRefused m births asked reply text → text ≡ line_text line.line reply (sentence accounts f me call)
+  line_said m births known asked is_asked reply is text says = by (is_refusal reply) refl says
     where
-      none_of : (o : Option (List ℕ)) → is_some o ≡ false → line_text number reply o ≡ []
+      none_of : (o : Option (List ℕ)) → is_some o ≡ false → line_text line.line reply o ≡ []
       none_of None e = refl
       none_of (Some words) e = absurd (true≢false e)
 
-      by : (b : Bool) → is_refusal reply ≡ b → MatchBool b (SaysLine m births number asked reply line) (line ≡ []) → line ≡ line_text number reply (sentence accounts f me call)
+      by : (b : Bool) → is_refusal reply ≡ b → MatchBool b (SaysLine m births asked reply text) (text ≡ [])
+          → text ≡ line_text line.line reply (sentence accounts f me call)
       by false none e = e ∙ sym (none_of (sentence accounts f me call) (spoken ∙ ap is_refusal (sym is) ∙ none))
       by true refusal says =
           let refuses : is_refusal (reply_to accounts f me call) ≡ true = ap is_refusal (sym is) ∙ refusal in
@@ -131,4 +139,5 @@ module _ (accounts : Accounts) (f : Flat) (reached : IsReached accounts f) (me :
           let words =
           subst (λ (x : Accounts × Roots). SaysWords x.0 x.1 births (state m.kernel) asked says.words)
           (λ i. (here.shows.users i, here.shows.roots i)) says.says in
-          says.is ∙ ap (line_text number reply) (sym (words_said m births here asked is_asked refuses says.words words))
+          says.is ∙ ap (λ (n : ℕ). line_text n reply (Some says.words)) is_asked.number
+          ∙ ap (line_text line.line reply) (sym (words_said m births here asked is_asked refuses says.words words))

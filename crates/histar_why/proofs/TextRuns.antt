@@ -28,7 +28,7 @@ use Rattle.histar_shell.proofs.CallRefinements.{calls_refine}
 use Rattle.histar_shell.proofs.SessionMeanings.{answers_begin, begins_meaning, longer_front, tree_at_last, writes_meaning}
 use Rattle.histar_shell.proofs.Users.{script_says}
 use Rattle.histar_why.specs.Run.{BeginsReasons, ReasonsAs, ReasonsAtFault, RunsWithReasons, reasons_text}
-use Rattle.histar_why.specs.Session.{BeginsRun, HasTold, WritesRun}
+use Rattle.histar_why.specs.Session.{BeginsRun, HasLogged, WritesRun}
 use Rattle.histar_why.proofs.Naming.{known_at_start}
 
 -- what `run_with_reasons` returns
@@ -117,15 +117,15 @@ module _ (options : Options) where
                 (subst (λ (cs : List CallLine). BeginsAnswers start old new cs) calls_are b));
           })
 
-    module _ (old replied : Option (List ℕ)) (end : MachineModel) (lines : List ℕ) (told : HasTold start end old replied calls lines) where
+    module _ (old replied : Option (List ℕ)) (end : MachineModel) (lines : List ℕ) (logged : HasLogged start end old replied calls lines) where
       answered : AnswersCalls start end old replied script.calls
-      answered = subst (AnswersCalls start end old replied) calls_are told.1.answered
+      answered = subst (AnswersCalls start end old replied) calls_are logged.1.answered
 
       -- the lines are those of the script
       lines_are : lines ≡ reasons_text script
       lines_are =
           let says = script_says text script given in
-          (told.1.tells script.accounts (boot script.accounts) (known_at_start script.accounts says.0 start started)).0
+          (logged.1.logs script.accounts (boot script.accounts) (known_at_start script.accounts says.0 start started)).0
           ∙ ap (why_lines script.accounts (boot script.accounts)) calls_are
 
       -- what `run` writes was written
@@ -212,15 +212,15 @@ module _ (options : Options) where
 
     -- all was written
     whole_run : (old new : Option (List ℕ)) → WritesRun options start old new calls → RunsWithReasons options text old new (Ok tt)
-    whole_run old new run = whole_text old run.replied run.end run.text run.told run.rest.ended new run.rest.ending run.rest.lines
+    whole_run old new run = whole_text old run.replied run.end run.text run.logged run.rest.ended new run.rest.ending run.rest.lines
 
     -- a beginning of the replies, of what follows them or of the lines was written
     begun_run : (f : Fault) (old new : Option (List ℕ)) → IsOutputFault f → BeginsRun options start old new calls
         → RunsWithReasons options text old new (Err f)
     begun_run f old new h (inl b) = begun_replies f old new h b
     begun_run f old new h (inr run) = elim run.rest [
-      | inl b ↦ begun_ending old run.replied run.end run.text run.told f new h b
-      | inr b ↦ begun_lines old run.replied run.end run.text run.told f new h b.ended b.ending b.lines
+      | inl b ↦ begun_ending old run.replied run.end run.text run.logged f new h b
+      | inr b ↦ begun_lines old run.replied run.end run.text run.logged f new h b.ended b.ending b.lines
     ]
 
     -- the text was run with reasons, whatever the run of its calls returns

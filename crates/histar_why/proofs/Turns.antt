@@ -16,15 +16,15 @@ use Rattle.histar_shell.specs.Answers.{answers_text}
 use Rattle.histar_shell.specs.AnsweredCalls.{AnswersCalls, BeginsAnswer, BeginsAnswers}
 use Rattle.histar_shell.specs.Machine.{MachineModel}
 use Rattle.histar_shell.proofs.AnswerLemmas.{answers_more, answers_none, begins_more}
-use Rattle.histar_why.specs.declared.session.Teller.{Teller}
+use Rattle.histar_why.specs.declared.session.Log.{Log}
 use Rattle.histar_why.specs.Names.{Knows}
-use Rattle.histar_why.specs.Session.{Answers, BeginsCall, TellsCall, TellsCalls}
+use Rattle.histar_why.specs.Session.{Answers, BeginsCall, LogsCall, LogsCalls}
 use Rattle.histar_why.proofs.Naming.{known_then, meant}
 use Rattle.histar_why.proofs.Saying.{line_said}
 
 -- no call
-pub tells_none : (m : MachineModel) (a : Option (List ℕ)) → TellsCalls m m a a [] [] []
-tells_none m a = record { answered = answers_none m a; tells = λ accounts f known. (refl, known) }
+pub logs_none : (m : MachineModel) (a : Option (List ℕ)) → LogsCalls m m a a [] [] []
+logs_none m a = record { answered = answers_none m a; logs = λ accounts f known. (refl, known) }
 
 module _ (accounts : Accounts) where
   -- the line of a call
@@ -41,14 +41,14 @@ module _ (accounts : Accounts) where
       (line_of (flat_end accounts (flat_after accounts f d.process d.call) calls) c))
 
 -- one call more
-module _ (first mid last : MachineModel) (a b c : Option (List ℕ)) (calls : List CallLine) (call : CallLine) (from to : Teller)
-    (done : TellsCalls first mid a b calls from.births.items from.text.items) (one : TellsCall mid last b c call from to) where
+module _ (first mid last : MachineModel) (a b c : Option (List ℕ)) (calls : List CallLine) (call : CallLine) (from to : Log)
+    (done : LogsCalls first mid a b calls from.births.items from.text.items) (one : LogsCall mid last b c call from to) where
   module _ (accounts : Accounts) (f : Flat) (known : Knows [] accounts first f) where
     abbrev g : Flat
     g = flat_end accounts f calls
 
     known_mid : Knows from.births.items accounts mid g
-    known_mid = (done.tells accounts f known).1
+    known_mid = (done.logs accounts f known).1
 
     known_last : Knows to.births.items accounts last (flat_after accounts g call.process call.call)
     known_last =
@@ -58,25 +58,25 @@ module _ (first mid last : MachineModel) (a b c : Option (List ℕ)) (calls : Li
     one_line : one.text.0 ≡ line_of accounts g call
     one_line =
         let is = (meant from.births.items accounts mid last g known_mid call one.reply one.answers.is_call one.answers.answered).is_reply in
-        line_said accounts g known_mid.reached call.process call.call last to.births.items known_last one.asked one.is_asked call.line one.reply is
+        line_said accounts g known_mid.reached call last to.births.items known_last one.asked one.is_asked one.reply is
         one.text.0 one.text.2
         ∙ ap (λ (reply : Reply). line_text call.line reply (sentence accounts g call.process call.call)) is
 
-    told : to.text.items ≡ why_lines accounts f (calls ++ call ∷ [])
-    told = one.text.1 ∙ (λ i. (done.tells accounts f known).0 i ++ one_line i) ∙ sym (lines_more accounts f calls call)
+    logged : to.text.items ≡ why_lines accounts f (calls ++ call ∷ [])
+    logged = one.text.1 ∙ (λ i. (done.logs accounts f known).0 i ++ one_line i) ∙ sym (lines_more accounts f calls call)
 
     known_end : Knows to.births.items accounts last (flat_end accounts f (calls ++ call ∷ []))
     known_end = subst (Knows to.births.items accounts last) (sym (states_go_on accounts f calls (call ∷ []))) known_last
 
-  pub tells_more : TellsCalls first last a c (calls ++ call ∷ []) to.births.items to.text.items
-  tells_more = record {
+  pub logs_more : LogsCalls first last a c (calls ++ call ∷ []) to.births.items to.text.items
+  logs_more = record {
     answered =
         answers_more first mid last a b c calls call done.answered
         (record { reply = one.reply; answered = one.answers.answered; written = one.answers.written });
-    tells = λ accounts f known. (told accounts f known, known_end accounts f known);
+    logs = λ accounts f known. (logged accounts f known, known_end accounts f known);
   }
 
--- ---- where a call is not told
+-- ---- where a call is not logged
 
 -- nothing is a beginning of each text
 pub front_none : (a : Option (List ℕ)) (text : List ℕ) → AppendsFront a a text

@@ -13,7 +13,7 @@ use Rattle.histar_names.specs.Births.{Births}
 use Rattle.histar_shell.specs.Ending.{AppendsEnding}
 use Rattle.histar_shell.specs.Machine.{MachineModel}
 use Rattle.histar_shell.specs.declared.session.Options.{Options}
-use Rattle.histar_why.specs.Session.{AppendsRest, BeginsRest, BeginsRun, HasTold, IsWithText, TellsCalls, WritesRun}
+use Rattle.histar_why.specs.Session.{AppendsRest, BeginsRest, BeginsRun, HasLogged, IsWithText, LogsCalls, WritesRun}
 
 -- what an outcome says is said of the text that is returned with it
 module _ (outcome : Result (Unit {0}) Fault) (text : Vec ℕ) (made : Result (Vec ℕ) Fault) (with : IsWithText outcome text made) where
@@ -47,10 +47,10 @@ module _ (outcome : Result (Unit {0}) Fault) (text : Vec ℕ) (made : Result (Ve
       by (Err fault) e = sym (ap is_write_failed e)
 
 -- the same, whatever the births are
-pub has_told : {X E : Type 0} (r : Result X E) (m end : MachineModel) (a b : Option (List ℕ)) (calls : List CallLine)
-    (births : Births) (text : List ℕ) → OnOk r (TellsCalls m end a b calls births text) → OnOk r (HasTold m end a b calls text)
-has_told (Ok x) m end a b calls births text h = (births, h)
-has_told (Err e) m end a b calls births text h = tt
+pub has_logged : {X E : Type 0} (r : Result X E) (m end : MachineModel) (a b : Option (List ℕ)) (calls : List CallLine)
+    (births : Births) (text : List ℕ) → OnOk r (LogsCalls m end a b calls births text) → OnOk r (HasLogged m end a b calls text)
+has_logged (Ok x) m end a b calls births text h = (births, h)
+has_logged (Err e) m end a b calls births text h = tt
 
 -- what follows the replies was written, and then what writing the lines says
 module _ (options : Options) (m : MachineModel) (old ended new : Option (List ℕ)) (text : List ℕ) (ending : AppendsEnding options m old ended) where
@@ -62,9 +62,9 @@ module _ (options : Options) (m : MachineModel) (old ended new : Option (List �
   rest_begun (Ok x) begun = tt
   rest_begun (Err e) begun = inr (record { ended = ended; ending = ending; lines = begun })
 
--- all calls were answered and told, and then the rest was written as far as its result says
+-- all calls were answered and logged, and then the rest was written as far as its result says
 module _ (options : Options) (start end : MachineModel) (old replied : Option (List ℕ)) (calls : List CallLine)
-    (text : List ℕ) (told : HasTold start end old replied calls text) where
+    (text : List ℕ) (logged : HasLogged start end old replied calls text) where
   module _ (new : Option (List ℕ)) (bytes : List ℕ) (same : bytes ≡ text) where
     pub run_written : {X E : Type 0} (r : Result X E) → OnOk r (AppendsRest options end replied new bytes)
         → OnOk r (WritesRun options start old new calls)
@@ -72,7 +72,7 @@ module _ (options : Options) (start end : MachineModel) (old replied : Option (L
       end = end;
       replied = replied;
       text = text;
-      told = told;
+      logged = logged;
       rest = subst (AppendsRest options end replied new) same rest;
     }
     run_written (Err e) rest = tt
@@ -84,6 +84,6 @@ module _ (options : Options) (start end : MachineModel) (old replied : Option (L
       end = end;
       replied = replied;
       text = text;
-      told = told;
+      logged = logged;
       rest = subst (BeginsRest options end replied new) same rest;
     })

@@ -1,5 +1,6 @@
 -- What a call needs, part by part, without the bytes and the password that it has.
 use Rattle.std.specs.Prelude.{◌≡◌, ℕ, List, [], ◌∷◌, ◌++◌, length, Option, None, Some}
+use Rattle.histar_flat.specs.declared.calls.CallLine.{CallLine}
 use Rattle.histar_flat.specs.declared.calls.Mode.{Mode}
 use Rattle.histar_flat.specs.declared.calls.UnixCall.{UnixCall}
 use Rattle.histar_flat.specs.declared.calls.UnixCall.TheVariants.{Create, Mkdir, Read, Write, Append, List as ListCall, Stat, Unlink, Rmdir, Rmtree}
@@ -80,10 +81,11 @@ parts_of (Rmtree q) = parts_of_removal (Rmtree q)
 parts_of (Rename q name) = parts_of_removal (Rename q name)
 parts_of call = parts_of_process call
 
--- this is what a call of a process asks for
-pub record IsAsked (process : ProcName) (call : UnixCall) (asked : Asked) : Type 0 where
-  pub by : asked.process ≡ process
-  pub path : asked.path ≡ path_of call
-  pub beside : asked.beside ≡ beside_of call
-  pub other : asked.other ≡ other_of call
-  pub parts : asked.parts.items ≡ parts_of call
+-- this is what a call line asks for
+pub record IsAsked (line : CallLine) (asked : Asked) : Type 0 where
+  pub number : asked.line ≡ line.line
+  pub by : asked.process ≡ line.process
+  pub path : asked.path ≡ path_of line.call
+  pub beside : asked.beside ≡ beside_of line.call
+  pub other : asked.other ≡ other_of line.call
+  pub parts : asked.parts.items ≡ parts_of line.call

@@ -6,6 +6,6 @@ pub mod Reasons
 pub mod Ways
 pub mod Views
 pub mod Absences
-pub mod Telling
+pub mod Logging
 pub mod Session
 pub mod Run

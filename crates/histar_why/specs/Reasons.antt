@@ -97,7 +97,7 @@ module _ (view : View) where
   process_reason of_process.HasChildLeft = unless (nat_lt view.caller.now.born most_children) (HadChildren view.caller.now.born)
   process_reason of_process.HasNumberLeft =
       unless (nat_lt (length view.asked.now.process) most_numbers) (HasNumbers (length view.asked.now.process + 1))
-  process_reason (of_process.Found name) = option_map reason_of view.facts.now.search
+  process_reason (of_process.Found name) = option_map reason_of view.facts.now.sought
   process_reason (of_process.IsChild name) = unless (is_child view.asked.now.process name) (IsNoChild name)
   process_reason (of_process.IsUser name) = unless (is_some (user_number view.users.now name)) (NoUser name)
   process_reason (of_process.HasPassword name) = Some (WrongPassword name)

@@ -19,10 +19,10 @@ use Rattle.histar_shell.specs.Ending.{AppendsEnding, BeginsTheEnding}
 use Rattle.histar_shell.specs.Machine.{MachineModel, AnswersLine}
 use Rattle.histar_shell.specs.declared.session.Options.{Options}
 use Rattle.histar_why.specs.declared.asked.Asked.{Asked}
-use Rattle.histar_why.specs.declared.session.Teller.{Teller}
+use Rattle.histar_why.specs.declared.session.Log.{Log}
 use Rattle.histar_why.specs.Asked.{IsAsked}
 use Rattle.histar_why.specs.Names.{Knows}
-use Rattle.histar_why.specs.Telling.{Adds, SaysIfRefused}
+use Rattle.histar_why.specs.Logging.{Adds, SaysIfRefused}
 
 -- the machine answered this call line with this reply, and the line of the reply was written
 pub record Answers (before after : MachineModel) (old new : Option (List ℕ)) (call : CallLine) (reply : Reply) : Type 0 where
@@ -31,13 +31,13 @@ pub record Answers (before after : MachineModel) (old new : Option (List ℕ)) (
   pub written : Appends old new (line_text call.line reply)
 
 -- the machine answered this call line; the births were noted, and the line of the call was added if it was refused
-pub record TellsCall (before after : MachineModel) (old new : Option (List ℕ)) (call : CallLine) (from to : Teller) : Type 0 where
+pub record LogsCall (before after : MachineModel) (old new : Option (List ℕ)) (call : CallLine) (from to : Log) : Type 0 where
   pub reply : Reply
   pub answers : Answers before after old new call reply
   pub births : to.births.items ≡ births_after (state after.kernel) after.roots call.process from.births.items
   pub asked : Asked
-  pub is_asked : IsAsked call.process call.call asked
-  pub text : Adds (SaysIfRefused after to.births.items call.line asked reply) from.text.items to.text.items
+  pub is_asked : IsAsked call asked
+  pub text : Adds (SaysIfRefused after to.births.items asked reply) from.text.items to.text.items
 
 -- a beginning of the line of this call's reply was written, if the machine answered it, or nothing was
 abbrev pub BeginsCall : MachineModel → MachineModel → Option (List ℕ) → Option (List ℕ) → CallLine → Type 0
@@ -45,19 +45,19 @@ BeginsCall before after old new call = Keeps old new ⊎ BeginsAnswer before aft
 
 -- For each flat state that the first machine represents, the text has the lines of the refused ones of these calls, and the names of the jobs of
 -- the last one are right.
-abbrev pub Tells : MachineModel → MachineModel → Births → Births → List CallLine → List ℕ → Type 0
-Tells before after from to calls text =
+abbrev pub Logs : MachineModel → MachineModel → Births → Births → List CallLine → List ℕ → Type 0
+Logs before after from to calls text =
     (accounts : Accounts) (f : Flat) → Knows from accounts before f
     → (text ≡ why_lines accounts f calls) × Knows to accounts after (flat_end accounts f calls)
 
 -- the machine answered each of these call lines, the lines of its replies were written, and the text has the lines of the refused ones
-pub record TellsCalls (before after : MachineModel) (old new : Option (List ℕ)) (calls : List CallLine) (births : Births) (text : List ℕ) : Type 0 where
+pub record LogsCalls (before after : MachineModel) (old new : Option (List ℕ)) (calls : List CallLine) (births : Births) (text : List ℕ) : Type 0 where
   pub answered : AnswersCalls before after old new calls
-  pub tells : Tells before after [] births calls text
+  pub logs : Logs before after [] births calls text
 
 -- the same, whatever the births are
-abbrev pub HasTold : MachineModel → MachineModel → Option (List ℕ) → Option (List ℕ) → List CallLine → List ℕ → Type 0
-HasTold before after old new calls text = (births : Births) × TellsCalls before after old new calls births text
+abbrev pub HasLogged : MachineModel → MachineModel → Option (List ℕ) → Option (List ℕ) → List CallLine → List ℕ → Type 0
+HasLogged before after old new calls text = (births : Births) × LogsCalls before after old new calls births text
 
 -- the result is the text, or the fault of the outcome
 abbrev pub IsWithText : Result (Unit {0}) Fault → Vec ℕ → Result (Vec ℕ) Fault → Type 0
@@ -66,33 +66,33 @@ IsWithText outcome text result = MatchResult outcome (λ _. result ≡ Ok text) 
 -- ---- the calls of a script and what is written after the replies
 
 -- what follows the replies of a machine was written, and then the lines as far as `Writes` says
-pub record TellsAfter (Writes : Option (List ℕ) → Type 0) (options : Options) (m : MachineModel) (old : Option (List ℕ)) : Type 0 where
+pub record LogsAfter (Writes : Option (List ℕ) → Type 0) (options : Options) (m : MachineModel) (old : Option (List ℕ)) : Type 0 where
   pub ended : Option (List ℕ)
   pub ending : AppendsEnding options m old ended
   pub lines : Writes ended
 
 -- what follows the replies of a machine was written, and then this text
 abbrev pub AppendsRest : Options → MachineModel → Option (List ℕ) → Option (List ℕ) → List ℕ → Type 0
-AppendsRest options m old new text = TellsAfter (λ ended. Appends ended new text) options m old
+AppendsRest options m old new text = LogsAfter (λ ended. Appends ended new text) options m old
 
 -- a beginning of that was written
 abbrev pub BeginsRest : Options → MachineModel → Option (List ℕ) → Option (List ℕ) → List ℕ → Type 0
-BeginsRest options m old new text = BeginsTheEnding options m old new ⊎ TellsAfter (λ ended. AppendsFront ended new text) options m old
+BeginsRest options m old new text = BeginsTheEnding options m old new ⊎ LogsAfter (λ ended. AppendsFront ended new text) options m old
 
 -- The machine answered each of these call lines, and the lines of its replies were written. So was what `Rest` says of the machine, of
 -- what was written by then, and of the lines of refused calls.
-pub record TellsRun (Rest : MachineModel → Option (List ℕ) → List ℕ → Type 0) (start : MachineModel) (old : Option (List ℕ)) (calls : List CallLine) : Type 0 where
+pub record LogsRun (Rest : MachineModel → Option (List ℕ) → List ℕ → Type 0) (start : MachineModel) (old : Option (List ℕ)) (calls : List CallLine) : Type 0 where
   pub end : MachineModel
   pub replied : Option (List ℕ)
   pub text : List ℕ
-  pub told : HasTold start end old replied calls text
+  pub logged : HasLogged start end old replied calls text
   pub rest : Rest end replied text
 
 -- the calls were answered, and the replies, what follows them and the lines of refused calls were written
 abbrev pub WritesRun : Options → MachineModel → Option (List ℕ) → Option (List ℕ) → List CallLine → Type 0
-WritesRun options start old new calls = TellsRun (λ end replied text. AppendsRest options end replied new text) start old calls
+WritesRun options start old new calls = LogsRun (λ end replied text. AppendsRest options end replied new text) start old calls
 
 -- a beginning of that was written
 abbrev pub BeginsRun : Options → MachineModel → Option (List ℕ) → Option (List ℕ) → List CallLine → Type 0
 BeginsRun options start old new calls =
-    BeginsAnswers start old new calls ⊎ TellsRun (λ end replied text. BeginsRest options end replied new text) start old calls
+    BeginsAnswers start old new calls ⊎ LogsRun (λ end replied text. BeginsRest options end replied new text) start old calls

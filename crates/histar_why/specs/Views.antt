@@ -60,7 +60,7 @@ pub record AreFactsOf (users : Accounts) (roots : Roots) (births : Births) (s : 
   pub above : CountsEntries s facts.way.above facts.above
   pub here : CountsEntries s facts.way.here facts.here
   pub beside : IsBeside s roots asked facts.beside
-  pub search : option_map reason_of facts.search ≡ search_by users births s roots.home p asked.other
+  pub sought : option_map reason_of facts.sought ≡ search_by users births s roots.home p asked.other
 
 -- this is what a call of a process is about
 pub record IsViewOf (users : Accounts) (roots : Roots) (births : Births) (s : State) (caller : Caller) (asked : Asked) (view : View) : Type 0 where

@@ -66,6 +66,8 @@ pub(crate) enum Kept {
 /// A call without the bytes and the password that it has.
 #[derive(Drop)]
 pub(crate) struct Asked {
+    /// The number of the call's line.
+    pub line: u32,
     /// The process that makes the call.
     pub process: ProcName,
     /// The path that the call names, or `/`.
@@ -80,9 +82,10 @@ pub(crate) struct Asked {
 
 /// Returns what a call line asks for.
 pub(crate) fn asked_of(alloc: Global, line: &CallLine) -> Result<Asked, AllocError>
-    ensures { IfOk result (λ asked. IsAsked line.now.process line.now.call asked) }
+    ensures { IfOk result (IsAsked line.now) }
 {
     Ok(Asked {
+        line: line.line,
         process: line.process,
         path: line.call.path(),
         beside: beside_of(&line.call),

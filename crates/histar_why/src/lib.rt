@@ -7,11 +7,11 @@
 mod absences;
 mod asked;
 mod causes;
+mod logging;
 mod names;
 mod reasons;
 mod sentences;
 mod session;
-mod telling;
 mod views;
 mod ways;
 

@@ -126,7 +126,7 @@ fn process_reason(view: &View, part: &ProcessPart) -> Option<Reason>
     let (caller, me) = (view.caller, &view.asked.process);
     let numbers = me.numbers().len();
     let (is_met, reason) = match part {
-        ProcessPart::Found(_) => return view.facts.search,
+        ProcessPart::Found(_) => return view.facts.sought,
         ProcessPart::InNoJob => return in_job(caller),
         ProcessPart::MayMake(mode) => (may_make(view.users, caller, mode), unmade(mode)),
         ProcessPart::HasChildLeft => (

@@ -79,49 +79,89 @@ fn push_process_reason(
 {
     let user = &caller.user;
     match reason {
-        ProcessReason::MakesOnlyOpen => push_about_name(
-            text,
-            "user ",
-            user,
-            " makes only what is open",
-        ),
+        ProcessReason::MakesOnlyOpen => {
+            push_about_name(text, "user ", user, " makes only what is open")
+        }
         ProcessReason::StartsNoJob => push_about_name(text, "user ", user, " starts no job"),
-        ProcessReason::IsNoMember(group) => {
-            push_about_name(text, "user ", user, " is not in group ")?;
-            push_about_name(text, "", group, "")
+        ProcessReason::IsNoMember(group) => push_no_member(text, user, group),
+        ProcessReason::HadChildren(count) => push_children(text, me, *count),
+        ProcessReason::HasNumbers(count) => push_numbers(text, me, *count),
+        ProcessReason::NoProcess(name) => {
+            push_about_process(text, "there is no process ", name, "")
         }
-        ProcessReason::HadChildren(count) => {
-            push_about_process(text, "", me, " has had ")?;
-            push_count(text, u128::from(*count), " children, and 64 is the most")
-        }
-        ProcessReason::HasNumbers(count) => {
-            push_about_process(text, "the name ", me, " has ")?;
-            push_count(text, *count as u128, " numbers, and 8 is the most")
-        }
-        ProcessReason::NoProcess(name) => push_about_process(
-            text,
-            "there is no process ",
-            name,
-            "",
-        ),
-        ProcessReason::IsUnseen(name, job) => {
-            push_who(text, me, caller)?;
-            push_about_process(text, " does not see ", name, ": ")?;
-            push_unknown(text, me, job)
-        }
-        ProcessReason::IsNoChild(name) => {
-            push_about_process(text, "", name, " is no child of ")?;
-            push_process(text, me)
-        }
+        ProcessReason::IsUnseen(name, job) => push_unseen(text, me, caller, name, job),
+        ProcessReason::IsNoChild(name) => push_no_child(text, me, name),
         ProcessReason::NoUser(name) => push_about_name(text, "there is no user ", name, ""),
         ProcessReason::WrongPassword(name) => {
             push_about_name(text, "that is not the password of ", name, "")
         }
-        ProcessReason::IsInJob(job) => {
-            push_about_process(text, "", me, " is in job ")?;
-            push_about_process(text, "", job, ", and no process in a job logs in")
-        }
+        ProcessReason::IsInJob(job) => push_in_job(text, me, job),
     }
+}
+
+/// Adds that a user is in no group of this name.
+fn push_no_member(text: &mut Vec<u8>, user: &Name, group: &Name) -> Result<(), AllocError>
+    ensures { OnOk result (text.new.items ≡ text.old.items
+        ++ (codes "user " ++ user.now ++ codes " is not in group " ++ group.now)) }
+{
+    push_about_name(text, "user ", user, " is not in group ")?;
+    text.extend_from_slice(group.as_bytes())
+}
+
+/// Adds that a process has had too many children.
+fn push_children(text: &mut Vec<u8>, me: &ProcName, count: u8) -> Result<(), AllocError>
+    ensures { OnOk result (text.new.items ≡ text.old.items
+        ++ (process_text me.now ++ codes " has had " ++ decimal count
+        ++ codes " children, and 64 is the most")) }
+{
+    push_about_process(text, "", me, " has had ")?;
+    push_count(text, u128::from(count), " children, and 64 is the most")
+}
+
+/// Adds that the name of a process has too many numbers.
+fn push_numbers(text: &mut Vec<u8>, me: &ProcName, count: usize) -> Result<(), AllocError>
+    ensures { OnOk result (text.new.items ≡ text.old.items
+        ++ (codes "the name " ++ process_text me.now ++ codes " has " ++ decimal count
+        ++ codes " numbers, and 8 is the most")) }
+{
+    push_about_process(text, "the name ", me, " has ")?;
+    push_count(text, count as u128, " numbers, and 8 is the most")
+}
+
+/// Adds that a process doesn't see another one, for it doesn't know the job.
+fn push_unseen(
+    text: &mut Vec<u8>,
+    me: &ProcName,
+    caller: &Caller,
+    name: &ProcName,
+    job: &ProcName,
+) -> Result<(), AllocError>
+    ensures { OnOk result (text.new.items ≡ text.old.items
+        ++ (who_text me.now (process_of caller.now) ++ codes " does not see "
+        ++ process_text name.now ++ codes ": " ++ unknown_text me.now job.now)) }
+{
+    push_who(text, me, caller)?;
+    push_about_process(text, " does not see ", name, ": ")?;
+    push_unknown(text, me, job)
+}
+
+/// Adds that one process is no child of another.
+fn push_no_child(text: &mut Vec<u8>, me: &ProcName, name: &ProcName) -> Result<(), AllocError>
+    ensures { OnOk result (text.new.items ≡ text.old.items
+        ++ (process_text name.now ++ codes " is no child of " ++ process_text me.now)) }
+{
+    push_about_process(text, "", name, " is no child of ")?;
+    push_process(text, me)
+}
+
+/// Adds that a process may not log in, which is in a job.
+fn push_in_job(text: &mut Vec<u8>, me: &ProcName, job: &ProcName) -> Result<(), AllocError>
+    ensures { OnOk result (text.new.items ≡ text.old.items
+        ++ (process_text me.now ++ codes " is in job " ++ process_text job.now
+        ++ codes ", and no process in a job logs in")) }
+{
+    push_about_process(text, "", me, " is in job ")?;
+    push_about_process(text, "", job, ", and no process in a job logs in")
 }
 
 /// Adds the text of a cause.

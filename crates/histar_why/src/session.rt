@@ -10,10 +10,10 @@ ghost use Rattle.histar_shell.specs.Ending.{HasTree};
 ghost use Rattle.histar_shell.specs.AllAnswers.{EndsWithTree};
 ghost use Rattle.histar_why.specs.Run.{RunsWithReasons};
 ghost use Rattle.histar_why.specs.Session.{Answers, AppendsRest, BeginsCall, BeginsRest, BeginsRun};
-ghost use Rattle.histar_why.specs.Session.{HasTold, IsWithText, TellsCall, TellsCalls, WritesRun};
+ghost use Rattle.histar_why.specs.Session.{HasLogged, IsWithText, LogsCall, LogsCalls, WritesRun};
 
 use crate::asked::asked_of;
-use crate::telling::tell;
+use crate::logging::log_call;
 use histar_command::{Command, run_command};
 use histar_flat::{CallLine, ProcName, Reply, each_call_is_right};
 use histar_io::{Sink, Source, write_bytes};
@@ -26,9 +26,9 @@ use std::alloc::{AllocError, Global};
 /// How many answers of label comparisons the kernel remembers.
 const REMEMBERED_ANSWERS: usize = 256;
 
-/// What is told of refused calls, and from what.
+/// The lines of refused calls, and what they are made from.
 #[derive(Drop)]
-pub(crate) struct Teller {
+pub(crate) struct Log {
     /// For each category, by its number, the process that was born with it.
     pub births: Vec<Option<ProcName>>,
     /// The lines so far.
@@ -127,37 +127,37 @@ fn run_calls<S: LabelStore + Drop, W: Sink>(
     ensures faults { IfErr result IsOutputFault }
     ensures count { CountsFailure (W.failures writer.old) (W.failures writer.new) (is_write_failed result) }
 {
-    let text = tell_calls(alloc, machine, calls, writer)?;
+    let text = log_calls(alloc, machine, calls, writer)?;
     write_rest(alloc, machine, writer, options, text.as_slice())
 }
 
 /// Makes the calls on a machine that was booted, writes the replies, and returns the lines of refused calls.
-fn tell_calls<S: LabelStore + Drop, W: Sink>(
+fn log_calls<S: LabelStore + Drop, W: Sink>(
     alloc: Global,
     machine: &mut Machine<S>,
     calls: Vec<CallLine>,
     writer: &mut W,
 ) -> Result<Vec<u8>, Fault>
-    ensures ok { IfOk result (λ text. HasTold machine.old machine.new
+    ensures ok { IfOk result (λ text. HasLogged machine.old machine.new
         (W.written writer.old) (W.written writer.new) calls.items text.items) }
     ensures err { OnErr result (BeginsAnswers machine.old (W.written writer.old)
         (W.written writer.new) calls.items) }
     ensures faults { IfErr result IsOutputFault }
     ensures count { CountsFailure (W.failures writer.old) (W.failures writer.new) (is_write_failed result) }
 {
-    let mut teller = Teller {
+    let mut log = Log {
         births: Vec::new(alloc),
         text: Vec::new(alloc),
     };
-    let outcome = answer_calls(alloc, machine, &mut teller, calls, writer);
-    with_text(outcome, teller)
+    let outcome = answer_calls(alloc, machine, &mut log, calls, writer);
+    with_text(outcome, log)
 }
 
 /// Returns the lines so far where the outcome is no fault.
-fn with_text(outcome: Result<(), Fault>, teller: Teller) -> Result<Vec<u8>, Fault>
-    ensures { IsWithText outcome teller.text result }
+fn with_text(outcome: Result<(), Fault>, log: Log) -> Result<Vec<u8>, Fault>
+    ensures { IsWithText outcome log.text result }
 {
-    let Teller { births, text } = teller;
+    let Log { births, text } = log;
     drop(births);
     match outcome {
         Ok(()) => Ok(text),
@@ -201,44 +201,43 @@ fn write_lines<W: Sink>(writer: &mut W, text: &[u8]) -> Result<(), Fault>
 fn answer_calls<S: LabelStore + Drop, W: Sink>(
     alloc: Global,
     machine: &mut Machine<S>,
-    teller: &mut Teller,
+    log: &mut Log,
     calls: Vec<CallLine>,
     writer: &mut W,
 ) -> Result<(), Fault>
-    requires births { teller.old.births.items ≡ [] }
-    requires text { teller.old.text.items ≡ [] }
-    ensures ok { OnOk result (TellsCalls machine.old machine.new (W.written writer.old)
-        (W.written writer.new) calls.items teller.new.births.items teller.new.text.items) }
+    requires births { log.old.births.items ≡ [] }
+    requires text { log.old.text.items ≡ [] }
+    ensures ok { OnOk result (LogsCalls machine.old machine.new (W.written writer.old)
+        (W.written writer.new) calls.items log.new.births.items log.new.text.items) }
     ensures err { OnErr result (BeginsAnswers machine.old (W.written writer.old)
         (W.written writer.new) calls.items) }
     ensures faults { IfErr result IsOutputFault }
     ensures count { CountsFailure (W.failures writer.old) (W.failures writer.new) (is_write_failed result) }
 {
     'calls: for call in calls {
-        answer_and_tell(alloc, machine, teller, call, writer)?;
+        answer_and_log(alloc, machine, log, call, writer)?;
     }
     Ok(())
 }
 
 /// Makes one call on the machine, writes its line, and keeps the line of its refusal.
-fn answer_and_tell<S: LabelStore + Drop, W: Sink>(
+fn answer_and_log<S: LabelStore + Drop, W: Sink>(
     alloc: Global,
     machine: &mut Machine<S>,
-    teller: &mut Teller,
+    log: &mut Log,
     call: CallLine,
     writer: &mut W,
 ) -> Result<(), Fault>
-    ensures ok { OnOk result (TellsCall machine.old machine.new (W.written writer.old)
-        (W.written writer.new) call teller.old teller.new) }
+    ensures ok { OnOk result (LogsCall machine.old machine.new (W.written writer.old)
+        (W.written writer.new) call log.old log.new) }
     ensures err { OnErr result (BeginsCall machine.old machine.new (W.written writer.old)
         (W.written writer.new) call) }
     ensures faults { IfErr result IsOutputFault }
     ensures count { CountsFailure (W.failures writer.old) (W.failures writer.new) (is_write_failed result) }
 {
-    let number = call.line;
     let asked = asked_of(alloc, &call)?;
     let reply = answer(alloc, machine, call, writer)?;
-    Ok(tell(alloc, machine, teller, number, &asked, &reply)?)
+    Ok(log_call(alloc, machine, log, &asked, &reply)?)
 }
 
 /// Makes one call on the machine, writes its line, and returns its reply.

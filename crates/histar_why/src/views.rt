@@ -29,7 +29,7 @@ pub(crate) struct Facts {
     /// Whether something in that directory has the name that the call gives.
     pub beside: bool,
     /// Why the process doesn't find the one that is named.
-    pub search: Option<Reason>,
+    pub sought: Option<Reason>,
 }
 
 /// What a call is about.
@@ -58,7 +58,7 @@ pub(crate) fn facts_of<S: LabelStore + Drop>(
         above: count_at(alloc, reader.kernel, &way.above)?,
         here: count_at(alloc, reader.kernel, &way.here)?,
         beside: is_beside(reader, asked),
-        search: search(alloc, reader, caller, asked.other.numbers())?,
+        sought: search(alloc, reader, caller, asked.other.numbers())?,
     })
 }
 

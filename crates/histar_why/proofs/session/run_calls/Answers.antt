@@ -13,12 +13,12 @@ write_rest-requires g c = c.requires _ _ _ c.in_ok-text.ensures.ok.1.answered
 
 pub returns-clause-ok : goal.returns-clause-ok
 returns-clause-ok g c =
-    run_written c.args.options c.args.machine.now c.tell_calls.new.machine _ _ c.args.calls.items _
+    run_written c.args.options c.args.machine.now c.log_calls.new.machine _ _ c.args.calls.items _
     c.in_ok-text.ensures.ok _ _ c.as_slice.ensures.value c.write_rest.result c.write_rest.ensures.ok
 
 pub returns-clause-err : goal.returns-clause-err
 returns-clause-err g c =
-    run_begun c.args.options c.args.machine.now c.tell_calls.new.machine _ _ c.args.calls.items _
+    run_begun c.args.options c.args.machine.now c.log_calls.new.machine _ _ c.args.calls.items _
     c.in_ok-text.ensures.ok _ _ c.as_slice.ensures.value c.write_rest.result c.write_rest.ensures.err
 
 pub returns-clause-count : goal.returns-clause-count

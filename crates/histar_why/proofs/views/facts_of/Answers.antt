@@ -19,5 +19,5 @@ returns g c =
       above = c.in_ok-count_at.ensures;
       here = c.in_ok-count_at-2.ensures;
       beside = c.is_beside.ensures;
-      search = c.in_ok-search.ensures ∙ ap (search_by users births s roots.home p) c.numbers.ensures.value;
+      sought = c.in_ok-search.ensures ∙ ap (search_by users births s roots.home p) c.numbers.ensures.value;
     }

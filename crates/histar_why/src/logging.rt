@@ -6,14 +6,14 @@ ghost use Rattle.histar_names.specs.Births.{births_after};
 ghost use Rattle.histar_reasons.specs.Laws.{is_refusal};
 ghost use Rattle.histar_syscall.specs.KernelModel.{state};
 ghost use Rattle.histar_why.specs.Names.{process_of, running_at};
-ghost use Rattle.histar_why.specs.Telling.{Adds, SaysIfRefused, SaysLine, SaysReason, SaysWords};
+ghost use Rattle.histar_why.specs.Logging.{Adds, SaysIfRefused, SaysLine, SaysReason, SaysWords};
 
 use crate::absences::absence_of;
 use crate::asked::Asked;
 use crate::names::{Caller, Reader, caller_of, node_at};
 use crate::reasons::first_reason;
 use crate::sentences::{push_absence, push_reason};
-use crate::session::Teller;
+use crate::session::Log;
 use crate::views::{View, facts_of};
 use histar_flat::{ProcName, Reply};
 use histar_label::LabelStore;
@@ -23,27 +23,26 @@ use histar_texts::push_number;
 use std::alloc::{AllocError, Global};
 
 /// Notes the births of a line, and adds its line if its call was refused.
-pub(crate) fn tell<S: LabelStore + Drop>(
+pub(crate) fn log_call<S: LabelStore + Drop>(
     alloc: Global,
     machine: &Machine<S>,
-    teller: &mut Teller,
-    number: u32,
+    log: &mut Log,
     asked: &Asked,
     reply: &Reply,
 ) -> Result<(), AllocError>
-    ensures births { OnOk result (teller.new.births.items
-        ≡ births_after (state machine.now.kernel) machine.now.roots asked.now.process teller.old.births.items) }
-    ensures text { OnOk result (Adds (SaysIfRefused machine.now teller.new.births.items number asked.now reply.now)
-        teller.old.text.items teller.new.text.items) }
+    ensures births { OnOk result (log.new.births.items
+        ≡ births_after (state machine.now.kernel) machine.now.roots asked.now.process log.old.births.items) }
+    ensures text { OnOk result (Adds (SaysIfRefused machine.now log.new.births.items asked.now reply.now)
+        log.old.text.items log.new.text.items) }
 {
     note_births(
         machine.kernel(),
         machine.roots(),
         &asked.process,
-        &mut teller.births,
+        &mut log.births,
     )?;
     if is_refusal(reply) {
-        push_line(alloc, machine, teller, number, asked, reply)
+        push_line(alloc, machine, log, asked, reply)
     } else {
         Ok(())
     }
@@ -53,24 +52,23 @@ pub(crate) fn tell<S: LabelStore + Drop>(
 fn push_line<S: LabelStore + Drop>(
     alloc: Global,
     machine: &Machine<S>,
-    teller: &mut Teller,
-    number: u32,
+    log: &mut Log,
     asked: &Asked,
     reply: &Reply,
 ) -> Result<(), AllocError>
-    ensures births { teller.new.births.items ≡ teller.old.births.items }
-    ensures text { OnOk result (Adds (SaysLine machine.now teller.old.births.items number asked.now reply.now)
-        teller.old.text.items teller.new.text.items) }
+    ensures births { log.new.births.items ≡ log.old.births.items }
+    ensures text { OnOk result (Adds (SaysLine machine.now log.old.births.items asked.now reply.now)
+        log.old.text.items log.new.text.items) }
 {
     let reader = Reader {
         kernel: machine.kernel(),
         roots: machine.roots(),
         users: machine.users(),
-        births: teller.births.as_slice(),
+        births: log.births.as_slice(),
     };
-    push_head(alloc, &mut teller.text, number, reply)?;
-    push_words(alloc, &reader, asked, &mut teller.text)?;
-    teller.text.extend_from_slice(b"\n")
+    push_head(alloc, &mut log.text, asked.line, reply)?;
+    push_words(alloc, &reader, asked, &mut log.text)?;
+    log.text.extend_from_slice(b"\n")
 }
 
 /// Checks whether a reply is a refusal.

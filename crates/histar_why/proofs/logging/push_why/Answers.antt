@@ -1,10 +1,10 @@
--- Proves the goals of `push_why` of src/telling.rt that the search leaves open.
+-- Proves the goals of `push_why` of src/logging.rt that the search leaves open.
 use Rattle.std.proofs.Common.{[], refl, sym, append-nil}
 use Rattle.std.specs.Prelude.{None, Some}
 use Rattle.histar_syscall.specs.KernelModel.{state}
 use Rattle.histar_why.specs.declared.views.View.{View}
 use Rattle.histar_why.proofs.Lines.{added, reason_added}
-use Rattle.histar_why.proofs.telling.push_why.Goals as goal
+use Rattle.histar_why.proofs.logging.push_why.Goals as goal
 
 pub returns-in-Some : goal.returns-in-Some
 returns-in-Some g c =

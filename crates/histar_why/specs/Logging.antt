@@ -44,12 +44,12 @@ module _ (users : Accounts) (roots : Roots) (births : Births) (s : State) where
       (λ p. (caller : Caller) × (process_of caller ≡ p) × SaysReason caller asked words)
 
 -- this is the line of a refused call
-pub record SaysLine (m : MachineModel) (births : Births) (number : ℕ) (asked : Asked) (reply : Reply) (line : List ℕ) : Type 0 where
+pub record SaysLine (m : MachineModel) (births : Births) (asked : Asked) (reply : Reply) (line : List ℕ) : Type 0 where
   pub words : List ℕ
   pub says : SaysWords m.users m.roots births (state m.kernel) asked words
-  pub is : line ≡ line_text number reply (Some words)
+  pub is : line ≡ line_text asked.line reply (Some words)
 
 -- this is the line of a call that was refused, and there is none of another call
-abbrev pub SaysIfRefused : MachineModel → Births → ℕ → Asked → Reply → List ℕ → Type 0
-SaysIfRefused m births number asked reply line =
-    MatchBool (is_refusal reply) (SaysLine m births number asked reply line) (line ≡ [])
+abbrev pub SaysIfRefused : MachineModel → Births → Asked → Reply → List ℕ → Type 0
+SaysIfRefused m births asked reply line =
+    MatchBool (is_refusal reply) (SaysLine m births asked reply line) (line ≡ [])
