@@ -49,7 +49,8 @@ Handles rule old new (Replied a) =
 Handles rule old new (Answered asked outcome) =
     IsTaintedCaller (state old.kernel) rule.category asked.thread
     × MakesRaw old new asked.line asked.thread asked.call (Ok outcome)
-Handles rule old new (NotConfined asked) = (IsTaintedCaller (state old.kernel) rule.category asked.thread → ⊥) × (new ≡ old)
+Handles rule old new (NotConfined asked) =
+    (IsTaintedCaller (state old.kernel) rule.category asked.thread → ⊥) × (new ≡ old)
 Handles rule old new (Inside call) =
     (rule.follow ≡ false) × (IsOutsideCaller (state old.kernel) rule.category old.roots.home call.process → ⊥)
     × (new ≡ old)
