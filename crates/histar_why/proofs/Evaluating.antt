@@ -1,5 +1,6 @@
 -- The first part of a call's needs that is not met, by what was read, is that of the rule.
-use Rattle.std.specs.Prelude.{◌≡◌, ℕ, suc, ◌+◌, ◌==◌, Bool, true, false, cond, not, nat_le, nat_lt, List, [], ◌∷◌, ◌++◌, length, Option, None, Some, MatchOption}
+use Rattle.std.specs.Prelude.{◌≡◌, ℕ, suc, ◌+◌, ◌==◌, Bool, true, false, cond, not, nat_le, nat_lt, List, [], ◌∷◌, ◌++◌, length}
+use Rattle.std.specs.Prelude.{Option, None, Some, MatchOption}
 use Rattle.std.specs.Prelude.{if◌then◌else◌, is_some, option_map, refl, T}
 use Rattle.std.specs.List.{cons_option, filter_map, position_or_len}
 use Rattle.std.specs.FinMap.{find, is_sorted}
@@ -26,7 +27,8 @@ use Rattle.histar_flat.specs.Accounts.{Accounts, user_named, user_number}
 use Rattle.histar_flat.specs.Classes.{Class, Process, class_made, free_class, is_free, nobody}
 use Rattle.histar_flat.specs.Classes.Class.{Scratch}
 use Rattle.histar_flat.specs.Files.{get}
-use Rattle.histar_flat.specs.FlatState.{Flat, IsTree, Node, bytes_at, bytes_of, class_of, entries_in, entry_in, is_dir, is_dir_at, is_file_at, is_some_and, is_there}
+use Rattle.histar_flat.specs.FlatState.{Flat, IsTree, Node, bytes_at, bytes_of, class_of, entries_in, entry_in}
+use Rattle.histar_flat.specs.FlatState.{is_dir, is_dir_at, is_file_at, is_some_and, is_there}
 use Rattle.histar_flat.specs.Needs.{is_below_root, is_child, most_bytes, most_entries}
 use Rattle.histar_flat.specs.CallRules.{path_of, rule}
 use Rattle.histar_flat.specs.PathOrder.{parent}
@@ -241,9 +243,11 @@ module _ (accounts : Accounts) (s : State) (f : Flat) (births : Births) (names :
           counts (directory_of f.files l.naming.number q) (shows_directory accounts s f l q g back.0 back.2) ∙ count_entries accounts s f l q
 
   -- whether something has the name that the call gives
-  beside_is : (q : Path) (name : Name) (found : Option Target) → Resolves s roots (name ∷ parent q) found → is_some found ≡ is_there f (name ∷ parent q)
+  beside_is : (q : Path) (name : Name) (found : Option Target) → Resolves s roots (name ∷ parent q) found
+      → is_some found ≡ is_there f (name ∷ parent q)
   unfolding Resolves
-  beside_is q name None nowhere = sym (ap (λ (o : Option Node). is_some_and o (λ n. true)) (nothing_at accounts s f births names (name ∷ parent q) nowhere))
+  beside_is q name None nowhere =
+      sym (ap (λ (o : Option Node). is_some_and o (λ n. true)) (nothing_at accounts s f births names (name ∷ parent q) nowhere))
   beside_is q name (Some target) led =
       sym (ap (λ (o : Option Node). is_some_and o (λ n. true)) (node_at accounts s f births names (name ∷ parent q) target led).at)
 
@@ -272,12 +276,14 @@ module _ (accounts : Accounts) (s : State) (f : Flat) (births : Births) (names :
     revealed : Reveals users roots births s accounts f
     revealed = record { users_are = refl; roots_are = refl; names = names }
 
-    way_is : (option_map reason_of view.facts.now.way.walk ≡ why_walk accounts f p q) × At (parent q) view.facts.now.way.above × At q view.facts.now.way.here
+    way_is : (option_map reason_of view.facts.now.way.walk ≡ why_walk accounts f p q)
+        × At (parent q) view.facts.now.way.above × At q view.facts.now.way.here
     way_is =
         let way = is.facts.way accounts f revealed in
         let walked : option_map reason_of view.facts.now.way.walk ≡ why_walk accounts f (process_of caller) asked.path = way.0 in
         (subst (λ (x : Process × Path). (option_map reason_of view.facts.now.way.walk ≡ why_walk accounts f x.0 x.1)
-        × IsAt users roots births s accounts f x.0 (parent x.1) view.facts.now.way.above × IsAt users roots births s accounts f x.0 x.1 view.facts.now.way.here)
+        × IsAt users roots births s accounts f x.0 (parent x.1) view.facts.now.way.above
+        × IsAt users roots births s accounts f x.0 x.1 view.facts.now.way.here)
         (λ i. (caller_is i, is_asked.path i)) way)
 
     abbrev reason : Part → Option Reason
@@ -307,7 +313,8 @@ module _ (accounts : Accounts) (s : State) (f : Flat) (births : Births) (names :
         let beside : MatchOption (Some name) (view.facts.now.beside ≡ false)
         (λ n. (found : Option Target) × Resolves s roots (n ∷ parent asked.path) found × (view.facts.now.beside ≡ is_some found)) =
         subst (λ (o : Option Name). MatchOption o (view.facts.now.beside ≡ false)
-        (λ n. (found : Option Target) × Resolves s roots (n ∷ parent asked.path) found × (view.facts.now.beside ≡ is_some found))) (is_asked.beside ∙ given) is.facts.beside in
+        (λ n. (found : Option Target) × Resolves s roots (n ∷ parent asked.path) found
+        × (view.facts.now.beside ≡ is_some found))) (is_asked.beside ∙ given) is.facts.beside in
         let there : view.facts.now.beside ≡ is_there f (name ∷ parent q) =
         beside.2 ∙ beside_is q name beside.0 (subst (λ (x : Path). Resolves s roots (name ∷ parent x) beside.0) is_asked.path beside.1) in
         λ i. unless (not (there i)) (IsTaken (name ∷ parent (path_is i)))
@@ -316,7 +323,9 @@ module _ (accounts : Accounts) (s : State) (f : Flat) (births : Births) (names :
     read_met = ap (λ (x : Path). option_map (MayNotRead x) (unread_in view.facts.now.way.here)) path_is ∙ read_is q view.facts.now.way.here way_is.2
 
     write_met : is_there f q ≡ true → reason parts.MayWrite ≡ not_written accounts f p q
-    write_met there = ap (λ (x : Path). option_map (MayNotWrite x) (unwritten_in view.facts.now.way.here)) path_is ∙ write_is q view.facts.now.way.here way_is.2 there
+    write_met there =
+        ap (λ (x : Path). option_map (MayNotWrite x) (unwritten_in view.facts.now.way.here)) path_is
+        ∙ write_is q view.facts.now.way.here way_is.2 there
 
     -- where the process can walk to the path, its directory is there
     parent_there : (r : Path) → why_walk accounts f p r ≡ None → is_there f (parent r) ≡ true
@@ -444,7 +453,8 @@ module _ (accounts : Accounts) (s : State) (f : Flat) (births : Births) (names :
         (λ walked. λ i. directory_met i orelse read_met i orelse empty_met i orelse written_last walked i)
     call_met (Rmtree r) e refused = entry_first (parts.MayWriteAbove ∷ []) _ written_last
     call_met (Rename r name) e refused =
-        entry_first (parts.AbsentBeside name ∷ parts.MayWriteAbove ∷ []) _ (λ walked. λ i. beside_met name (ap beside_of e) i orelse written_last walked i)
+        entry_first (parts.AbsentBeside name ∷ parts.MayWriteAbove ∷ []) _
+        (λ walked. λ i. beside_met name (ap beside_of e) i orelse written_last walked i)
     call_met Spawn e refused = λ i. child_left_met i orelse (none_last (reason (parts.OfProcess of_process.HasNumberLeft)) ∙ number_left_met) i
     call_met (Exit n) e refused = refl
     call_met (Status name) e refused = none_last (reason (parts.OfProcess (of_process.Found name))) ∙ found_met name (ap other_of e)
@@ -453,7 +463,8 @@ module _ (accounts : Accounts) (s : State) (f : Flat) (births : Births) (names :
     call_met Whoami e refused = refl
     call_met (Login name password) e refused =
         (λ i. user_met name i orelse job_met i orelse Some (WrongPassword name))
-        ∙ last_refuses (unless (is_some (user_named accounts.users name)) (NoUser name)) (option_map IsInJob (innermost p)) _ (WrongPassword name) refused
+        ∙ last_refuses (unless (is_some (user_named accounts.users name)) (NoUser name)) (option_map IsInJob (innermost p)) _
+        (WrongPassword name) refused
     call_met (Wrap r) e refused =
         (λ i. child_left_met i orelse number_left_met i orelse room_first (parts.OfProcess of_process.IsSomebody) _ somebody_met i)
         ∙ sym (assoc (unless (nat_lt p.born most_children) (HadChildren p.born))

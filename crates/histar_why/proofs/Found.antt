@@ -102,7 +102,8 @@ module _ (accounts : Accounts) (s : State) (f : Flat) (births : Births) (names :
         ∙ by (f.processes me) refl
       where
         by : (o : Option Process) → f.processes me ≡ o
-            → option_and_then (λ (home : Home). node_in (without_passwords accounts) s me home) (option_map (λ (p : Process). where_is accounts s f l me) o)
+            → option_and_then (λ (home : Home). node_in (without_passwords accounts) s me home)
+            (option_map (λ (p : Process). where_is accounts s f l me) o)
             ≡ read_of me o
         by None e = refl
         by (Some p) e = same_node accounts s me (where_is accounts s f l me) ∙ node_is accounts s f l me p e
@@ -139,7 +140,8 @@ module _ (accounts : Accounts) (s : State) (f : Flat) (births : Births) (names :
     where
       by : (o : Option Process) → f.processes (n ∷ above) ≡ o
           → unfound_by births p (n ∷ above) (read_of (n ∷ above) o)
-          ≡ (unless (is_some o) (NoProcess (n ∷ above)) orelse elim o [ None ↦ None | Some other ↦ option_map (IsUnseen (n ∷ above)) (unknown p other.chain) ])
+          ≡ (unless (is_some o) (NoProcess (n ∷ above))
+          orelse elim o [ None ↦ None | Some other ↦ option_map (IsUnseen (n ∷ above)) (unknown p other.chain) ])
       by None e = refl
       by (Some other) e = ap (λ (jobs : List ProcName). option_map (IsUnseen (n ∷ above)) (unknown p jobs)) (chain_named (n ∷ above) other e)
 

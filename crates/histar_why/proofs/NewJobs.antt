@@ -82,7 +82,8 @@ module _ (f : Flat) (tree : IsTree f) (me : ProcName) (p : Process) (here : f.pr
   ]
   by_processes new each job (inr served) = inl (inr served)
 
-  by_node : (g : Flat) → AreOld g → (q : Path) (x : Node) → ((job : ProcName) → is_for x.class job ≡ true → Old job) → AreOld (with_node g q x.class x.content)
+  by_node : (g : Flat) → AreOld g → (q : Path) (x : Node) → ((job : ProcName) → is_for x.class job ≡ true → Old job)
+      → AreOld (with_node g q x.class x.content)
   by_node g old q x own job (inl known) = old job (inl known)
   by_node g old q x own job (inr (r, y, e, c)) = elim (same_path_found r q) [
     | inl t ↦

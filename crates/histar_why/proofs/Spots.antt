@@ -1,5 +1,6 @@
 -- What is found at a path of a state is what the rules say is there.
-use Rattle.std.specs.Prelude.{◌≡◌, ℕ, ◌+◌, ◌*◌, true, List, [], ◌∷◌, length, map, Option, None, Some, MatchOption, option_and_then, option_map, refl, Ok, Err}
+use Rattle.std.specs.Prelude.{◌≡◌, ℕ, ◌+◌, ◌*◌, true, List, [], ◌∷◌, length, map, Option, None, Some, MatchOption}
+use Rattle.std.specs.Prelude.{option_and_then, option_map, refl, Ok, Err}
 use Rattle.std.proofs.Common.{ap, inr, sym, ◌∙◌, subst}
 use Rattle.std.proofs.lemmas.Option.{none-some, same_Some}
 use Rattle.std.specs.FinMap as maps
@@ -90,7 +91,8 @@ module _ (accounts : Accounts) where
   jobs_still (numbered.Scratch owner jobs) has = subst (λ (users : ℕ). IsRisingFrom (4 + 2 * (users + length accounts.groups)) jobs) (sym count) has
   jobs_still (numbered.Group group) has = tt
 
-  still_of_class : (class : NumberedClass) (label : Levels) → IsClassLabel accounts class label → IsClassLabel (without_passwords accounts) class label
+  still_of_class : (class : NumberedClass) (label : Levels) → IsClassLabel accounts class label
+      → IsClassLabel (without_passwords accounts) class label
   still_of_class class label is = record { jobs = jobs_still class is.jobs; is = same_class_label class ∙ is.is }
 
   same_unread : (p : Process) (class : Class) → unread (without_passwords accounts) p class ≡ unread accounts p class
@@ -318,7 +320,8 @@ module _ (users : Accounts) (roots : Roots) (births : Births) (s : State) (p : P
   as_revealed : (accounts : Accounts) (f : Flat) → Reveals users roots births s accounts f → (Holds : Accounts → Roots → Type 0)
       → Holds (without_passwords accounts) (roots_of (length accounts.users)) → Holds users roots
   as_revealed accounts f r Holds h =
-      subst (λ (x : Roots). Holds users x) (sym r.roots_are) (subst (λ (x : Accounts). Holds x (roots_of (length accounts.users))) (sym r.users_are) h)
+      subst (λ (x : Roots). Holds users x) (sym r.roots_are)
+      (subst (λ (x : Accounts). Holds x (roots_of (length accounts.users))) (sym r.users_are) h)
 
   pub from_revealed : (accounts : Accounts) (f : Flat) → Reveals users roots births s accounts f → (Holds : Accounts → Roots → Type 0)
       → Holds users roots → Holds (without_passwords accounts) (roots_of (length accounts.users))
@@ -388,7 +391,8 @@ module _ (s : State) (above : Target) (name : Name) (container listing : ℕ) (i
 
 -- the spot of a class is that of its target
 module _ (users : Accounts) (births : Births) (p : Process) (class : NumberedClass) where
-  pub unread_by : (jobs : List ProcName) → jobs ≡ jobs_by births class → unread users p (class_by jobs class) ≡ unread users p (class_named births class)
+  pub unread_by : (jobs : List ProcName) → jobs ≡ jobs_by births class
+      → unread users p (class_by jobs class) ≡ unread users p (class_named births class)
   unread_by jobs is = ap (λ (js : List ProcName). unread users p (class_by js class)) is
 
   pub unwritten_by : (jobs : List ProcName) → jobs ≡ jobs_by births class

@@ -27,7 +27,8 @@ returns-in_ok-push_about_path-in-MayNotWrite c =
     let who = who_text c.args.me.now (process_of c.args.caller.now) in
     let denied = codes " may not write " ++ path_text c.in-MayNotWrite.path ++ codes ": " in
     let cause = cause_text c.args.me.now (process_of c.args.caller.now) (cause_of c.in-MayNotWrite.cause) in
-    joined c.push_cause-in-MayNotWrite.result c.args.text.now.items c.push_about_path-in-MayNotWrite.new.text.items c.push_cause-in-MayNotWrite.new.text.items
+    joined c.push_cause-in-MayNotWrite.result c.args.text.now.items c.push_about_path-in-MayNotWrite.new.text.items
+    c.push_cause-in-MayNotWrite.new.text.items
     (who ++ denied) cause _
     (both c.args.text.now.items c.push_who-in-MayNotWrite.new.text.items c.push_about_path-in-MayNotWrite.new.text.items who denied
     c.in_ok-push_who-in-MayNotWrite.ensures c.in_ok-push_about_path-in-MayNotWrite.ensures) c.push_cause-in-MayNotWrite.ensures
