@@ -5,3 +5,5 @@ pub mod Extended
 pub mod Tried
 pub mod TrySession
 pub mod TryLaws
+pub mod Reasoned
+pub mod ReasonedSession

@@ -2,11 +2,14 @@
 #![tactic(auto)]
 
 mod extended;
+mod reasoned;
+mod reasoned_session;
 mod session;
 mod transcript;
 mod tried;
 pub mod try_laws;
 mod try_session;
 
+pub use reasoned_session::transcribe_with_reasons;
 pub use session::transcribe;
 pub use try_session::{Tried, try_calls};

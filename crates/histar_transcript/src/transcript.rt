@@ -47,7 +47,11 @@ pub(crate) fn lines_in<'a>(alloc: Global, text: &'a [u8]) -> Result<Vec<&'a [u8]
 }
 
 /// Adds a line of an output to a text, a reply after its call.
-fn push_with_call(text: &mut Vec<u8>, lines: &[&[u8]], line: &[u8]) -> Result<(), AllocError>
+pub(crate) fn push_with_call(
+    text: &mut Vec<u8>,
+    lines: &[&[u8]],
+    line: &[u8],
+) -> Result<(), AllocError>
     ensures { OnOk result (text.new.items ≡ text.old.items
         ++ with_call (map (λ line. line.now) lines.now) line.now) }
 {

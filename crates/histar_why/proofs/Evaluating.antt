@@ -1,6 +1,6 @@
 -- The first part of a call's needs that is not met, by what was read, is that of the rule.
-use Rattle.std.specs.Prelude.{◌≡◌, ℕ, suc, ◌+◌, ◌==◌, Bool, true, false, cond, not, nat_le, nat_lt, List, [], ◌∷◌, ◌++◌, length, Option, None}
-use Rattle.std.specs.Prelude.{Some, MatchOption}
+use Rattle.std.specs.Prelude.{◌≡◌, ℕ, suc, ◌+◌, ◌==◌, Bool, true, false, cond, not, nat_le, nat_lt, List, [], ◌∷◌, ◌++◌, length}
+use Rattle.std.specs.Prelude.{Option, None, Some, MatchOption}
 use Rattle.std.specs.Prelude.{if◌then◌else◌, is_some, option_map, refl, T}
 use Rattle.std.specs.List.{cons_option, filter_map, position_or_len}
 use Rattle.std.specs.FinMap.{find, is_sorted}
@@ -27,8 +27,8 @@ use Rattle.histar_flat.specs.Accounts.{Accounts, user_named, user_number}
 use Rattle.histar_flat.specs.Classes.{Class, Process, class_made, free_class, is_free, nobody}
 use Rattle.histar_flat.specs.Classes.Class.{Scratch}
 use Rattle.histar_flat.specs.Files.{get}
-use Rattle.histar_flat.specs.FlatState.{Flat, IsTree, Node, bytes_at, bytes_of, class_of, entries_in, entry_in, is_dir, is_dir_at, is_file_at}
-use Rattle.histar_flat.specs.FlatState.{is_some_and, is_there}
+use Rattle.histar_flat.specs.FlatState.{Flat, IsTree, Node, bytes_at, bytes_of, class_of, entries_in, entry_in}
+use Rattle.histar_flat.specs.FlatState.{is_dir, is_dir_at, is_file_at, is_some_and, is_there}
 use Rattle.histar_flat.specs.Needs.{is_below_root, is_child, most_bytes, most_entries}
 use Rattle.histar_flat.specs.CallRules.{path_of, rule}
 use Rattle.histar_flat.specs.PathOrder.{parent}
@@ -243,11 +243,11 @@ module _ (accounts : Accounts) (s : State) (f : Flat) (births : Births) (names :
           counts (directory_of f.files l.naming.number q) (shows_directory accounts s f l q g back.0 back.2) ∙ count_entries accounts s f l q
 
   -- whether something has the name that the call gives
-  beside_is : (q : Path) (name : Name) (found : Option Target) → Resolves s roots (name ∷ parent q) found → is_some found
-      ≡ is_there f (name ∷ parent q)
+  beside_is : (q : Path) (name : Name) (found : Option Target) → Resolves s roots (name ∷ parent q) found
+      → is_some found ≡ is_there f (name ∷ parent q)
   unfolding Resolves
-  beside_is q name None nowhere = sym (ap (λ (o : Option Node). is_some_and o (λ n. true))
-      (nothing_at accounts s f births names (name ∷ parent q) nowhere))
+  beside_is q name None nowhere =
+      sym (ap (λ (o : Option Node). is_some_and o (λ n. true)) (nothing_at accounts s f births names (name ∷ parent q) nowhere))
   beside_is q name (Some target) led =
       sym (ap (λ (o : Option Node). is_some_and o (λ n. true)) (node_at accounts s f births names (name ∷ parent q) target led).at)
 
@@ -276,8 +276,8 @@ module _ (accounts : Accounts) (s : State) (f : Flat) (births : Births) (names :
     revealed : Reveals users roots births s accounts f
     revealed = record { users_are = refl; roots_are = refl; names = names }
 
-    way_is : (option_map reason_of view.facts.now.way.walk ≡ why_walk accounts f p q) × At (parent q) view.facts.now.way.above
-        × At q view.facts.now.way.here
+    way_is : (option_map reason_of view.facts.now.way.walk ≡ why_walk accounts f p q)
+        × At (parent q) view.facts.now.way.above × At q view.facts.now.way.here
     way_is =
         let way = is.facts.way accounts f revealed in
         let walked : option_map reason_of view.facts.now.way.walk ≡ why_walk accounts f (process_of caller) asked.path = way.0 in
@@ -313,8 +313,8 @@ module _ (accounts : Accounts) (s : State) (f : Flat) (births : Births) (names :
         let beside : MatchOption (Some name) (view.facts.now.beside ≡ false)
         (λ n. (found : Option Target) × Resolves s roots (n ∷ parent asked.path) found × (view.facts.now.beside ≡ is_some found)) =
         subst (λ (o : Option Name). MatchOption o (view.facts.now.beside ≡ false)
-        (λ n. (found : Option Target) × Resolves s roots (n ∷ parent asked.path) found × (view.facts.now.beside ≡ is_some found)))
-        (is_asked.beside ∙ given) is.facts.beside in
+        (λ n. (found : Option Target) × Resolves s roots (n ∷ parent asked.path) found
+        × (view.facts.now.beside ≡ is_some found))) (is_asked.beside ∙ given) is.facts.beside in
         let there : view.facts.now.beside ≡ is_there f (name ∷ parent q) =
         beside.2 ∙ beside_is q name beside.0 (subst (λ (x : Path). Resolves s roots (name ∷ parent x) beside.0) is_asked.path beside.1) in
         λ i. unless (not (there i)) (IsTaken (name ∷ parent (path_is i)))
@@ -323,7 +323,8 @@ module _ (accounts : Accounts) (s : State) (f : Flat) (births : Births) (names :
     read_met = ap (λ (x : Path). option_map (MayNotRead x) (unread_in view.facts.now.way.here)) path_is ∙ read_is q view.facts.now.way.here way_is.2
 
     write_met : is_there f q ≡ true → reason parts.MayWrite ≡ not_written accounts f p q
-    write_met there = ap (λ (x : Path). option_map (MayNotWrite x) (unwritten_in view.facts.now.way.here)) path_is
+    write_met there =
+        ap (λ (x : Path). option_map (MayNotWrite x) (unwritten_in view.facts.now.way.here)) path_is
         ∙ write_is q view.facts.now.way.here way_is.2 there
 
     -- where the process can walk to the path, its directory is there

@@ -1,6 +1,6 @@
 -- Lists that are gone through from the front.
-use Rattle.std.specs.Prelude.{◌≡◌, ℕ, suc, ◌+◌, ◌-◌, ◌<◌, ◌≤◌, Bool, true, false, not, List, [], ◌∷◌, ◌++◌, length, get_or, map, take, drop}
-use Rattle.std.specs.Prelude.{Option, None, Some}
+use Rattle.std.specs.Prelude.{◌≡◌, ℕ, suc, ◌+◌, ◌-◌, ◌<◌, ◌≤◌, Bool, true, false, not, List, [], ◌∷◌, ◌++◌, length}
+use Rattle.std.specs.Prelude.{get_or, map, take, drop, Option, None, Some}
 use Rattle.std.specs.Prelude.{OnOk, Result, Ok, Err, if◌then◌else◌, refl}
 use Rattle.std.specs.List.{find}
 use Rattle.std.proofs.Common.{arith, ap, sym, ◌∙◌, append_assoc}
@@ -25,8 +25,8 @@ module _ {A : Type 0} where
     front : o ≡ find (λ y. not (test y)) (x ∷ drop (i + 1) xs)
     front = so_far ∙ at_drop_more (find (λ y. not (test y))) xs i x within ∙ ap (λ (y : A). find (λ z. not (test z)) (y ∷ drop (i + 1) xs)) (sym is)
 
-    choose : (b : Bool) → test x ≡ b → find (λ y. not (test y)) (x ∷ drop (i + 1) xs)
-        ≡ (if not b then Some x else find (λ y. not (test y)) (drop (i + 1) xs))
+    choose : (b : Bool) → test x ≡ b
+        → find (λ y. not (test y)) (x ∷ drop (i + 1) xs) ≡ (if not b then Some x else find (λ y. not (test y)) (drop (i + 1) xs))
     choose b e = ap (λ (c : Bool). if not c then Some x else find (λ y. not (test y)) (drop (i + 1) xs)) e
 
     -- the first element that fails a test is found, or comes later

@@ -1,6 +1,6 @@
 -- What is found at a path of a state is what the rules say is there.
-use Rattle.std.specs.Prelude.{◌≡◌, ℕ, ◌+◌, ◌*◌, true, List, [], ◌∷◌, length, map, Option, None, Some, MatchOption, option_and_then, option_map}
-use Rattle.std.specs.Prelude.{refl, Ok, Err}
+use Rattle.std.specs.Prelude.{◌≡◌, ℕ, ◌+◌, ◌*◌, true, List, [], ◌∷◌, length, map, Option, None, Some, MatchOption}
+use Rattle.std.specs.Prelude.{option_and_then, option_map, refl, Ok, Err}
 use Rattle.std.proofs.Common.{ap, inr, sym, ◌∙◌, subst}
 use Rattle.std.proofs.lemmas.Option.{none-some, same_Some}
 use Rattle.std.specs.FinMap as maps
@@ -391,8 +391,8 @@ module _ (s : State) (above : Target) (name : Name) (container listing : ℕ) (i
 
 -- the spot of a class is that of its target
 module _ (users : Accounts) (births : Births) (p : Process) (class : NumberedClass) where
-  pub unread_by : (jobs : List ProcName) → jobs ≡ jobs_by births class → unread users p (class_by jobs class)
-      ≡ unread users p (class_named births class)
+  pub unread_by : (jobs : List ProcName) → jobs ≡ jobs_by births class
+      → unread users p (class_by jobs class) ≡ unread users p (class_named births class)
   unread_by jobs is = ap (λ (js : List ProcName). unread users p (class_by js class)) is
 
   pub unwritten_by : (jobs : List ProcName) → jobs ≡ jobs_by births class

@@ -145,14 +145,14 @@ module _ (options : Options) where
       meaning : (mid : Option (List ℕ)) → AppendsEnding options end replied mid → Meant mid
       meaning mid ending =
           let says = script_says text script given in
-          let wrote = writes_meaning calls_refine script says.0 says.1 start started options old replied mid
-          (Ok script) refl end.kernel.trace end answered
-          ending.0 ending.1 ending.2 refl in
+          let wrote = writes_meaning calls_refine script says.0 says.1 start started options old replied mid (Ok script) refl
+          end.kernel.trace end answered ending.0 ending.1 ending.2 refl in
           let same = same_script wrote.script wrote.is_read in
           record {
             recorded = subst (λ (x : ScriptModel). IsMeantTrace x end.kernel.trace) same wrote.recorded;
-            written = subst (λ (x : ScriptModel). Appends old mid
-                (meaning_text options x ++ asked_trace options end.kernel.trace)) same wrote.written;
+            written =
+                subst (λ (x : ScriptModel). Appends old mid (meaning_text options x ++ asked_trace options end.kernel.trace)) same
+                wrote.written;
           }
 
       -- all was written

@@ -3,7 +3,8 @@ use Rattle.std.specs.Prelude.{◌≡◌, ℕ, List, [], ◌∷◌, ◌++◌, len
 use Rattle.histar_flat.specs.declared.calls.CallLine.{CallLine}
 use Rattle.histar_flat.specs.declared.calls.Mode.{Mode}
 use Rattle.histar_flat.specs.declared.calls.UnixCall.{UnixCall}
-use Rattle.histar_flat.specs.declared.calls.UnixCall.TheVariants.{Create, Mkdir, Read, Write, Append, List as ListCall, Stat, Unlink, Rmdir, Rmtree}
+use Rattle.histar_flat.specs.declared.calls.UnixCall.TheVariants.{Create, Mkdir, Read, Write, Append}
+use Rattle.histar_flat.specs.declared.calls.UnixCall.TheVariants.{List as ListCall, Stat, Unlink, Rmdir, Rmtree}
 use Rattle.histar_flat.specs.declared.calls.UnixCall.TheVariants.{Rename, Spawn, Status, Kill, Login, Wrap}
 use Rattle.histar_flat.specs.declared.replies.Errno.TheVariants.{EISDIR, EEXIST, EBUSY}
 use Rattle.histar_flat.specs.Words.{Name, ProcName}
@@ -11,10 +12,11 @@ use Rattle.histar_flat.specs.CallRules.{path_of}
 use Rattle.histar_why.specs.declared.asked.Kept.{Kept}
 use Rattle.histar_why.specs.declared.asked.Kept.TheVariants.{All, Nothing}
 use Rattle.histar_why.specs.declared.asked.Part.{Part}
-use Rattle.histar_why.specs.declared.asked.Part.TheVariants.{NotRoot, Walk, Exists, IsFile, IsDirectory, Absent, AbsentBeside, MayRead, MayWrite}
-use Rattle.histar_why.specs.declared.asked.Part.TheVariants.{MayWriteAbove, HasRoomAbove, IsEmpty, Fits, OfProcess}
-use Rattle.histar_why.specs.declared.asked.ProcessPart.TheVariants.{MayMake, HasChildLeft, HasNumberLeft, Found, IsChild, IsUser, HasPassword, InNoJob}
-use Rattle.histar_why.specs.declared.asked.ProcessPart.TheVariants.{IsSomebody}
+use Rattle.histar_why.specs.declared.asked.Part.TheVariants.{NotRoot, Walk, Exists, IsFile, IsDirectory, Absent}
+use Rattle.histar_why.specs.declared.asked.Part.TheVariants.{AbsentBeside, MayRead, MayWrite, MayWriteAbove}
+use Rattle.histar_why.specs.declared.asked.Part.TheVariants.{HasRoomAbove, IsEmpty, Fits, OfProcess}
+use Rattle.histar_why.specs.declared.asked.ProcessPart.TheVariants.{MayMake, HasChildLeft, HasNumberLeft, Found}
+use Rattle.histar_why.specs.declared.asked.ProcessPart.TheVariants.{IsChild, IsUser, HasPassword, InNoJob, IsSomebody}
 use Rattle.histar_why.specs.declared.asked.Asked.{Asked}
 
 -- the name that a call gives to what is at its path
@@ -55,7 +57,8 @@ parts_of_removal call = ((NotRoot EBUSY ∷ Walk ∷ Exists ∷ []) ++ parts_of_
 
 -- what a call needs that starts a job
 abbrev pub parts_of_wrap : List Part
-parts_of_wrap = OfProcess HasChildLeft ∷ OfProcess HasNumberLeft ∷ NotRoot EEXIST ∷ Walk ∷ Absent ∷ HasRoomAbove ∷ MayWriteAbove ∷ OfProcess IsSomebody ∷ []
+parts_of_wrap = OfProcess HasChildLeft ∷ OfProcess HasNumberLeft ∷ NotRoot EEXIST ∷ Walk ∷ Absent ∷ HasRoomAbove ∷
+    MayWriteAbove ∷ OfProcess IsSomebody ∷ []
 
 -- what a call on processes needs
 abbrev pub parts_of_process : UnixCall → List Part

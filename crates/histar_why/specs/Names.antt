@@ -41,12 +41,24 @@ node_at accounts s first me = do
 -- a process that runs, as the rules have it
 abbrev pub process_of : Caller → Process
 process_of caller =
-    record { user = caller.user; chain = caller.chain.items; held = caller.held.items; exited = None; born = caller.born }
+    record {
+      user = caller.user;
+      chain = caller.chain.items;
+      held = caller.held.items;
+      exited = None;
+      born = caller.born;
+    }
 
 -- a process with these jobs and this life, with each job by its name, if it runs
 abbrev pub caller_in : Births → List ℕ → ℕ → Life → Option Process
 caller_in births chain born (Running user held) =
-    Some (record { user = user; chain = map (job_named births) chain; held = map (job_named births) held; exited = None; born = born })
+    Some (record {
+      user = user;
+      chain = map (job_named births) chain;
+      held = map (job_named births) held;
+      exited = None;
+      born = born;
+    })
 caller_in births chain born (Exited number) = None
 
 -- a process with its jobs by name, if it runs
@@ -59,7 +71,8 @@ running_at accounts births s first me = do
   node ← node_at accounts s first me
   caller_by births node
 
--- A state represents a flat state, under names by which each job that is used is the one of the process that was born with its category.
+-- A state represents a flat state, under names by which each job that is used is the one of the process that was born
+-- with its category.
 pub record NamesJobs (births : Births) (accounts : Accounts) (s : State) (f : Flat) : Type 0 where
   pub represents : Represents accounts s f
   pub jobs : (job : ProcName) → IsUsed accounts f (OfJob job)

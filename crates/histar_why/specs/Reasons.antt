@@ -1,6 +1,6 @@
 -- Reasons as the code has them, and which part of a call's needs is not met, by what was seen.
-use Rattle.std.specs.Prelude.{ℕ, ◌+◌, ◌==◌, Bool, not, nat_le, nat_lt, List, [], ◌∷◌, length, Option, None, Some, is_some}
-use Rattle.std.specs.Prelude.{option_map}
+use Rattle.std.specs.Prelude.{ℕ, ◌+◌, ◌==◌, Bool, not, nat_le, nat_lt, List, [], ◌∷◌, length, Option, None, Some}
+use Rattle.std.specs.Prelude.{is_some, option_map}
 use Rattle.histar_base.specs.Paths.{same}
 use Rattle.histar_base.specs.Refusals.{◌orelse◌, unless}
 use Rattle.histar_flat.specs.Words.{most_children, most_numbers}
@@ -11,8 +11,9 @@ use Rattle.histar_flat.specs.Needs.{is_below_root, is_child, most_bytes, most_en
 use Rattle.histar_flat.specs.PathOrder.{parent}
 use Rattle.histar_reasons.specs.Causes.{Cause, innermost}
 use Rattle.histar_reasons.specs.Reasons.{Reason, root_reason, unmade}
-use Rattle.histar_reasons.specs.Reasons.Reason.{MayNotRead, MayNotWrite, IsMissing, HasFile, HasDirectory, IsTaken, RootStays, IsFull, IsNotEmpty}
-use Rattle.histar_reasons.specs.Reasons.Reason.{IsTooLong, MakesOnlyOpen, IsNoMember, HadChildren, HasNumbers, NoProcess, IsUnseen, IsNoChild, NoUser}
+use Rattle.histar_reasons.specs.Reasons.Reason.{MayNotRead, MayNotWrite, IsMissing, HasFile, HasDirectory, IsTaken}
+use Rattle.histar_reasons.specs.Reasons.Reason.{RootStays, IsFull, IsNotEmpty, IsTooLong, MakesOnlyOpen, IsNoMember}
+use Rattle.histar_reasons.specs.Reasons.Reason.{HadChildren, HasNumbers, NoProcess, IsUnseen, IsNoChild, NoUser}
 use Rattle.histar_reasons.specs.Reasons.Reason.{WrongPassword, IsInJob, StartsNoJob}
 use Rattle.histar_why.specs.declared.asked.Kept.{Kept}
 use Rattle.histar_why.specs.declared.asked.Kept.TheVariants.{All, Nothing}
@@ -94,7 +95,8 @@ module _ (view : View) where
   abbrev pub process_reason : ProcessPart → Option Reason
   process_reason (of_process.MayMake mode) =
       unless (is_some (class_made view.users.now (process_of view.caller.now) mode)) (unmade mode)
-  process_reason of_process.HasChildLeft = unless (nat_lt view.caller.now.born most_children) (HadChildren view.caller.now.born)
+  process_reason of_process.HasChildLeft =
+      unless (nat_lt view.caller.now.born most_children) (HadChildren view.caller.now.born)
   process_reason of_process.HasNumberLeft =
       unless (nat_lt (length view.asked.now.process) most_numbers) (HasNumbers (length view.asked.now.process + 1))
   process_reason (of_process.Found name) = option_map reason_of view.facts.now.sought
@@ -112,15 +114,18 @@ module _ (view : View) where
   part_reason parts.IsFile = unless (has_file view.facts.now.way.here) (HasDirectory view.asked.now.path)
   part_reason parts.IsDirectory = unless (has_directory view.facts.now.way.here) (HasFile view.asked.now.path)
   part_reason parts.Absent = unless (not (is_some view.facts.now.way.here)) (IsTaken view.asked.now.path)
-  part_reason (parts.AbsentBeside name) = unless (not view.facts.now.beside) (IsTaken (name ∷ parent view.asked.now.path))
+  part_reason (parts.AbsentBeside name) =
+      unless (not view.facts.now.beside) (IsTaken (name ∷ parent view.asked.now.path))
   part_reason parts.MayRead = option_map (MayNotRead view.asked.now.path) (unread_in view.facts.now.way.here)
   part_reason parts.MayWrite = option_map (MayNotWrite view.asked.now.path) (unwritten_in view.facts.now.way.here)
-  part_reason parts.MayWriteAbove = option_map (MayNotWrite (parent view.asked.now.path)) (unwritten_in view.facts.now.way.above)
+  part_reason parts.MayWriteAbove =
+      option_map (MayNotWrite (parent view.asked.now.path)) (unwritten_in view.facts.now.way.above)
   part_reason parts.HasRoomAbove =
       unless (nat_lt view.facts.now.above most_entries) (IsFull (parent view.asked.now.path) view.facts.now.above)
   part_reason parts.IsEmpty = unless (view.facts.now.here == 0) (IsNotEmpty view.asked.now.path view.facts.now.here)
   part_reason (parts.Fits kept new) =
-      unless (nat_le (bytes_then kept view.facts.now.way.here new) most_bytes) (IsTooLong view.asked.now.path (bytes_then kept view.facts.now.way.here new))
+      unless (nat_le (bytes_then kept view.facts.now.way.here new) most_bytes)
+      (IsTooLong view.asked.now.path (bytes_then kept view.facts.now.way.here new))
   part_reason (parts.OfProcess part) = process_reason part
 
   -- why the first of these parts that is not met isn't

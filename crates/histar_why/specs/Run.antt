@@ -25,13 +25,15 @@ pub record ReasonsAs (Writes : List ℕ → Type 0) (options : Options) (script 
   pub written : Writes ((meaning_text options script ++ asked_trace options trace) ++ reasons_text script)
 
 -- what was read is a script, and what `run` writes was written, and then the lines of the refused calls
-pub record WritesReasons (options : Options) (old new : Option (List ℕ)) (read : Result ScriptModel Fault) : Type 0 where
+pub record WritesReasons (options : Options) (old new : Option (List ℕ))
+    (read : Result ScriptModel Fault) : Type 0 where
   pub script : ScriptModel
   pub is_read : read ≡ Ok script
   pub reasoned : ReasonsAs (Appends old new) options script
 
 -- what was read is a script, and a beginning of that was written
-pub record BeginsReasons (options : Options) (old new : Option (List ℕ)) (read : Result ScriptModel Fault) : Type 0 where
+pub record BeginsReasons (options : Options) (old new : Option (List ℕ))
+    (read : Result ScriptModel Fault) : Type 0 where
   pub script : ScriptModel
   pub is_read : read ≡ Ok script
   pub begun : AppendsFront old new (meaning_text options script) ⊎ ReasonsAs (AppendsFront old new) options script
@@ -42,7 +44,10 @@ ReasonsAtFault options old new read OutOfMemory = Keeps old new ⊎ BeginsReason
 ReasonsAtFault options old new read WriteFailed = BeginsReasons options old new read
 ReasonsAtFault options old new read fault = Keeps old new
 
--- The text was run with reasons: the fault of the script is returned, or what `run` writes was written, and then the lines of the refused calls.
-pub record RunsWithReasons (options : Options) (text : List ℕ) (old new : Option (List ℕ)) (result : Result (Unit {0}) Fault) : Type 0 where
+-- The text was run with reasons: the fault of the script is returned, or what `run` writes was written, and then the
+-- lines of the refused calls.
+pub record RunsWithReasons (options : Options) (text : List ℕ) (old new : Option (List ℕ))
+    (result : Result (Unit {0}) Fault) : Type 0 where
   pub faults : AgreesWith (script_of text) result
-  pub writes : MatchResult result (λ _. WritesReasons options old new (script_of text)) (ReasonsAtFault options old new (script_of text))
+  pub writes : MatchResult result (λ _. WritesReasons options old new (script_of text))
+      (ReasonsAtFault options old new (script_of text))

@@ -25,13 +25,15 @@ use Rattle.histar_why.specs.Names.{Knows}
 use Rattle.histar_why.specs.Logging.{Adds, SaysIfRefused}
 
 -- the machine answered this call line with this reply, and the line of the reply was written
-pub record Answers (before after : MachineModel) (old new : Option (List ℕ)) (call : CallLine) (reply : Reply) : Type 0 where
+pub record Answers (before after : MachineModel) (old new : Option (List ℕ)) (call : CallLine)
+    (reply : Reply) : Type 0 where
   pub is_call : IsCall call.call
   pub answered : AnswersLine before after call.line call.process call.call (Ok reply)
   pub written : Appends old new (line_text call.line reply)
 
 -- the machine answered this call line; the births were noted, and the line of the call was added if it was refused
-pub record LogsCall (before after : MachineModel) (old new : Option (List ℕ)) (call : CallLine) (from to : Log) : Type 0 where
+pub record LogsCall (before after : MachineModel) (old new : Option (List ℕ)) (call : CallLine)
+    (from to : Log) : Type 0 where
   pub reply : Reply
   pub answers : Answers before after old new call reply
   pub births : to.births.items ≡ births_after (state after.kernel) after.roots call.process from.births.items
@@ -43,15 +45,16 @@ pub record LogsCall (before after : MachineModel) (old new : Option (List ℕ)) 
 abbrev pub BeginsCall : MachineModel → MachineModel → Option (List ℕ) → Option (List ℕ) → CallLine → Type 0
 BeginsCall before after old new call = Keeps old new ⊎ BeginsAnswer before after old new call
 
--- For each flat state that the first machine represents, the text has the lines of the refused ones of these calls, and the names of the jobs of
--- the last one are right.
+-- For each flat state that the first machine represents, the text has the lines of those of these calls that were
+-- refused, and the last machine's jobs have the right names.
 abbrev pub Logs : MachineModel → MachineModel → Births → Births → List CallLine → List ℕ → Type 0
 Logs before after from to calls text =
     (accounts : Accounts) (f : Flat) → Knows from accounts before f
     → (text ≡ why_lines accounts f calls) × Knows to accounts after (flat_end accounts f calls)
 
--- the machine answered each of these call lines, the lines of its replies were written, and the text has the lines of the refused ones
-pub record LogsCalls (before after : MachineModel) (old new : Option (List ℕ)) (calls : List CallLine) (births : Births) (text : List ℕ) : Type 0 where
+-- the machine answered each of these call lines, their replies were written, and the text has the lines of the refused
+pub record LogsCalls (before after : MachineModel) (old new : Option (List ℕ)) (calls : List CallLine)
+    (births : Births) (text : List ℕ) : Type 0 where
   pub answered : AnswersCalls before after old new calls
   pub logs : Logs before after [] births calls text
 
@@ -66,7 +69,8 @@ IsWithText outcome text result = MatchResult outcome (λ _. result ≡ Ok text) 
 -- ---- the calls of a script and what is written after the replies
 
 -- what follows the replies of a machine was written, and then the lines as far as `Writes` says
-pub record LogsAfter (Writes : Option (List ℕ) → Type 0) (options : Options) (m : MachineModel) (old : Option (List ℕ)) : Type 0 where
+pub record LogsAfter (Writes : Option (List ℕ) → Type 0) (options : Options) (m : MachineModel)
+    (old : Option (List ℕ)) : Type 0 where
   pub ended : Option (List ℕ)
   pub ending : AppendsEnding options m old ended
   pub lines : Writes ended
@@ -77,11 +81,13 @@ AppendsRest options m old new text = LogsAfter (λ ended. Appends ended new text
 
 -- a beginning of that was written
 abbrev pub BeginsRest : Options → MachineModel → Option (List ℕ) → Option (List ℕ) → List ℕ → Type 0
-BeginsRest options m old new text = BeginsTheEnding options m old new ⊎ LogsAfter (λ ended. AppendsFront ended new text) options m old
+BeginsRest options m old new text =
+    BeginsTheEnding options m old new ⊎ LogsAfter (λ ended. AppendsFront ended new text) options m old
 
--- The machine answered each of these call lines, and the lines of its replies were written. So was what `Rest` says of the machine, of
--- what was written by then, and of the lines of refused calls.
-pub record LogsRun (Rest : MachineModel → Option (List ℕ) → List ℕ → Type 0) (start : MachineModel) (old : Option (List ℕ)) (calls : List CallLine) : Type 0 where
+-- The machine answered each of these call lines, and the lines of its replies were written. So was what `Rest` says of
+-- the machine, of what was written by then, and of the lines of refused calls.
+pub record LogsRun (Rest : MachineModel → Option (List ℕ) → List ℕ → Type 0) (start : MachineModel)
+    (old : Option (List ℕ)) (calls : List CallLine) : Type 0 where
   pub end : MachineModel
   pub replied : Option (List ℕ)
   pub text : List ℕ
@@ -90,9 +96,11 @@ pub record LogsRun (Rest : MachineModel → Option (List ℕ) → List ℕ → T
 
 -- the calls were answered, and the replies, what follows them and the lines of refused calls were written
 abbrev pub WritesRun : Options → MachineModel → Option (List ℕ) → Option (List ℕ) → List CallLine → Type 0
-WritesRun options start old new calls = LogsRun (λ end replied text. AppendsRest options end replied new text) start old calls
+WritesRun options start old new calls =
+    LogsRun (λ end replied text. AppendsRest options end replied new text) start old calls
 
 -- a beginning of that was written
 abbrev pub BeginsRun : Options → MachineModel → Option (List ℕ) → Option (List ℕ) → List CallLine → Type 0
 BeginsRun options start old new calls =
-    BeginsAnswers start old new calls ⊎ LogsRun (λ end replied text. BeginsRest options end replied new text) start old calls
+    BeginsAnswers start old new calls
+    ⊎ LogsRun (λ end replied text. BeginsRest options end replied new text) start old calls

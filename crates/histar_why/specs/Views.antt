@@ -55,7 +55,8 @@ search_by users births s first p (n ∷ above) =
     search_by users births s first p above orelse unfound_by births p (n ∷ above) (node_at users s first (n ∷ above))
 
 -- this was read for a call of a process
-pub record AreFactsOf (users : Accounts) (roots : Roots) (births : Births) (s : State) (p : Process) (asked : Asked) (facts : Facts) : Type 0 where
+pub record AreFactsOf (users : Accounts) (roots : Roots) (births : Births) (s : State) (p : Process) (asked : Asked)
+    (facts : Facts) : Type 0 where
   pub way : IsWayTo users roots births s p asked.path facts.way
   pub above : CountsEntries s facts.way.above facts.above
   pub here : CountsEntries s facts.way.here facts.here
@@ -63,7 +64,8 @@ pub record AreFactsOf (users : Accounts) (roots : Roots) (births : Births) (s : 
   pub sought : option_map reason_of facts.sought ≡ search_by users births s roots.home p asked.other
 
 -- this is what a call of a process is about
-pub record IsViewOf (users : Accounts) (roots : Roots) (births : Births) (s : State) (caller : Caller) (asked : Asked) (view : View) : Type 0 where
+pub record IsViewOf (users : Accounts) (roots : Roots) (births : Births) (s : State) (caller : Caller) (asked : Asked)
+    (view : View) : Type 0 where
   pub asked_is : view.asked.now ≡ asked
   pub users_are : view.users.now ≡ users
   pub caller_is : view.caller.now ≡ caller

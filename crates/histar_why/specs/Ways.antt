@@ -33,7 +33,8 @@ use Rattle.histar_why.specs.Causes.{cause_of, class_named}
 use Rattle.histar_why.specs.Names.{NamesJobs}
 use Rattle.histar_why.specs.Reasons.{reason_of, has_directory, unread_in}
 
--- what the rules say of a node: whether it is a directory, how many bytes it has, and why the process may not read or write it
+-- what the rules say of a node: whether it is a directory, how many bytes it has, and why the process may not read or
+-- write it
 pub record Sight : Type 0 where
   pub is_directory : Bool
   pub bytes : ℕ
@@ -52,7 +53,12 @@ sight_of spot = record {
 -- what a process sees of something of this class, of this kind and with so many bytes
 abbrev pub sight_by : Accounts → Process → Class → Bool → ℕ → Sight
 sight_by accounts p class directory bytes =
-    record { is_directory = directory; bytes = bytes; unread = unread accounts p class; unwritten = unwritten accounts p class }
+    record {
+      is_directory = directory;
+      bytes = bytes;
+      unread = unread accounts p class;
+      unwritten = unwritten accounts p class;
+    }
 
 -- what a process sees of a node
 abbrev pub sight_at : Accounts → Process → Node → Sight
@@ -65,7 +71,8 @@ pub record HasClass (users : Accounts) (s : State) (target : Target) (class : Nu
   pub of_class : IsClassLabel users class label
 
 -- the spot is that of a target, by the class of its object
-pub record IsSpot (users : Accounts) (births : Births) (s : State) (p : Process) (target : Target) (spot : Spot) : Type 0 where
+pub record IsSpot (users : Accounts) (births : Births) (s : State) (p : Process) (target : Target)
+    (spot : Spot) : Type 0 where
   pub leads : spot.target ≡ target
   pub class : NumberedClass
   pub has_class : HasClass users s target class
@@ -80,11 +87,13 @@ FindsSpot users births s p target found =
 -- the directory at the one target lists this name, and its entry leads to the other target
 abbrev pub Lists : State → Target → Name → Target → Type 0
 Lists s (File file) name target = ⊥
-Lists s (Directory container listing) name target = (dir : Entries) × IsDirectory (lent_bytes s listing) dir × (map.get dir name ≡ Some target)
+Lists s (Directory container listing) name target =
+    (dir : Entries) × IsDirectory (lent_bytes s listing) dir × (map.get dir name ≡ Some target)
 
 -- the target that was found is where the entry of the name leads, and nothing was found exactly if there is no entry
 abbrev pub FindsEntry : State → Target → Name → Option Target → Type 0
-FindsEntry s above name found = MatchOption found ((target : Target) → Lists s above name target → ⊥) (Lists s above name)
+FindsEntry s above name found =
+    MatchOption found ((target : Target) → Lists s above name target → ⊥) (Lists s above name)
 
 -- what was found is at the entry of this name of a target
 abbrev pub FindsListed : Accounts → Births → State → Process → Target → Name → Option Spot → Type 0
@@ -106,7 +115,8 @@ why_into_by way q =
     orelse option_map (MayNotRead q) (unread_in way.here)
 
 module _ (users : Accounts) (roots : Roots) (births : Births) (s : State) where
-  -- the state represents a flat state with these users and groups, at the places that boot made, and the names of its jobs are right
+  -- the state represents a flat state with these users and groups, at the places that boot made, and the names of its
+  -- jobs are right
   pub record Reveals (accounts : Accounts) (f : Flat) : Type 0 where
     pub users_are : users ≡ without_passwords accounts
     pub roots_are : roots ≡ roots_of (length accounts.users)
@@ -121,4 +131,5 @@ module _ (users : Accounts) (roots : Roots) (births : Births) (s : State) where
   abbrev pub IsWayTo : Process → Path → Way → Type 0
   IsWayTo p q way =
       (accounts : Accounts) (f : Flat) → Reveals accounts f
-      → (option_map reason_of way.walk ≡ why_walk accounts f p q) × IsAt accounts f p (parent q) way.above × IsAt accounts f p q way.here
+      → (option_map reason_of way.walk ≡ why_walk accounts f p q) × IsAt accounts f p (parent q) way.above
+      × IsAt accounts f p q way.here

@@ -2,7 +2,8 @@
 ghost use Rattle.std.specs.Prelude.{◌≡◌, ◌≤◌, length};
 ghost use Rattle.histar_flat.specs.Words.{most_numbers};
 ghost use Rattle.histar_syscall.specs.KernelModel.{state};
-ghost use Rattle.histar_why.specs.Absences.{absence_by, absence_of, first_absent_by, is_given_by, was_given_by};
+ghost use Rattle.histar_why.specs.Absences.{absence_by, absence_of, first_absent_by, is_given_by};
+ghost use Rattle.histar_why.specs.Absences.{was_given_by};
 
 use crate::views::name_of;
 use histar_flat::ProcName;
@@ -50,7 +51,8 @@ fn is_given<S: LabelStore + Drop>(kernel: &Kernel<S>, roots: &Roots, numbers: &[
     was_given(kernel, roots, above, *number) && is_given(kernel, roots, above)
 }
 
-/// Checks whether a process has given this number to a child. A process that is not there has given every number.
+/// Checks whether a process has given this number to a child. A process that is not there has given
+/// every number.
 fn was_given<S: LabelStore + Drop>(
     kernel: &Kernel<S>,
     roots: &Roots,

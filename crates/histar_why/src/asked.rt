@@ -1,7 +1,8 @@
 //! What a call needs, kept for the time when the machine has taken the call.
 ghost use Rattle.std.specs.Prelude.{◌≡◌, IfOk};
-ghost use Rattle.histar_why.specs.Asked.{IsAsked, beside_of, other_of, parts_of, parts_of_bytes, parts_of_entry};
-ghost use Rattle.histar_why.specs.Asked.{parts_of_look, parts_of_process, parts_of_removal, parts_of_wrap};
+ghost use Rattle.histar_why.specs.Asked.{IsAsked, beside_of, other_of, parts_of, parts_of_bytes};
+ghost use Rattle.histar_why.specs.Asked.{parts_of_entry, parts_of_look, parts_of_process};
+ghost use Rattle.histar_why.specs.Asked.{parts_of_removal, parts_of_wrap};
 
 use histar_base::Bytes;
 use histar_flat::{CallLine, Errno, Mode, Name, Path, ProcName, UnixCall};

@@ -35,7 +35,8 @@ pub(crate) fn unread(
     class: &Class,
     jobs: &[ProcName],
 ) -> Option<Cause>
-    ensures { option_map cause_of result ≡ unread users.now (process_of caller.now) (class_by jobs.now class.now) }
+    ensures { option_map cause_of result
+        ≡ unread users.now (process_of caller.now) (class_by jobs.now class.now) }
 {
     match class {
         Class::Private(owner) if caller.user != *owner => Some(Cause::IsPrivate(*owner)),
@@ -55,7 +56,8 @@ pub(crate) fn unwritten(
     class: &Class,
     jobs: &[ProcName],
 ) -> Option<Cause>
-    ensures { option_map cause_of result ≡ unwritten users.now (process_of caller.now) (class_by jobs.now class.now) }
+    ensures { option_map cause_of result
+        ≡ unwritten users.now (process_of caller.now) (class_by jobs.now class.now) }
 {
     match class {
         Class::Readable(owner) if caller.user != *owner => Some(Cause::IsReadable(*owner)),
@@ -68,7 +70,8 @@ pub(crate) fn unwritten(
 
 /// Returns the first of these jobs that the process neither is in nor holds, as a cause.
 fn needed_job(caller: &Caller, jobs: &[ProcName]) -> Option<Cause>
-    ensures { option_map cause_of result ≡ option_map NeedsJob (unknown (process_of caller.now) jobs.now) }
+    ensures { option_map cause_of result
+        ≡ option_map NeedsJob (unknown (process_of caller.now) jobs.now) }
 {
     match unknown(caller, jobs) {
         Some(job) => Some(Cause::NeedsJob(job)),
@@ -78,7 +81,8 @@ fn needed_job(caller: &Caller, jobs: &[ProcName]) -> Option<Cause>
 
 /// Returns the first job of the process of which a class with these jobs is not, as a cause.
 fn left_job(caller: &Caller, class: &Class, jobs: &[ProcName]) -> Option<Cause>
-    ensures { option_map cause_of result ≡ option_map LeavesJob (left (process_of caller.now) (jobs_for jobs.now class.now)) }
+    ensures { option_map cause_of result
+        ≡ option_map LeavesJob (left (process_of caller.now) (jobs_for jobs.now class.now)) }
 {
     let own = match class {
         Class::Scratch(_, _) => jobs,

@@ -1,5 +1,5 @@
-//! Runs of scripts with reasons: what `run` of `histar_shell` writes, and after it why each refused call was
-//! refused, in the words of the rules.
+//! Runs of scripts with reasons: what `run` of `histar_shell` writes, and after it why each refused
+//! call was refused, in the words of the rules.
 //!
 //! A refusal changes nothing, so each reason is read off the machine's own objects after its line.
 #![tactic(auto)]

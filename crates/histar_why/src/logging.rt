@@ -31,8 +31,10 @@ pub(crate) fn log_call<S: LabelStore + Drop>(
     reply: &Reply,
 ) -> Result<(), AllocError>
     ensures births { OnOk result (log.new.births.items
-        ≡ births_after (state machine.now.kernel) machine.now.roots asked.now.process log.old.births.items) }
-    ensures text { OnOk result (Adds (SaysIfRefused machine.now log.new.births.items asked.now reply.now)
+        ≡ births_after (state machine.now.kernel) machine.now.roots asked.now.process
+        log.old.births.items) }
+    ensures text { OnOk result
+        (Adds (SaysIfRefused machine.now log.new.births.items asked.now reply.now)
         log.old.text.items log.new.text.items) }
 {
     note_births(
@@ -103,7 +105,8 @@ fn push_words<S: LabelStore + Drop>(
     asked: &Asked,
     text: &mut Vec<u8>,
 ) -> Result<(), AllocError>
-    ensures { OnOk result (Adds (SaysWords reader.now.users.now reader.now.roots.now reader.now.births.now
+    ensures { OnOk result
+        (Adds (SaysWords reader.now.users.now reader.now.roots.now reader.now.births.now
         (state reader.now.kernel.now) asked.now) text.old.items text.new.items) }
 {
     match find_caller(alloc, reader, &asked.process)? {
@@ -138,7 +141,8 @@ fn push_why<S: LabelStore + Drop>(
     asked: &Asked,
     text: &mut Vec<u8>,
 ) -> Result<(), AllocError>
-    ensures { OnOk result (Adds (SaysReason reader.now.users.now reader.now.roots.now reader.now.births.now
+    ensures { OnOk result
+        (Adds (SaysReason reader.now.users.now reader.now.roots.now reader.now.births.now
         (state reader.now.kernel.now) caller.now asked.now) text.old.items text.new.items) }
 {
     let facts = facts_of(alloc, reader, caller, asked)?;

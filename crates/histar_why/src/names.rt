@@ -53,7 +53,8 @@ pub(crate) fn node_at<S: LabelStore + Drop>(
     name: &ProcName,
 ) -> Result<Option<ProcessNode>, AllocError>
     ensures { IfOk result (λ found. found
-        ≡ node_at reader.now.users.now (state reader.now.kernel.now) reader.now.roots.now.home name.now) }
+        ≡ node_at reader.now.users.now (state reader.now.kernel.now) reader.now.roots.now.home
+        name.now) }
 {
     let Some(home) = home_at(reader.kernel, reader.roots.home, name.numbers()) else {
         return Ok(None);

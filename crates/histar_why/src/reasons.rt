@@ -1,5 +1,6 @@
 //! Why a call is refused: the first part of what it needs that is not met.
-ghost use Rattle.std.specs.Prelude.{◌≡◌, ◌==◌, ◌<◌, ◌∷◌, length, is_some, nat_le, nat_lt, option_map};
+ghost use Rattle.std.specs.Prelude.{◌≡◌, ◌==◌, ◌<◌, ◌∷◌, length, is_some, nat_le, nat_lt};
+ghost use Rattle.std.specs.Prelude.{option_map};
 ghost use Rattle.histar_base.specs.Refusals.{unless};
 ghost use Rattle.histar_flat.specs.Words.{most_names};
 ghost use Rattle.histar_flat.specs.Accounts.{user_number};
@@ -8,11 +9,13 @@ ghost use Rattle.histar_flat.specs.Needs.{is_child, most_bytes, most_entries};
 ghost use Rattle.histar_flat.specs.PathOrder.{parent};
 ghost use Rattle.histar_reasons.specs.Causes.{innermost};
 ghost use Rattle.histar_reasons.specs.Reasons.{root_reason, unmade};
-ghost use Rattle.histar_reasons.specs.Reasons.Reason.{IsFull, IsInJob, IsNotEmpty, IsTooLong, MayNotRead, MayNotWrite};
+ghost use Rattle.histar_reasons.specs.Reasons.Reason.{IsFull, IsInJob, IsNotEmpty, IsTooLong};
+ghost use Rattle.histar_reasons.specs.Reasons.Reason.{MayNotRead, MayNotWrite};
 ghost use Rattle.histar_why.specs.Causes.{cause_of};
 ghost use Rattle.histar_why.specs.Names.{process_of};
-ghost use Rattle.histar_why.specs.Reasons.{bytes_of, bytes_then, first_reason, has_directory, has_file, part_reason};
-ghost use Rattle.histar_why.specs.Reasons.{process_reason, process_reason_of, reason_of, unread_in, unwritten_in};
+ghost use Rattle.histar_why.specs.Reasons.{bytes_of, bytes_then, first_reason, has_directory};
+ghost use Rattle.histar_why.specs.Reasons.{has_file, part_reason, process_reason};
+ghost use Rattle.histar_why.specs.Reasons.{process_reason_of, reason_of, unread_in, unwritten_in};
 
 use crate::asked::{Kept, Part, ProcessPart};
 use crate::causes::{Cause, innermost, is_member, nobody};
@@ -185,7 +188,8 @@ fn not_written(path: Path, spot: &Option<Spot>) -> Option<Reason>
 
 /// Returns a cause as why the process may not read what is at a path.
 fn denied_read(path: Path, cause: &Option<Cause>) -> Option<Reason>
-    ensures { option_map reason_of result ≡ option_map (MayNotRead path) (option_map cause_of cause.now) }
+    ensures { option_map reason_of result
+        ≡ option_map (MayNotRead path) (option_map cause_of cause.now) }
 {
     match cause {
         Some(cause) => Some(Reason::MayNotRead(path, *cause)),
@@ -195,7 +199,8 @@ fn denied_read(path: Path, cause: &Option<Cause>) -> Option<Reason>
 
 /// Returns a cause as why the process may not write what is at a path.
 fn denied_write(path: Path, cause: &Option<Cause>) -> Option<Reason>
-    ensures { option_map reason_of result ≡ option_map (MayNotWrite path) (option_map cause_of cause.now) }
+    ensures { option_map reason_of result
+        ≡ option_map (MayNotWrite path) (option_map cause_of cause.now) }
 {
     match cause {
         Some(cause) => Some(Reason::MayNotWrite(path, *cause)),
@@ -205,7 +210,8 @@ fn denied_write(path: Path, cause: &Option<Cause>) -> Option<Reason>
 
 /// Returns why a directory has no room for an entry.
 fn no_room(path: Path, entries: usize) -> Option<Reason>
-    ensures { option_map reason_of result ≡ unless (nat_lt entries most_entries) (IsFull path entries) }
+    ensures { option_map reason_of result
+        ≡ unless (nat_lt entries most_entries) (IsFull path entries) }
 {
     unless(entries < MOST_ENTRIES, Reason::IsFull(path, entries))
 }
@@ -220,7 +226,8 @@ fn not_empty(path: Path, entries: usize) -> Option<Reason>
 /// Returns why a file may not have this many new bytes.
 fn too_long(path: Path, spot: &Option<Spot>, kept: Kept, new: usize) -> Option<Reason>
     ensures { option_map reason_of result
-        ≡ unless (nat_le (bytes_then kept spot.now new) most_bytes) (IsTooLong path (bytes_then kept spot.now new)) }
+        ≡ unless (nat_le (bytes_then kept spot.now new) most_bytes)
+        (IsTooLong path (bytes_then kept spot.now new)) }
 {
     let old = match kept {
         Kept::All => bytes_of(spot),

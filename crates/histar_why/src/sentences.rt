@@ -3,7 +3,8 @@ ghost use Rattle.std.specs.Prelude.{◌≡◌, ◌++◌, codes, OnOk};
 ghost use Rattle.std.specs.Fmt.{decimal};
 ghost use Rattle.histar_flat.specs.Texts.{path_text, process_text};
 ghost use Rattle.histar_reasons.specs.Causes.{innermost};
-ghost use Rattle.histar_reasons.specs.Sentences.{absence_text, cause_text, counted, job_text, unknown_text, who_text, why_text};
+ghost use Rattle.histar_reasons.specs.Sentences.{absence_text, cause_text, counted, job_text};
+ghost use Rattle.histar_reasons.specs.Sentences.{unknown_text, who_text, why_text};
 ghost use Rattle.histar_why.specs.Absences.{absence_of};
 ghost use Rattle.histar_why.specs.Causes.{cause_of};
 ghost use Rattle.histar_why.specs.Names.{process_of};
@@ -75,7 +76,8 @@ fn push_process_reason(
     reason: &ProcessReason,
 ) -> Result<(), AllocError>
     ensures { OnOk result (text.new.items
-        ≡ text.old.items ++ why_text me.now (process_of caller.now) (process_reason_of reason.now)) }
+        ≡ text.old.items ++ why_text me.now (process_of caller.now)
+        (process_reason_of reason.now)) }
 {
     let user = &caller.user;
     match reason {
@@ -202,7 +204,8 @@ fn push_unknown(text: &mut Vec<u8>, me: &ProcName, job: &ProcName) -> Result<(),
 
 /// Adds a process, with its user and its innermost job.
 fn push_who(text: &mut Vec<u8>, me: &ProcName, caller: &Caller) -> Result<(), AllocError>
-    ensures { OnOk result (text.new.items ≡ text.old.items ++ who_text me.now (process_of caller.now)) }
+    ensures { OnOk result (text.new.items
+        ≡ text.old.items ++ who_text me.now (process_of caller.now)) }
 {
     push_about_process(text, "", me, " (")?;
     push_about_name(text, "", &caller.user, "")?;
@@ -229,7 +232,8 @@ fn push_entries(
     after: &str,
 ) -> Result<(), AllocError>
     ensures { OnOk result (text.new.items ≡ text.old.items
-        ++ (path_text path.now ++ codes " has " ++ counted count (codes "entry") (codes "entries") ++ after.now)) }
+        ++ (path_text path.now ++ codes " has " ++ counted count (codes "entry") (codes "entries")
+        ++ after.now)) }
 {
     push_about_path(text, "", path, " has ")?;
     push_count(
@@ -243,7 +247,8 @@ fn push_entries(
 /// Adds that a file would have too many bytes.
 fn push_too_long(text: &mut Vec<u8>, path: &Path, bytes: u128) -> Result<(), AllocError>
     ensures { OnOk result (text.new.items ≡ text.old.items
-        ++ (path_text path.now ++ codes " would have " ++ decimal bytes ++ codes " bytes, and 4096 is the most")) }
+        ++ (path_text path.now ++ codes " would have " ++ decimal bytes
+        ++ codes " bytes, and 4096 is the most")) }
 {
     push_about_path(text, "", path, " would have ")?;
     push_count(text, bytes, " bytes, and 4096 is the most")
@@ -286,7 +291,8 @@ fn push_about_name(
     name: &Name,
     after: &str,
 ) -> Result<(), AllocError>
-    ensures { OnOk result (text.new.items ≡ text.old.items ++ (before.now ++ name.now ++ after.now)) }
+    ensures { OnOk result (text.new.items ≡ text.old.items ++ (before.now ++ name.now
+        ++ after.now)) }
 {
     push_str(text, before)?;
     text.extend_from_slice(name.as_bytes())?;

@@ -3,7 +3,8 @@ ghost use Rattle.std.specs.Prelude.{◌≡◌, [], false, IfErr, IfOk, IfSome, O
 ghost use Rattle.std.specs.Io.KnownBytes.{Appends};
 ghost use Rattle.histar_io.specs.Device.{CountsFailure};
 ghost use Rattle.histar_io.specs.Writing.{AppendsFront};
-ghost use Rattle.histar_script.specs.Runs.{IsOutputFault, LeavesSink, RunsInput, is_read_failed, is_write_failed};
+ghost use Rattle.histar_script.specs.Runs.{IsOutputFault, LeavesSink, RunsInput, is_read_failed};
+ghost use Rattle.histar_script.specs.Runs.{is_write_failed};
 ghost use Rattle.histar_shell.specs.AnsweredCalls.{BeginsAnswer, BeginsAnswers};
 ghost use Rattle.histar_shell.specs.Answers.{line_text};
 ghost use Rattle.histar_shell.specs.Ending.{HasTree};
@@ -35,10 +36,12 @@ pub(crate) struct Log {
     pub text: Vec<u8>,
 }
 
-/// Runs a script as `run` does, and writes after all that was asked for why each refused call was refused.
+/// Runs a script as `run` does, and writes after all that was asked for why each refused call was
+/// refused.
 ///
-/// A reason is read off the machine's own objects after its line, so a refused line costs the same late in a
-/// script as early. The lines are kept until all else is written. It doesn't flush the sink.
+/// A reason is read off the machine's own objects after its line, so a refused line costs the same
+/// late in a script as early. The lines are kept until all else is written. It doesn't flush the
+/// sink.
 pub fn run_with_reasons<R: Source, W: Sink>(
     alloc: Global,
     reader: &mut R,
@@ -49,18 +52,22 @@ pub fn run_with_reasons<R: Source, W: Sink>(
     ensures nothing { IfErr result (LeavesSink writer.old writer.new) }
 
     // A device has failed exactly where its fault is the answer.
-    ensures reads { CountsFailure (R.failures reader.old) (R.failures reader.new) (is_read_failed result) }
-    ensures writes { CountsFailure (W.failures writer.old) (W.failures writer.new) (is_write_failed result) }
+    ensures reads { CountsFailure (R.failures reader.old) (R.failures reader.new)
+        (is_read_failed result) }
+    ensures writes { CountsFailure (W.failures writer.old) (W.failures writer.new)
+        (is_write_failed result) }
 
-    // Whatever the source gives, bytes of it were taken, to its end but never over 1,048,577: the fault of
-    // their script is returned, or exactly the text of its meaning is written, then a trace of that meaning,
-    // if asked for, and then exactly the lines of its refused calls, as the rules say.
+    // Whatever the source gives, bytes of it were taken, to its end but never over 1,048,577: the
+    // fault of their script is returned, or exactly the text of its meaning is written, then a
+    // trace of that meaning, if asked for, and then exactly the lines of its refused calls, as the
+    // rules say.
     ensures runs { RunsInput (RunsWithReasons options) (R.left reader.old) (R.left reader.new)
         (W.written writer.old) (W.written writer.new) result }
 
     // If the input is known, the script of the whole input was run.
     ensures known { IfSome (R.left reader.old)
-        (λ input. RunsWithReasons options input (W.written writer.old) (W.written writer.new) result) }
+        (λ input. RunsWithReasons options input (W.written writer.old)
+        (W.written writer.new) result) }
 {
     run_command(alloc, reader, writer, ReasonedRun { options })
 }
@@ -96,8 +103,10 @@ fn run_text<W: Sink>(
 ) -> Result<(), Fault>
     ensures nothing { IfErr result (LeavesSink writer.old writer.new) }
     ensures reads { is_read_failed result ≡ false }
-    ensures writes { CountsFailure (W.failures writer.old) (W.failures writer.new) (is_write_failed result) }
-    ensures runs { RunsWithReasons options text.now (W.written writer.old) (W.written writer.new) result }
+    ensures writes { CountsFailure (W.failures writer.old) (W.failures writer.new)
+        (is_write_failed result) }
+    ensures runs { RunsWithReasons options text.now (W.written writer.old)
+        (W.written writer.new) result }
 {
     let store = InternStore::new(alloc, REMEMBERED_ANSWERS)?;
     let script = read_script(alloc, text)?;
@@ -110,8 +119,8 @@ fn run_text<W: Sink>(
     outcome
 }
 
-/// Makes the calls on a machine that was booted, and writes the replies, what follows them, and the lines of
-/// refused calls.
+/// Makes the calls on a machine that was booted, and writes the replies, what follows them, and the
+/// lines of refused calls.
 fn run_calls<S: LabelStore + Drop, W: Sink>(
     alloc: Global,
     machine: &mut Machine<S>,
@@ -125,13 +134,15 @@ fn run_calls<S: LabelStore + Drop, W: Sink>(
     ensures err { OnErr result (BeginsRun options machine.old (W.written writer.old)
         (W.written writer.new) calls.items) }
     ensures faults { IfErr result IsOutputFault }
-    ensures count { CountsFailure (W.failures writer.old) (W.failures writer.new) (is_write_failed result) }
+    ensures count { CountsFailure (W.failures writer.old) (W.failures writer.new)
+        (is_write_failed result) }
 {
     let text = log_calls(alloc, machine, calls, writer)?;
     write_rest(alloc, machine, writer, options, text.as_slice())
 }
 
-/// Makes the calls on a machine that was booted, writes the replies, and returns the lines of refused calls.
+/// Makes the calls on a machine that was booted, writes the replies, and returns the lines of
+/// refused calls.
 fn log_calls<S: LabelStore + Drop, W: Sink>(
     alloc: Global,
     machine: &mut Machine<S>,
@@ -143,7 +154,8 @@ fn log_calls<S: LabelStore + Drop, W: Sink>(
     ensures err { OnErr result (BeginsAnswers machine.old (W.written writer.old)
         (W.written writer.new) calls.items) }
     ensures faults { IfErr result IsOutputFault }
-    ensures count { CountsFailure (W.failures writer.old) (W.failures writer.new) (is_write_failed result) }
+    ensures count { CountsFailure (W.failures writer.old) (W.failures writer.new)
+        (is_write_failed result) }
 {
     let mut log = Log {
         births: Vec::new(alloc),
@@ -179,7 +191,8 @@ fn write_rest<S: LabelStore + Drop, W: Sink>(
     ensures err { OnErr result (BeginsRest options machine.now (W.written writer.old)
         (W.written writer.new) text.now) }
     ensures faults { IfErr result IsOutputFault }
-    ensures count { CountsFailure (W.failures writer.old) (W.failures writer.new) (is_write_failed result) }
+    ensures count { CountsFailure (W.failures writer.old) (W.failures writer.new)
+        (is_write_failed result) }
 {
     write_ending(alloc, machine, writer, options)?;
     write_lines(writer, text)
@@ -188,16 +201,18 @@ fn write_rest<S: LabelStore + Drop, W: Sink>(
 /// Writes the lines of refused calls.
 fn write_lines<W: Sink>(writer: &mut W, text: &[u8]) -> Result<(), Fault>
     ensures ok { OnOk result (Appends (W.written writer.old) (W.written writer.new) text.now) }
-    ensures err { OnErr result (AppendsFront (W.written writer.old) (W.written writer.new) text.now) }
+    ensures err { OnErr result (AppendsFront (W.written writer.old)
+        (W.written writer.new) text.now) }
     ensures faults { IfErr result IsOutputFault }
-    ensures count { CountsFailure (W.failures writer.old) (W.failures writer.new) (is_write_failed result) }
+    ensures count { CountsFailure (W.failures writer.old) (W.failures writer.new)
+        (is_write_failed result) }
 {
     write_bytes(writer, text)?;
     Ok(())
 }
 
-/// Makes the calls on the machine in their order, writes a line for each, and keeps the lines of those that
-/// were refused.
+/// Makes the calls on the machine in their order, writes a line for each, and keeps the lines of
+/// those that were refused.
 fn answer_calls<S: LabelStore + Drop, W: Sink>(
     alloc: Global,
     machine: &mut Machine<S>,
@@ -212,7 +227,8 @@ fn answer_calls<S: LabelStore + Drop, W: Sink>(
     ensures err { OnErr result (BeginsAnswers machine.old (W.written writer.old)
         (W.written writer.new) calls.items) }
     ensures faults { IfErr result IsOutputFault }
-    ensures count { CountsFailure (W.failures writer.old) (W.failures writer.new) (is_write_failed result) }
+    ensures count { CountsFailure (W.failures writer.old) (W.failures writer.new)
+        (is_write_failed result) }
 {
     'calls: for call in calls {
         answer_and_log(alloc, machine, log, call, writer)?;
@@ -233,7 +249,8 @@ fn answer_and_log<S: LabelStore + Drop, W: Sink>(
     ensures err { OnErr result (BeginsCall machine.old machine.new (W.written writer.old)
         (W.written writer.new) call) }
     ensures faults { IfErr result IsOutputFault }
-    ensures count { CountsFailure (W.failures writer.old) (W.failures writer.new) (is_write_failed result) }
+    ensures count { CountsFailure (W.failures writer.old) (W.failures writer.new)
+        (is_write_failed result) }
 {
     let asked = asked_of(alloc, &call)?;
     let reply = answer(alloc, machine, call, writer)?;
@@ -252,7 +269,8 @@ fn answer<S: LabelStore + Drop, W: Sink>(
     ensures err { OnErr result (BeginsAnswer machine.old machine.new (W.written writer.old)
         (W.written writer.new) call) }
     ensures faults { IfErr result IsOutputFault }
-    ensures count { CountsFailure (W.failures writer.old) (W.failures writer.new) (is_write_failed result) }
+    ensures count { CountsFailure (W.failures writer.old) (W.failures writer.new)
+        (is_write_failed result) }
 {
     each_call_is_right(&call.call);
     let CallLine {
@@ -279,10 +297,13 @@ fn write_reply<W: Sink>(
     reply: &Reply,
     writer: &mut W,
 ) -> Result<(), Fault>
-    ensures ok { OnOk result (Appends (W.written writer.old) (W.written writer.new) (line_text line reply.now)) }
-    ensures err { OnErr result (AppendsFront (W.written writer.old) (W.written writer.new) (line_text line reply.now)) }
+    ensures ok { OnOk result (Appends (W.written writer.old) (W.written writer.new)
+        (line_text line reply.now)) }
+    ensures err { OnErr result (AppendsFront (W.written writer.old) (W.written writer.new)
+        (line_text line reply.now)) }
     ensures faults { IfErr result IsOutputFault }
-    ensures count { CountsFailure (W.failures writer.old) (W.failures writer.new) (is_write_failed result) }
+    ensures count { CountsFailure (W.failures writer.old) (W.failures writer.new)
+        (is_write_failed result) }
 {
     let text = reply_line(alloc, line, reply)?;
     write_bytes(writer, text.as_slice())?;

@@ -4,7 +4,8 @@ ghost use Rattle.histar_flat.specs.Words.{most_numbers};
 ghost use Rattle.histar_syscall.specs.KernelModel.{state};
 ghost use Rattle.histar_why.specs.Names.{node_at, process_of};
 ghost use Rattle.histar_why.specs.Reasons.{reason_of};
-ghost use Rattle.histar_why.specs.Views.{AreFactsOf, CountsEntries, CountsIn, IsBeside, search_by, unfound_by};
+ghost use Rattle.histar_why.specs.Views.{AreFactsOf, CountsEntries, CountsIn, IsBeside, search_by};
+ghost use Rattle.histar_why.specs.Views.{unfound_by};
 
 use crate::asked::Asked;
 use crate::causes::unknown;
@@ -49,7 +50,8 @@ pub(crate) fn facts_of<S: LabelStore + Drop>(
     caller: &Caller,
     asked: &Asked,
 ) -> Result<Facts, AllocError>
-    ensures { IfOk result (AreFactsOf reader.now.users.now reader.now.roots.now reader.now.births.now
+    ensures { IfOk result
+        (AreFactsOf reader.now.users.now reader.now.roots.now reader.now.births.now
         (state reader.now.kernel.now) (process_of caller.now) asked.now) }
 {
     let way = way_to(alloc, reader, caller, asked.path.names())?;
@@ -103,8 +105,8 @@ fn is_beside<S: LabelStore + Drop>(reader: &Reader<S>, asked: &Asked) -> bool
     }
 }
 
-/// Returns why a process doesn't find the one of these numbers: the first on the search that is not there, or
-/// that it doesn't see.
+/// Returns why a process doesn't find the one of these numbers: the first on the search that is not
+/// there, or that it doesn't see.
 fn search<S: LabelStore + Drop>(
     alloc: Global,
     reader: &Reader<S>,
@@ -112,8 +114,9 @@ fn search<S: LabelStore + Drop>(
     numbers: &[u8],
 ) -> Result<Option<Reason>, AllocError>
     requires { length numbers.now ≤ most_numbers }
-    ensures { IfOk result (λ found. option_map reason_of found ≡ search_by reader.now.users.now reader.now.births.now
-        (state reader.now.kernel.now) reader.now.roots.now.home (process_of caller.now) numbers.now) }
+    ensures { IfOk result (λ found. option_map reason_of found
+        ≡ search_by reader.now.users.now reader.now.births.now (state reader.now.kernel.now)
+        reader.now.roots.now.home (process_of caller.now) numbers.now) }
 {
     let [_, above @ ..] = numbers else {
         return Ok(None);
@@ -131,8 +134,10 @@ fn unfound<S: LabelStore + Drop>(
     caller: &Caller,
     name: &ProcName,
 ) -> Result<Option<Reason>, AllocError>
-    ensures { IfOk result (λ found. option_map reason_of found ≡ unfound_by reader.now.births.now (process_of caller.now) name.now
-        (node_at reader.now.users.now (state reader.now.kernel.now) reader.now.roots.now.home name.now)) }
+    ensures { IfOk result (λ found. option_map reason_of found
+        ≡ unfound_by reader.now.births.now (process_of caller.now) name.now
+        (node_at reader.now.users.now (state reader.now.kernel.now) reader.now.roots.now.home
+        name.now)) }
 {
     let Some(node) = node_at(alloc, reader, name)? else {
         return Ok(Some(Reason::OfProcess(ProcessReason::NoProcess(*name))));

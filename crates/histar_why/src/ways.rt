@@ -47,7 +47,8 @@ pub(crate) struct Way {
     pub here: Option<Spot>,
 }
 
-/// Returns the way to the path of these names, of which the last comes first. Each directory is read in place.
+/// Returns the way to the path of these names, of which the last comes first. Each directory is
+/// read in place.
 pub(crate) fn way_to<S: LabelStore + Drop>(
     alloc: Global,
     reader: &Reader<S>,
