@@ -22,7 +22,7 @@ fn file_of<'a>(task: &Task<'a>) -> Option<(&'a str, bool)> {
         Task::Leak(_, path, _) => Some((*path, false)),
         Task::Flows(path, _) => Some((*path, false)),
         Task::Report(path) => Some((*path, false)),
-        Task::Diff(_, _, _, _) | Task::Attack(_, _) | Task::Lint(_, _) | Task::Test(_, _) => {
+        Task::Diff(_, _, _, _) | Task::Attack(_, _, _) | Task::Lint(_, _) | Task::Test(_, _) => {
             None
         },
     }

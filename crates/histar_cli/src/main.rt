@@ -6,11 +6,11 @@ mod tasks;
 
 use crate::hints::say_why;
 use crate::tasks::{
-    access_file, attack_file, check_each_job, check_file, diff_files, flows_file, leak_file, lint_files,
-    report_file, run_file, run_raw_file, test_files, trust_file, try_file,
+    access_file, attack_file, check_each_job, check_file, diff_files, flows_file, leak_file,
+    lint_files, report_file, run_file, run_raw_file, test_files, trust_file, try_file,
 };
 use histar_access::DiffOptions;
-use histar_command_line::{CheckFlags, Task, read_words};
+use histar_command_line::{AttackFlags, CheckFlags, Task, read_words};
 use histar_console::{Outcome, REFUSED, command_line, outcome_status, refuse, report};
 use histar_flat::{ProcName, read_path, read_process};
 use histar_script::Fault;
@@ -66,9 +66,15 @@ fn check_job<R: Files + Input + Print>(
 }
 
 /// Runs a script in a file in which threads of this job make raw calls.
-fn attack_by<R: Files + Input + Print>(rt: &R, alloc: Global, job: &str, path: &str) -> Performed {
+fn attack_by<R: Files + Input + Print>(
+    rt: &R,
+    alloc: Global,
+    job: &str,
+    path: &str,
+    flags: AttackFlags,
+) -> Performed {
     let job = read_job(job)?;
-    Ok(attack_file(rt, alloc, &job, path))
+    Ok(attack_file(rt, alloc, &job, path, flags))
 }
 
 /// Prints which process may do what after the script in a file, or before this line, or which user.
@@ -163,7 +169,7 @@ fn perform<R: Files + Input + Print>(rt: &R, alloc: Global, task: &Task<'_>) -> 
         Task::Trust(path, file, line) => trust_at(rt, alloc, path, file, *line),
         Task::Leak(path, file, line) => leak_at(rt, alloc, path, file, *line),
         Task::Flows(path, line) => flows_at(rt, alloc, path, *line),
-        Task::Attack(job, path) => attack_by(rt, alloc, job, path),
+        Task::Attack(job, path, flags) => attack_by(rt, alloc, job, path, *flags),
         Task::Lint(files, is_raw) => Ok(lint_files(rt, alloc, files.as_slice(), *is_raw)),
         Task::Report(path) => Ok(report_file(rt, alloc, path)),
         Task::Test(files, strict) => Ok(test_files(rt, alloc, files.as_slice(), *strict)),

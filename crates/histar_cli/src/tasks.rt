@@ -5,8 +5,8 @@ ghost use Rattle.histar_comparison.specs.Jobs.{job_text};
 ghost use Rattle.histar_cli.specs.Checks.{is_same_without};
 
 use histar_access::{DiffOptions, access, access_users, diff};
-use histar_attack::attack;
-use histar_command_line::{CheckFlags, RunFlags, VERSION};
+use histar_attack::{AttackOptions, attack};
+use histar_command_line::{AttackFlags, CheckFlags, RunFlags, VERSION};
 use histar_comparison::{JobVerdict, Verdict, compare, compare_all, explain_comparison};
 use histar_console::{Outcome, finish, open, output, run_plain};
 use histar_flat::{Path, ProcName};
@@ -21,7 +21,7 @@ use histar_run_explain::explain_script;
 use histar_script::Fault;
 use histar_shell::Options;
 use histar_test::{TestFile, test};
-use histar_transcript::{Tried, transcribe, try_calls};
+use histar_transcript::{Tried, transcribe, transcribe_with_reasons, try_calls};
 use histar_trust::{flows, trust};
 use histar_why::run_with_reasons;
 use std::alloc::{AllocError, Global};
@@ -44,7 +44,9 @@ pub fn run_file<R: Files + Input + Print>(
     }
     let mut reader = open(rt, path)?;
     let mut writer = output(rt, alloc)?;
-    let done = if flags.calls {
+    let done = if flags.calls && flags.why {
+        transcribe_with_reasons(alloc, &mut reader, &mut writer, options)
+    } else if flags.calls {
         transcribe(alloc, &mut reader, &mut writer, options, flags.explain)
     } else if flags.why {
         run_with_reasons(alloc, &mut reader, &mut writer, options)
@@ -246,10 +248,15 @@ pub fn attack_file<R: Files + Input + Print>(
     alloc: Global,
     job: &ProcName,
     path: &str,
+    flags: AttackFlags,
 ) -> Result<Outcome, Fault> {
+    let options = AttackOptions {
+        trace: flags.trace,
+        follow: flags.follow,
+    };
     let mut reader = open(rt, path)?;
     let mut writer = output(rt, alloc)?;
-    let done = attack(alloc, job, &mut reader, &mut writer);
+    let done = attack(alloc, job, &mut reader, &mut writer, options);
     finish(done.map(|_| Outcome::Done), writer)
 }
 

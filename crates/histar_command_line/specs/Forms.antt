@@ -91,9 +91,10 @@ leak_app = subcommand_app (codes "leak") (option_rule (codes "LINE") (codes "at"
 abbrev pub flows_app : App
 flows_app = subcommand_app (codes "flows") (option_rule (codes "LINE") (codes "at") ∷ word_rule (codes "FILE") ∷ [])
 
--- `attack JOB FILE`
+-- `attack [--trace] [--follow] JOB FILE`
 abbrev pub attack_app : App
-attack_app = subcommand_app (codes "attack") (word_rule (codes "JOB") ∷ word_rule (codes "FILE") ∷ [])
+attack_app = subcommand_app (codes "attack")
+    (flag_rule (codes "trace") ∷ flag_rule (codes "follow") ∷ word_rule (codes "JOB") ∷ word_rule (codes "FILE") ∷ [])
 
 -- `lint [--raw] FILE..`
 abbrev pub lint_app : App

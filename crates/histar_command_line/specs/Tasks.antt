@@ -27,7 +27,7 @@ subcommand (Diff old new at more) = codes "diff"
 subcommand (Trust path file at) = codes "trust"
 subcommand (Leak path file at) = codes "leak"
 subcommand (Flows file at) = codes "flows"
-subcommand (Attack job file) = codes "attack"
+subcommand (Attack job file flags) = codes "attack"
 subcommand (Lint files is_raw) = codes "lint"
 subcommand (Report file) = codes "report"
 subcommand (Test files strict) = codes "test"
@@ -82,9 +82,11 @@ HasArguments (Leak path file at) rows =
 HasArguments (Flows file at) rows =
     (first_of (codes "FILE") rows ≡ Some file.now)
     × (option_map (λ line. line.now) at ≡ first_of (codes "LINE") rows)
-HasArguments (Attack job file) rows =
+HasArguments (Attack job file flags) rows =
     (first_of (codes "JOB") rows ≡ Some job.now)
     × (first_of (codes "FILE") rows ≡ Some file.now)
+    × (flags.trace ≡ is_set (codes "trace") rows)
+    × (flags.follow ≡ is_set (codes "follow") rows)
 HasArguments (Lint files is_raw) rows =
     (all_of (codes "FILE") rows ≡ Some (map (λ file. file.now) files.items))
     × (is_raw ≡ is_set (codes "raw") rows)

@@ -284,7 +284,7 @@ prints
     }
 }
 
-/// Returns `attack JOB FILE`.
+/// Returns `attack [--trace] [--follow] JOB FILE`.
 pub(crate) fn attack<'a>() -> Form<'a>
     ensures { form_app result ≡ attack_app }
 {
@@ -293,8 +293,9 @@ pub(crate) fn attack<'a>() -> Form<'a>
         about: "Run a script in which threads of a job bypass the Unix library by raw calls",
         after_help: "FILE has the lines of a script, and between them lines `thread N CALL`: a raw call of the thread N, as in a raw
 session. The numbers of threads and objects are those of `run --trace`. Each line has a reply, or:
-  not confined   the thread isn't in JOB, and the raw call is not made
-  inside         after the first raw call: the process is found through what JOB may have written, and the call is not made
+  not confined   the thread is not tainted in the category of JOB, and the raw call is not made
+  inside         after the first raw call: the process is in JOB, started it, or is found through what JOB may
+                 have written, and the call is not made
 Where the first process of JOB doesn't run when the first raw call comes, `no job` is printed alone.
 
 Example:
@@ -304,6 +305,11 @@ prints, among others, the lines
   25 inside
   28 EACCES",
         arguments: &[
+            Argument::Flag("trace", "Print each raw call of the kernel"),
+            Argument::Flag(
+                "follow",
+                "Make the calls that are inside too: nothing is promised of their replies",
+            ),
             Argument::Word("JOB", "The job: the name of its first process"),
             Argument::Word("FILE", "The script with raw calls between its lines"),
         ],

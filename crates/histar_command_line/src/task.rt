@@ -31,6 +31,14 @@ pub struct CheckFlags {
     pub exit_code: bool,
 }
 
+/// What an attack prints besides what becomes of its lines, and which lines it makes.
+#[derive(Clone, Copy)]
+pub struct AttackFlags {
+    pub trace: bool,
+    /// Whether calls inside are made too.
+    pub follow: bool,
+}
+
 /// What the program is to do: the subcommand with its words and its flags.
 #[derive(Drop)]
 pub enum Task<'a> {
@@ -61,7 +69,7 @@ pub enum Task<'a> {
     /// the line of this number.
     Flows(&'a str, Option<&'a str>),
     /// Run a script in which threads of a job make raw calls: first the job, then the file.
-    Attack(&'a str, &'a str),
+    Attack(&'a str, &'a str, AttackFlags),
     /// Print why the scripts in these files are bad, if they are; or the same of the raw sessions in them.
     Lint(Vec<&'a str>, bool),
     /// Print the session of the script in this file as a page.
@@ -178,7 +186,9 @@ fn session_task_of<'a>(matches: &ArgMatches<'a>) -> Option<Task<'a>>
     if let Some(attack) = matches.subcommand_matches("attack") {
         let job = attack.get_str("JOB")?;
         let file = attack.get_str("FILE")?;
-        return Some(Task::Attack(job, file));
+        let trace = is_set(attack, "trace");
+        let follow = is_set(attack, "follow");
+        return Some(Task::Attack(job, file, AttackFlags { trace, follow }));
     }
     let report = matches.subcommand_matches("report")?;
     let file = report.get_str("FILE")?;

@@ -26,7 +26,9 @@ fn run_trial(alloc: Global, trial: &Trial<'_>) -> Result<Vec<u8>, Fault> {
     match trial.kind {
         Kind::Run(options) => script::replies(alloc, trial.body, options),
         Kind::Explain(options) => questions::explained(alloc, trial.body, options),
+        Kind::Why(options) => questions::with_reasons(alloc, trial.body, options),
         Kind::Calls(options) => questions::with_calls(alloc, trial.body, options),
+        Kind::CallsWhy(options) => questions::with_both(alloc, trial.body, options),
         Kind::Check(job) => script::verdict(alloc, trial.body, &job),
         Kind::CheckWhy(job) => questions::reason(alloc, trial.body, &job),
         Kind::CheckAll => questions::verdicts(alloc, trial.body),
@@ -37,7 +39,7 @@ fn run_trial(alloc: Global, trial: &Trial<'_>) -> Result<Vec<u8>, Fault> {
         Kind::Leak(path, at) => questions::leaks(alloc, trial.body, &path, at),
         Kind::Flows(at) => questions::flowing(alloc, trial.body, at),
         Kind::Try(at) => questions::tried(alloc, trial.body, at),
-        Kind::Attack(job) => questions::attacked(alloc, trial.body, &job),
+        Kind::Attack(job, options) => questions::attacked(alloc, trial.body, &job, options),
         Kind::File(kind) => questions::of_file(alloc, kind, trial.title, trial.body),
         Kind::Raw => raw::answers(alloc, trial.body),
         Kind::ExplainRaw => raw::explained(alloc, trial.body),

@@ -1,8 +1,8 @@
 //! Questions to scripts: why, who may, what changes, on whom it depends, and what is wrong.
 use crate::script::with_fault;
 use crate::trial::FileKind;
-use histar_attack::attack;
 use histar_access::{DiffOptions, access, access_users, diff};
+use histar_attack::{AttackOptions, attack};
 use histar_comparison::{compare_all, explain_comparison};
 use histar_flat::{Path, ProcName, split_at_first};
 use histar_leak::leak;
@@ -13,8 +13,9 @@ use histar_run_explain::explain_script;
 use histar_script::Fault;
 use histar_shell::{Counted, Options};
 use histar_test::{TestFile, test};
-use histar_transcript::{Tried, transcribe, try_calls};
+use histar_transcript::{Tried, transcribe, transcribe_with_reasons, try_calls};
 use histar_trust::{flows, trust};
+use histar_why::run_with_reasons;
 use memchr::memmem;
 use std::alloc::Global;
 
@@ -34,6 +35,22 @@ pub fn with_calls(alloc: Global, script: &[u8], options: Options) -> Result<Vec<
     let mut reader = Counted::new(script);
     let mut writer = Counted::new(Vec::new(alloc));
     let done = transcribe(alloc, &mut reader, &mut writer, options, false);
+    with_fault(alloc, done, writer.into_inner())
+}
+
+/// Returns what a script writes, with the reasons of its refusals.
+pub fn with_reasons(alloc: Global, script: &[u8], options: Options) -> Result<Vec<u8>, Fault> {
+    let mut reader = Counted::new(script);
+    let mut writer = Counted::new(Vec::new(alloc));
+    let done = run_with_reasons(alloc, &mut reader, &mut writer, options);
+    with_fault(alloc, done, writer.into_inner())
+}
+
+/// Returns what a script writes, with each reply behind its call, and each reason behind its reply.
+pub fn with_both(alloc: Global, script: &[u8], options: Options) -> Result<Vec<u8>, Fault> {
+    let mut reader = Counted::new(script);
+    let mut writer = Counted::new(Vec::new(alloc));
+    let done = transcribe_with_reasons(alloc, &mut reader, &mut writer, options);
     with_fault(alloc, done, writer.into_inner())
 }
 
@@ -129,10 +146,15 @@ pub fn tried(alloc: Global, text: &[u8], at: Option<u32>) -> Result<Vec<u8>, Fau
 }
 
 /// Returns what becomes of the calls of a script in which threads of a job make raw calls.
-pub fn attacked(alloc: Global, script: &[u8], job: &ProcName) -> Result<Vec<u8>, Fault> {
+pub fn attacked(
+    alloc: Global,
+    script: &[u8],
+    job: &ProcName,
+    options: AttackOptions,
+) -> Result<Vec<u8>, Fault> {
     let mut reader = Counted::new(script);
     let mut writer = Counted::new(Vec::new(alloc));
-    let done = attack(alloc, job, &mut reader, &mut writer);
+    let done = attack(alloc, job, &mut reader, &mut writer, options);
     with_fault(alloc, done, writer.into_inner())
 }
 

@@ -1,5 +1,6 @@
 //! The trials that a text lists.
 use histar_access::DiffOptions;
+use histar_attack::AttackOptions;
 use histar_flat::{Path, ProcName, read_number, read_path, read_process, split_at_first};
 use histar_shell::Options;
 use memchr::memmem;
@@ -11,8 +12,12 @@ pub enum Kind {
     Run(Options),
     /// The same, with the explanations of denials.
     Explain(Options),
+    /// The same, with the reasons of refusals.
+    Why(Options),
     /// The same, with each reply behind its call.
     Calls(Options),
+    /// The same, with each reason behind its reply.
+    CallsWhy(Options),
     /// A script, compared with the one without this job.
     Check(ProcName),
     /// The same, with what each of the two prints where they differ.
@@ -34,7 +39,7 @@ pub enum Kind {
     /// Calls behind a script, or before a line of it.
     Try(Option<u32>),
     /// A script in which threads of this job make raw calls.
-    Attack(ProcName),
+    Attack(ProcName, AttackOptions),
     /// A script or a raw session whose name is in the title.
     File(FileKind),
     /// A session of raw calls.
@@ -126,20 +131,32 @@ fn read_run(word: &[u8], rest: Option<&[u8]>) -> Option<Kind> {
     match word {
         b"run" => Some(Kind::Run(read_options(rest)?)),
         b"explain" => Some(Kind::Explain(read_options(rest)?)),
+        b"why" => Some(Kind::Why(read_options(rest)?)),
         b"calls" => Some(Kind::Calls(read_options(rest)?)),
+        b"calls_why" => Some(Kind::CallsWhy(read_options(rest)?)),
         _ => None,
     }
 }
 
-/// Reads which comparison or attack a title asks for, by its first word and the job behind it.
+/// Reads which comparison a title asks for, by its first word and the job behind it.
 fn read_check(word: &[u8], rest: Option<&[u8]>) -> Option<Kind> {
     match word {
         b"check" => Some(Kind::Check(read_process(rest?)?)),
         b"check_why" => Some(Kind::CheckWhy(read_process(rest?)?)),
         b"check_all" => Some(Kind::CheckAll),
-        b"attack" => Some(Kind::Attack(read_process(rest?)?)),
-        _ => None,
+        _ => read_attack(word, rest),
     }
+}
+
+/// Reads which attack a title asks for, by its first word and the job behind it.
+fn read_attack(word: &[u8], rest: Option<&[u8]>) -> Option<Kind> {
+    let (trace, follow) = match word {
+        b"attack" => (false, false),
+        b"attack_trace" => (true, false),
+        b"attack_follow" => (false, true),
+        _ => return None,
+    };
+    Some(Kind::Attack(read_process(rest?)?, AttackOptions { trace, follow }))
 }
 
 /// Reads what a title asks of a script, by its first word and the line or the path behind it.
