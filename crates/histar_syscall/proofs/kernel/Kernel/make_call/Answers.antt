@@ -20,4 +20,5 @@ pub returns-clause-answered : goal.returns-clause-answered
 returns-clause-answered g c =
     let before : KernelModel = record { kept = c.self.inside.objects; line = c.self.inside.line; trace = c.self.inside.trace.entries } in
     recorded _ before _ _ c.record.new.self.entries _ _ _ c.record.result (λ k. IsAnswerValue (state k) c.args.thread c.args.call.now)
-    c.self.view_is c.store.ensures.entries c.decide-answer.ensures.ok c.record.ensures.outcome (c.record.ensures.entries c.args.call.now c.in_ok-stored.ensures.stands)
+    c.self.view_is c.store.ensures.entries c.decide-answer.ensures.ok c.record.ensures.outcome
+    (c.record.ensures.entries c.args.call.now c.in_ok-stored.ensures.stands)
