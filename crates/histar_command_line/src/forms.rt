@@ -50,7 +50,10 @@ pub(crate) fn run<'a>() -> Form<'a>
                 "trace",
                 "Print each raw call of the kernel, and why it was denied",
             ),
-            Argument::Flag("why", "Print why each call was refused, by the rules"),
+            Argument::Flag(
+                "why",
+                "Print why each call was refused, by the rules; not with --explain",
+            ),
             Argument::Flag("explain", "Print why each denied raw call was denied"),
             Argument::Flag("calls", "Print each reply behind its call"),
             Argument::Word("FILE", SCRIPT),

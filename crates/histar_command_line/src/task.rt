@@ -89,7 +89,7 @@ fn is_set(matches: &ArgMatches, name: &str) -> bool
     }
 }
 
-/// Returns the task of the subcommand that was matched.
+/// Returns the task of the subcommand that was matched. `run` has either reasons or explanations.
 fn task_of<'a>(matches: &ArgMatches<'a>) -> Option<Task<'a>>
     ensures { IfSome result (λ task. IsTaskOf task (subcommand_rows_of matches.now)) }
 {
@@ -100,6 +100,9 @@ fn task_of<'a>(matches: &ArgMatches<'a>) -> Option<Task<'a>>
         let why = is_set(run, "why");
         let explain = is_set(run, "explain");
         let calls = is_set(run, "calls");
+        if why && explain {
+            return None;
+        }
         let flags = RunFlags {
             tree,
             trace,

@@ -160,7 +160,7 @@ impl Markup {
 ",
             Markup::Style => STYLE,
             Markup::EndHead => b"</p>
-<nav><a href=\"#who\">Who</a> <a href=\"#session\">Session</a> <a href=\"#files\">Files</a> <a href=\"#secrets\">Secrets</a> <a href=\"#flows\">Flows</a> <a href=\"#labels\">Labels</a></nav>
+<nav><a href=\"#who\">Who</a> <a href=\"#session\">Session</a> <a href=\"#files\">Files</a> <a href=\"#secrets\">Secrets</a> <a href=\"#flows\">Flows</a> <a href=\"#drawing\">Drawing</a></nav>
 </header>
 <main>
 ",
@@ -198,7 +198,7 @@ impl Markup {
             Markup::BeginFlows => b"<section id=\"flows\">\n<h2>Flows</h2>\n",
             Markup::OnFlows =>
                 b"<p>To whom each process can pass on what it learns, at the end: a process in a job to those alone that know each of its jobs. An exclamation mark is behind one that holds such a job, and may pass on what the job made.</p>\n",
-            Markup::BeginLabels => b"<section id=\"labels\">\n<h2>Labels</h2>\n",
+            Markup::BeginLabels => b"<section id=\"drawing\">\n<h2>Drawing</h2>\n",
             Markup::NotDrawn =>
                 b"<p>It has more than 12 processes or 30 files and directories at the end, and is not drawn.</p>\n</section>\n",
             Markup::BeginDrawing =>
