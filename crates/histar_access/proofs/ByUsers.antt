@@ -1,5 +1,6 @@
 -- The table by users of a machine: line by line, and that it is the table of the flat state that the machine represents.
-use Rattle.std.proofs.Common.{◌≡◌, ℕ, ◌&&◌, Bool, true, false, List, [], ◌∷◌, ◌++◌, take, length, sym, ap, ◌∙◌, refl, append_assoc}
+use Rattle.std.proofs.Common.{◌≡◌, ℕ, ◌&&◌, Bool, true, false, List, [], ◌∷◌, ◌++◌, take}
+use Rattle.std.proofs.Common.{length, sym, ap, ◌∙◌, refl, append_assoc}
 use Rattle.std.proofs.Common.{append-nil, get_or, ◌+◌}
 use Rattle.std.specs.Prelude.{map, slice_get, suc, ◌≤◌, Option, None, Some}
 use Rattle.std.specs.List.{list_all}
@@ -192,7 +193,8 @@ module _ (accounts : Accounts) (f : Flat) where
     -- the lines of a tree are those of the entries that it shows
     lines_alike : (tree : List TreeNode) (es : List (Path × Node)) → map (tree_entry s) tree ≡ map (flat_entry category) es
         → map (line_at s) tree ≡ map flat_line es → (way : List Row)
-        → users_from table (listed start) (map listed way) tree ≡ zipped es (rows_from (λ (e : Path × Node). length e.0) flat_below start way es)
+        → users_from table (listed start) (map listed way) tree
+        ≡ zipped es (rows_from (λ (e : Path × Node). length e.0) flat_below start way es)
     unfolding zipped first_entry first_line rest_entries rest_lines
     lines_alike [] [] entries lines way = refl
     lines_alike [] (e ∷ es) entries lines way = absurd (cc)
@@ -212,7 +214,11 @@ module _ (accounts : Accounts) (f : Flat) where
         ∙ row_made node.class e (ap (λ (t : TreeEntry). t.class) entry) (last_or start flat_kept) in
         let next_is : kept ++ row ∷ [] ≡ map listed (flat_kept ++ flat_row ∷ []) =
         (λ i. kept_is i ++ row_is i ∷ []) ∙ sym (map-append listed flat_kept (flat_row ∷ [])) in
-        let line_is : users_line_at node row ≡ row_line e flat_row = λ i. record { path = (line i).path; stat = (line i).stat; users = row_is i } in
+        let line_is : users_line_at node row ≡ row_line e flat_row = λ i. record {
+          path = (line i).path;
+          stat = (line i).stat;
+          users = row_is i;
+        } in
         (λ i. line_is i ∷ users_from table (listed start) (next_is i) tree)
         ∙ ap (λ (ls : List UsersLine). row_line e flat_row ∷ ls)
         (lines_alike tree es (ap rest_entries entries) (ap rest_lines lines) (flat_kept ++ flat_row ∷ []))
@@ -228,9 +234,11 @@ module _ (accounts : Accounts) (f : Flat) where
         by None = refl
         by (Some above) = refl
 
-    is_given : (q : Path) (node : Node) → get f.files q ≡ Some node → flat_below (q, node) (found_above f start flat_below value q) ≡ value q node
+    is_given : (q : Path) (node : Node) → get f.files q ≡ Some node → flat_below (q, node) (found_above f start flat_below value q)
+        ≡ value q node
     is_given q node at = λ i user.
-        (ap (λ r. rights_below r (may_read accounts (process_of user) node.class) (may_write accounts (process_of user) node.class)) (above_is q user)
+        (ap (λ r. rights_below r (may_read accounts (process_of user) node.class) (may_write accounts (process_of user) node.class))
+        (above_is q user)
         ∙ sym (directories_give_rights accounts f tree small [] (process_of user) q node at)) i
 
     rows_found : (root : (class : Class) × (get f.files [] ≡ Some (record { class = class; content = Dir })))

@@ -159,7 +159,8 @@ module _ (s : State) (v : ℕ) (home : Home) where
 -- ---- the way to a process, and the process
 
 module _ (s : State) (v : ℕ) (first : Home) where
-  pub way_decided : (b : Bool) (n : ℕ) (above : ProcName) (home : Home) → IsClearWay s v first above → home_at s first (n ∷ above) ≡ Some home
+  pub way_decided : (b : Bool) (n : ℕ) (above : ProcName) (home : Home) → IsClearWay s v first above → home_at s first (n ∷ above)
+      ≡ Some home
       → Decides b (IsClearHome s v home) → Decides b (IsClearWay s v first (n ∷ above))
   way_decided b n above home way at = decides_too _ _ b
       (λ clear. (way, λ other is. subst (IsClearHome s v) (same_home home other (sym at ∙ is)) clear))
@@ -186,7 +187,8 @@ module _ (s : State) (v : ℕ) (first : Home) where
     outside_decided b home found = decides_too _ _ b
         (λ both. record {
           way = way;
-          inside = λ other status at. subst (λ (x : Home). status_at s x.segment ≡ Some status → status.exited ≡ None → IsClear s v status.internal)
+          inside = λ other status at. subst (λ (x : Home). status_at s x.segment ≡ Some status → status.exited ≡ None
+              → IsClear s v status.internal)
               (same_home home other (sym found ∙ at)) (both.0 status);
           thread = λ caller o at. both.1 caller o (sym (ap (λ (x : Option Home). x >>= λ h. caller_in s h) found) ∙ at);
         })

@@ -39,7 +39,8 @@ leads_one old new a can answered accounts f under =
     let meant = line_follows calls_refine old new a.call.line a.call.process a.call.call (Ok a.reply) can answered accounts f under.shows in
     (lines_lead_on accounts old new f a under can answered, λ i. record { call = a.call; reply = meant.is_reply i } ∷ [])
 
-leads_more : (first mid last : MachineModel) (xs ys : List RepliedCall) → LeadsOn first mid xs → LeadsOn mid last ys → LeadsOn first last (xs ++ ys)
+leads_more : (first mid last : MachineModel) (xs ys : List RepliedCall) → LeadsOn first mid xs → LeadsOn mid last ys
+    → LeadsOn first last (xs ++ ys)
 leads_more first mid last xs ys one two accounts f under =
     let now = one accounts f under in
     let later = two accounts (flat_end accounts f (calls_of xs)) now.0 in

@@ -29,7 +29,8 @@ adds_call s n (lines.Call p c) t e = (
 )
 
 -- a line by its item
-pub line_taken : (s : ScriptModel) (n : ℕ) (line : List ℕ) (i : Item) (o : Option ScriptModel) → item_of line ≡ Some i → with_item s n i ≡ o
+pub line_taken : (s : ScriptModel) (n : ℕ) (line : List ℕ) (i : Item) (o : Option ScriptModel) → item_of line ≡ Some i → with_item s n i
+    ≡ o
     → with_line s n line ≡ o
 unfolding with_line
 line_taken s n line i o is taken = ap (λ (x : Option Item). x >>= λ j. with_item s n j) is ∙ taken

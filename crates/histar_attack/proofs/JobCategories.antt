@@ -1,5 +1,6 @@
 -- The category of a job is the one that its first process's container has at 3 and that of the process above hasn't.
-use Rattle.std.proofs.Common.{◌≡◌, ℕ, zero, suc, ◌⊎◌, Bool, true, false, ◌&&◌, List, [], ◌∷◌, map, Option, None, Some, Contains, length}
+use Rattle.std.proofs.Common.{◌≡◌, ℕ, zero, suc, ◌⊎◌, Bool, true, false, ◌&&◌, List, [], ◌∷◌}
+use Rattle.std.proofs.Common.{map, Option, None, Some, Contains, length}
 use Rattle.std.proofs.Common.{refl, sym, ap, ◌∙◌, subst, inl, inr, arith, if◌then◌else◌}
 use Rattle.std.specs.Prelude.{MatchOption, is_some, nat_eq, not, option_and_then, option_map}
 use Rattle.std.specs.Cmp.Lexicographic.{pointwise}

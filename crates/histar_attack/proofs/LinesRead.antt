@@ -1,5 +1,6 @@
 -- Reading the lines of a mixed session one by one.
-use Rattle.std.proofs.Common.{◌≡◌, ℕ, ◌+◌, ◌<◌, Bool, true, false, eqb, List, [], ◌∷◌, ◌++◌, length, map, Option, None, Some, Result, Ok, Err}
+use Rattle.std.proofs.Common.{◌≡◌, ℕ, ◌+◌, ◌<◌, Bool, true, false, eqb, List, [], ◌∷◌, ◌++◌, length}
+use Rattle.std.proofs.Common.{map, Option, None, Some, Result, Ok, Err}
 use Rattle.std.proofs.Common.{refl, sym, ap, ◌∙◌, subst, inl, inr, arith, append_assoc, append-nil}
 use Rattle.std.specs.Prelude.{cond}
 use Rattle.histar_flat.specs.declared.calls.CallLine.{CallLine}
@@ -74,7 +75,8 @@ says_more n k (first ∷ before) line text raws asked some place one says = (
 -- the lines of the text, after one more was read
 line_more : (text : List ℕ) (before : List (List ℕ)) (line : List ℕ) (lines rest : List (List ℕ)) → lines_of text ≡ before ++ lines
     → lines ≡ line ∷ rest → lines_of text ≡ (before ++ line ∷ []) ++ rest
-line_more text before line lines rest parts is = parts ∙ ap (λ (l : List (List ℕ)). before ++ l) is ∙ sym (append_assoc before (line ∷ []) rest)
+line_more text before line lines rest parts is = parts ∙ ap (λ (l : List (List ℕ)). before ++ l) is
+    ∙ sym (append_assoc before (line ∷ []) rest)
 
 length_push : (lines : List (List ℕ)) (line : List ℕ) → length (lines ++ line ∷ []) ≡ length lines + 1
 length_push [] line = refl
@@ -221,7 +223,8 @@ module _ (text rest after line : List ℕ) (count : ℕ) (old : ScriptModel) (ms
             parts = line_more text so.before line (lines_of rest) (lines_of after) so.parts is;
             counted = counted_more;
             unix = sym (lines_step old count [] (map unix_line (lines_of after)) (Some old) (empty_line old (count + 1)))
-                ∙ ap (λ (l : List ℕ). with_lines old count (l ∷ map unix_line (lines_of after))) (sym (unix_if_some line call some)) ∙ goes_on;
+                ∙ ap (λ (l : List ℕ). with_lines old count (l ∷ map unix_line (lines_of after))) (sym (unix_if_some line call some))
+                ∙ goes_on;
             says = subst (SayRaw 0 (so.before ++ line ∷ []))
                 (sym (ap raw_of items ∙ raws_apart (in_order old.calls ms) (Raw asked ∷ [])))
                 (says_more 0 (count + 1) so.before line call _ asked some (omega (arith, counted)) read.says so.says);
@@ -290,7 +293,8 @@ module _ (text rest : List ℕ) (count : ℕ) (script : ScriptModel) (ms : List 
   )
 
   -- and one with users was read
-  pub all_read : eqb (length script.accounts.users) 0 ≡ false → is_too_long text ≡ false → IsMixed text script.accounts (in_order script.calls ms)
+  pub all_read : eqb (length script.accounts.users) 0 ≡ false → is_too_long text ≡ false
+      → IsMixed text script.accounts (in_order script.calls ms)
   all_read some short =
       let is : unix_reading text ≡ Ok script = at_end ∙ ap (λ b. cond b (bad_at (count + 1)) (Ok script)) some in
       record {

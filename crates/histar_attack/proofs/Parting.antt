@@ -54,7 +54,8 @@ parted_first before [] seen call none parted = record {
 }
 parted_first before (item ∷ later) seen call none parted = absurd (omega (arith, none))
 
-pub parted_unix : (before : List CallLine) (later seen : List MixedItem) (call : CallLine) → (length later ≡ 0 → ⊥) → IsParted before later seen
+pub parted_unix : (before : List CallLine) (later seen : List MixedItem) (call : CallLine) → (length later ≡ 0 → ⊥)
+    → IsParted before later seen
     → IsParted before (later ++ Unix call ∷ []) (seen ++ Unix call ∷ [])
 parted_unix before [] seen call some parted = absurd (some refl)
 parted_unix before (item ∷ later) seen call some parted = record {
