@@ -36,7 +36,7 @@ use Rattle.histar_outside.proofs.AllPrograms.{attacks_unseen}
 use Rattle.histar_outside.proofs.JobsBegin.{booted_under_way}
 use Rattle.histar_outside.proofs.LaterNumbers.{made_later}
 use Rattle.histar_outside.proofs.Starts.{attacks_start}
-use Rattle.histar_attack.specs.declared.items.MixedItem.{MixedItem}
+use Rattle.histar_mixed.specs.declared.items.MixedItem.{MixedItem}
 use Rattle.histar_attack.specs.declared.session.AttackOptions.{AttackOptions}
 use Rattle.histar_attack.specs.declared.session.Parts.{Parts}
 use Rattle.histar_attack.specs.Answering.{GivesOutput, HandlesAll, trace_if_asked}
@@ -44,7 +44,7 @@ use Rattle.histar_attack.specs.Attack.{Attacks, FindsNoJob, GivesAttack, HasAnsw
 use Rattle.histar_attack.specs.Confinement.{RunsJob, job_category}
 use Rattle.histar_attack.specs.Handling.{Handled, HandlesInTurn, handled_texts, replied_of}
 use Rattle.histar_attack.specs.Handling.Handled.{Answered, Followed, Inside, NotConfined, Replied}
-use Rattle.histar_attack.specs.Mixed.{IsMixed}
+use Rattle.histar_mixed.specs.Mixed.{IsMixed}
 use Rattle.histar_attack.proofs.JobCategories.{jobs_have_their_categories}
 
 -- ---- lines that were handled, as lines of an attack
@@ -231,7 +231,9 @@ module _ (accounts : Accounts) (start : MachineModel) (starts : IsStart accounts
     calls = gives.answered.each ∙ parted;
     machine = mid;
     answered = has_answered;
-    written = subst (λ (l : List MixedItem). Attacks options job accounts before mid l output ⊎ FindsNoJob job accounts before output) others goes_on;
+    written =
+        subst (λ (l : List MixedItem). Attacks options job accounts before mid l output ⊎ FindsNoJob job accounts before output) others
+        goes_on;
   }
 
 -- the output of a session, or memory ran out

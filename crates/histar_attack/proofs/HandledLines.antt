@@ -23,8 +23,8 @@ use Rattle.histar_outside.specs.NamedAttacks.{IsUnderWay}
 use Rattle.histar_outside.specs.Search.{IsOutsideCaller}
 use Rattle.histar_outside.proofs.JobsBegin.{lines_lead_on}
 use Rattle.histar_attack.specs.declared.handling.LineRule.{LineRule}
-use Rattle.histar_attack.specs.declared.items.MixedItem.{MixedItem}
-use Rattle.histar_attack.specs.declared.items.MixedItem.TheVariants as items
+use Rattle.histar_mixed.specs.declared.items.MixedItem.{MixedItem}
+use Rattle.histar_mixed.specs.declared.items.MixedItem.TheVariants as items
 use Rattle.histar_attack.specs.Answering.{AnswersEach, AnswersOne, AnswersRawLine, LeadsOn}
 use Rattle.histar_attack.specs.Confinement.{Decides}
 use Rattle.histar_attack.specs.Handling.{Handled, HandlesInTurn, HandlesItem, HandlesItems, handled_text, handled_texts, line_of}

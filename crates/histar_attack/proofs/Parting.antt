@@ -2,8 +2,8 @@
 use Rattle.std.proofs.Common.{◌≡◌, List, [], ◌∷◌, ◌++◌, length, refl, sym, ap, ◌∙◌, arith, append_assoc, append-nil}
 use Rattle.histar_flat.specs.declared.calls.CallLine.{CallLine}
 use Rattle.histar_raw_session.specs.declared.read_session.RawLine.{RawLine}
-use Rattle.histar_attack.specs.declared.items.MixedItem.{MixedItem}
-use Rattle.histar_attack.specs.declared.items.MixedItem.TheVariants.{Raw, Unix}
+use Rattle.histar_mixed.specs.declared.items.MixedItem.{MixedItem}
+use Rattle.histar_mixed.specs.declared.items.MixedItem.TheVariants.{Raw, Unix}
 use Rattle.histar_attack.specs.Attack.{first_unix, from_raw}
 
 -- the first value where there are no items, and else the second

@@ -20,7 +20,7 @@ use Rattle.histar_shell.specs.AnsweredCalls.{AnswersInTurn}
 use Rattle.histar_shell.specs.Machine.{MachineModel, AnswersLine}
 use Rattle.histar_shell.specs.RawCalls.{MakesRaw}
 use Rattle.histar_outside.specs.NamedAttacks.{IsUnderWay}
-use Rattle.histar_attack.specs.declared.items.MixedItem.{MixedItem}
+use Rattle.histar_mixed.specs.declared.items.MixedItem.{MixedItem}
 use Rattle.histar_attack.specs.declared.session.AttackOptions.{AttackOptions}
 use Rattle.histar_attack.specs.declared.session.Parts.{Parts}
 use Rattle.histar_attack.specs.Confinement.{job_category}

@@ -20,10 +20,10 @@ use Rattle.histar_shell.specs.AnsweredCalls.{AnswersInTurn}
 use Rattle.histar_shell.specs.Machine.{MachineModel, IsStart}
 use Rattle.histar_outside.specs.Attacks.{AreAlikeMachines}
 use Rattle.histar_outside.specs.NamedAttacks.{HasJob, IsUnderWay}
-use Rattle.histar_attack.specs.declared.items.MixedItem.{MixedItem}
-use Rattle.histar_attack.specs.declared.items.MixedItem.TheVariants.{Unix, Raw}
+use Rattle.histar_mixed.specs.declared.items.MixedItem.{MixedItem}
+use Rattle.histar_mixed.specs.declared.items.MixedItem.TheVariants.{Unix, Raw}
 use Rattle.histar_attack.specs.declared.session.AttackOptions.{AttackOptions}
-use Rattle.histar_attack.specs.Mixed.{IsMixed, IsMixedFault}
+use Rattle.histar_mixed.specs.Mixed.{IsMixed, IsMixedFault}
 use Rattle.histar_attack.specs.Answering.{trace_if_asked}
 use Rattle.histar_attack.specs.Confinement.{RunsJob}
 use Rattle.histar_attack.specs.Handling.{Handled, HandlesInTurn, handled_texts, line_of, replied_of}

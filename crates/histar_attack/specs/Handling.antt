@@ -15,8 +15,8 @@ use Rattle.histar_shell.specs.Machine.{MachineModel, AnswersLine}
 use Rattle.histar_shell.specs.RawCalls.{MakesRaw}
 use Rattle.histar_outside.specs.Search.{IsOutsideCaller}
 use Rattle.histar_attack.specs.declared.handling.LineRule.{LineRule}
-use Rattle.histar_attack.specs.declared.items.MixedItem.{MixedItem}
-use Rattle.histar_attack.specs.declared.items.MixedItem.TheVariants as items
+use Rattle.histar_mixed.specs.declared.items.MixedItem.{MixedItem}
+use Rattle.histar_mixed.specs.declared.items.MixedItem.TheVariants as items
 
 -- what became of a line
 pub data Handled : Type 0 where

@@ -1,6 +1,4 @@
 -- The definitions of this crate that contracts cite.
-pub mod Mixed
-pub mod Taking
 pub mod Confinement
 pub mod Handling
 pub mod Answering

@@ -4,10 +4,10 @@ ghost use Rattle.histar_attack.specs.Answering.{AnswersEach, AnswersOne, Answers
 ghost use Rattle.histar_attack.specs.Handling.{HandlesItem, HandlesItems};
 
 use crate::confinement::{is_outside_caller, is_tainted_caller};
-use crate::items::MixedItem;
 use crate::texts::{push_line, push_outcome, push_reply};
 use histar_flat::{CallLine, each_call_is_right};
 use histar_label::{Category, LabelStore};
+use histar_mixed::MixedItem;
 use histar_raw_session::RawLine;
 use histar_script::Fault;
 use histar_shell::Machine;

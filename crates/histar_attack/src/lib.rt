@@ -5,12 +5,8 @@
 pub mod attack_laws;
 mod confinement;
 mod handling;
-mod items;
-mod reader;
 mod session;
 mod texts;
 
 pub use confinement::{is_outside_caller, is_tainted_caller, job_category};
-pub use items::MixedItem;
-pub use reader::{Mixed, read_mixed};
 pub use session::{AttackOptions, attack};

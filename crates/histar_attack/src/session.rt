@@ -7,13 +7,12 @@ ghost use Rattle.histar_attack.specs.Attack.{GivesAttack, WritesAttack, first_un
 
 use crate::confinement::job_category;
 use crate::handling::{LineRule, answer_before, handle_all};
-use crate::items::MixedItem;
-use crate::reader::{Mixed, read_mixed};
 use crate::texts::push_trace_if;
 use histar_command::{Command, run_command};
 use histar_flat::{CallLine, ProcName};
 use histar_io::{Sink, Source, write_bytes};
 use histar_label::{InternStore, LabelStore};
+use histar_mixed::{Mixed, MixedItem, read_mixed};
 use histar_script::Fault;
 use histar_shell::Machine;
 use std::alloc::{AllocError, Global};

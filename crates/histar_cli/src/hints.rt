@@ -12,17 +12,19 @@ use std::str;
 /// Returns the one script or raw session that a task is about, and whether it is a raw session.
 fn file_of<'a>(task: &Task<'a>) -> Option<(&'a str, bool)> {
     match task {
-        Task::Run(path, _) => Some((*path, false)),
+        Task::Run(path, _, _) => Some((*path, false)),
         Task::Try(path, _, _) => Some((*path, false)),
         Task::Raw(path, _) => Some((*path, true)),
-        Task::Check(_, path, _) => Some((*path, false)),
-        Task::CheckAll(path, _) => Some((*path, false)),
+        Task::Check(_, path, _, _) => Some((*path, false)),
+        Task::CheckAll(path, _, _) => Some((*path, false)),
         Task::Access(path, _, _) => Some((*path, false)),
-        Task::Trust(_, path, _) => Some((*path, false)),
+        Task::Trust(_, path, _, _) => Some((*path, false)),
         Task::Leak(_, path, _) => Some((*path, false)),
         Task::Flows(path, _) => Some((*path, false)),
-        Task::Report(path) => Some((*path, false)),
-        Task::Diff(_, _, _, _) | Task::Attack(_, _, _) | Task::Lint(_, _) | Task::Test(_, _) => {
+        Task::Report(path, _) => Some((*path, false)),
+        Task::Shell(Some(path)) => Some((*path, false)),
+        Task::Shell(None) => None,
+        Task::Diff(_, _, _, _) | Task::Attack(_, _, _) | Task::Lint(_, _, _) | Task::Test(_, _) => {
             None
         },
     }

@@ -6,15 +6,17 @@ mod tasks;
 
 use crate::hints::say_why;
 use crate::tasks::{
-    access_file, attack_file, check_each_job, check_file, diff_files, flows_file, leak_file,
-    lint_files, report_file, run_file, run_raw_file, test_files, trust_file, try_file,
+    CheckOptions, access_file, attack_file, check_each_job, check_file, diff_files, flows_file,
+    leak_file, lint_files, report_file, run_file, run_raw_file, shell_file, test_files, trust_file,
+    try_file,
 };
 use histar_access::DiffOptions;
-use histar_command_line::{AttackFlags, CheckFlags, Task, read_words};
+use histar_command_line::{AttackFlags, CheckFlags, RunFlags, Task, read_words};
 use histar_console::{Outcome, REFUSED, command_line, outcome_status, refuse, report};
 use histar_flat::{ProcName, read_path, read_process};
 use histar_script::Fault;
 use histar_transcript::Tried;
+use histar_trust::TrustOptions;
 use std::alloc::Global;
 use std::io::{self, IsTerminal};
 use std::process::ExitCode;
@@ -53,16 +55,45 @@ fn read_job(word: &str) -> Result<ProcName, BadWord> {
 /// What a task came to, unless a word of it can't be read.
 type Performed = Result<Result<Outcome, Fault>, BadWord>;
 
-/// Compares the script in a file with the one without this job.
+/// Runs the script in a file, or its calls before this line.
+fn run_at<R: Files + Input + Print>(
+    rt: &R,
+    alloc: Global,
+    path: &str,
+    flags: RunFlags,
+    line: Option<&str>,
+) -> Performed {
+    let at = read_line(line)?;
+    Ok(run_file(rt, alloc, path, flags, at))
+}
+
+/// Compares the script in a file, or its calls before a line, with the ones without this job.
 fn check_job<R: Files + Input + Print>(
     rt: &R,
     alloc: Global,
     job: &str,
     path: &str,
-    flags: CheckFlags,
+    options: CheckOptions,
 ) -> Performed {
     let job = read_job(job)?;
-    Ok(check_file(rt, alloc, &job, path, flags))
+    Ok(check_file(rt, alloc, &job, path, options))
+}
+
+/// Returns what a comparison prints, and up to which line it runs.
+fn check_options(flags: CheckFlags, line: Option<&str>) -> Result<CheckOptions, BadWord> {
+    let at = read_line(line)?;
+    Ok(CheckOptions { flags, at })
+}
+
+/// Prints the session of the script in a file as a page, or that of its calls before this line.
+fn report_at<R: Files + Input + Print>(
+    rt: &R,
+    alloc: Global,
+    path: &str,
+    line: Option<&str>,
+) -> Performed {
+    let at = read_line(line)?;
+    Ok(report_file(rt, alloc, path, at))
 }
 
 /// Runs a script in a file in which threads of this job make raw calls.
@@ -102,17 +133,22 @@ fn diff_at<R: Files + Input + Print>(
     Ok(diff_files(rt, alloc, old, new, DiffOptions { at, more }))
 }
 
-/// Prints who has to be trusted with this path after the script in a file, or before this line.
+/// Prints who has to be trusted with this path after the script in a file, or before a line.
 fn trust_at<R: Files + Input + Print>(
     rt: &R,
     alloc: Global,
     path: &str,
     file: &str,
-    line: Option<&str>,
+    options: TrustOptions,
 ) -> Performed {
     let path = read_path(path.as_bytes()).ok_or(BadWord::Path)?;
-    let line = read_line(line)?;
-    Ok(trust_file(rt, alloc, &path, file, line))
+    Ok(trust_file(rt, alloc, &path, file, options))
+}
+
+/// Returns before which line trust is asked for, and whether with reasons.
+fn trust_options(line: Option<&str>, why: bool) -> Result<TrustOptions, BadWord> {
+    let at = read_line(line)?;
+    Ok(TrustOptions { at, why })
 }
 
 /// Prints the calls by which processes leak or change what is at this path after the script in a file, or before
@@ -156,22 +192,43 @@ fn try_at<R: Files + Input + Print>(
     }
 }
 
+/// Which of the standard streams a person is at.
+#[derive(Clone, Copy)]
+struct Terminals {
+    input: bool,
+    errors: bool,
+}
+
 /// Does a task. It prints nothing if a word of the task can't be read.
-fn perform<R: Files + Input + Print>(rt: &R, alloc: Global, task: &Task<'_>) -> Performed {
+fn perform<R: Files + Input + Print>(
+    rt: &R,
+    alloc: Global,
+    task: &Task<'_>,
+    terminals: Terminals,
+) -> Performed {
     match task {
-        Task::Run(path, flags) => Ok(run_file(rt, alloc, path, *flags)),
+        Task::Shell(path) => Ok(shell_file(rt, alloc, *path, terminals.input)),
+        Task::Run(path, flags, line) => run_at(rt, alloc, path, *flags, *line),
         Task::Try(path, calls, line) => try_at(rt, alloc, path, calls.as_slice(), *line),
         Task::Raw(path, explain) => Ok(run_raw_file(rt, alloc, path, *explain)),
-        Task::Check(job, path, flags) => check_job(rt, alloc, job, path, *flags),
-        Task::CheckAll(path, flags) => Ok(check_each_job(rt, alloc, path, *flags)),
+        Task::Check(job, path, flags, line) => {
+            check_job(rt, alloc, job, path, check_options(*flags, *line)?)
+        }
+        Task::CheckAll(path, flags, line) => {
+            Ok(check_each_job(rt, alloc, path, check_options(*flags, *line)?))
+        }
         Task::Access(path, line, users) => access_at(rt, alloc, path, *line, *users),
         Task::Diff(old, new, line, more) => diff_at(rt, alloc, old, new, *line, *more),
-        Task::Trust(path, file, line) => trust_at(rt, alloc, path, file, *line),
+        Task::Trust(path, file, line, why) => {
+            trust_at(rt, alloc, path, file, trust_options(*line, *why)?)
+        }
         Task::Leak(path, file, line) => leak_at(rt, alloc, path, file, *line),
         Task::Flows(path, line) => flows_at(rt, alloc, path, *line),
         Task::Attack(job, path, flags) => attack_by(rt, alloc, job, path, *flags),
-        Task::Lint(files, is_raw) => Ok(lint_files(rt, alloc, files.as_slice(), *is_raw)),
-        Task::Report(path) => Ok(report_file(rt, alloc, path)),
+        Task::Lint(files, kind, exit_code) => {
+            Ok(lint_files(rt, alloc, files.as_slice(), *kind, *exit_code))
+        }
+        Task::Report(path, line) => report_at(rt, alloc, path, *line),
         Task::Test(files, strict) => Ok(test_files(rt, alloc, files.as_slice(), *strict)),
     }
 }
@@ -227,20 +284,23 @@ fn obey<R: Files + Input + Print + Eprint>(
     rt: &R,
     alloc: Global,
     words: &[&str],
-    is_terminal: bool,
+    terminals: Terminals,
 ) -> u8 {
     match read_words(alloc, words) {
         Err(error) => explain(rt, &error),
-        Ok(task) => match perform(rt, alloc, &task) {
+        Ok(task) => match perform(rt, alloc, &task, terminals) {
             Err(word) => refuse_word(rt, &word),
             Ok(Ok(outcome)) => outcome_status(outcome),
-            Ok(Err(fault)) => report_fault(rt, alloc, &task, &fault, is_terminal),
+            Ok(Err(fault)) => report_fault(rt, alloc, &task, &fault, terminals.errors),
         },
     }
 }
 
 /// Reads the command line and obeys it. A command line that can't be read is refused.
-fn start<R: Env + Files + Input + Print + Eprint + AllocGlobal>(rt: &R, is_terminal: bool) -> u8 {
+fn start<R: Env + Files + Input + Print + Eprint + AllocGlobal>(
+    rt: &R,
+    terminals: Terminals,
+) -> u8 {
     let alloc = rt.alloc();
     let owned = match command_line(rt) {
         Ok(owned) => owned,
@@ -248,11 +308,15 @@ fn start<R: Env + Files + Input + Print + Eprint + AllocGlobal>(rt: &R, is_termi
     };
     let words = owned.iter().map(|word| word.as_str());
     match words.collect::<Vec<&str>>(alloc) {
-        Ok(words) => obey(rt, alloc, words.as_slice(), is_terminal),
+        Ok(words) => obey(rt, alloc, words.as_slice(), terminals),
         Err(error) => refuse(rt, &io::Error::from(error)),
     }
 }
 
 fn main(rt: HostRuntime) -> ExitCode {
-    ExitCode::from(start(&rt, rt.stderr().is_terminal()))
+    let terminals = Terminals {
+        input: rt.stdin().is_terminal(),
+        errors: rt.stderr().is_terminal(),
+    };
+    ExitCode::from(start(&rt, terminals))
 }

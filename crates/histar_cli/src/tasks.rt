@@ -6,52 +6,82 @@ ghost use Rattle.histar_cli.specs.Checks.{is_same_without};
 
 use histar_access::{DiffOptions, access, access_users, diff};
 use histar_attack::{AttackOptions, attack};
-use histar_command_line::{AttackFlags, CheckFlags, RunFlags, VERSION};
+use histar_attack_lint::lint_attack;
+use histar_command_line::{AttackFlags, CheckFlags, LintKind, RunFlags, VERSION};
 use histar_comparison::{JobVerdict, Verdict, compare, compare_all, explain_comparison};
 use histar_console::{Outcome, finish, open, output, run_plain};
+use histar_dialogue::converse;
 use histar_flat::{Path, ProcName};
 use histar_io::read_input;
 use histar_leak::leak;
 use histar_lint::lint;
+use histar_policy::{Found, lint_policy};
 use histar_raw_explain::explain_raw_script;
 use histar_raw_lint::lint_raw;
 use histar_raw_session::run_raw_script;
 use histar_report::report;
 use histar_run_explain::explain_script;
 use histar_script::Fault;
-use histar_shell::Options;
+use histar_shell::{Counted, Options, Source, run};
 use histar_test::{TestFile, test};
-use histar_transcript::{Tried, transcribe, transcribe_with_reasons, try_calls};
-use histar_trust::{flows, trust};
+use histar_transcript::{Tried, front_before, transcribe, transcribe_with_reasons, try_calls};
+use histar_trust::{TrustOptions, flows, trust};
 use histar_why::run_with_reasons;
 use std::alloc::{AllocError, Global};
 use std::io::{self, Write};
+use std::mem::forget;
 use std::rt::Files;
 
-/// Runs the script in a file, and prints the replies and what else is asked for.
+/// Runs the script in a file, or its calls before a line, and prints the replies and what else is asked for.
 pub fn run_file<R: Files + Input + Print>(
     rt: &R,
     alloc: Global,
     path: &str,
     flags: RunFlags,
+    at: Option<u32>,
 ) -> Result<Outcome, Fault> {
-    let options = Options {
+    match at {
+        None if is_plain(flags) => run_plain(rt, alloc, path, options_of(flags)),
+        None => run_source(rt, alloc, &mut open(rt, path)?, flags),
+        Some(_) => {
+            let front = read_until(rt, alloc, path, at)?;
+            run_source(rt, alloc, &mut Counted::new(front.as_slice()), flags)
+        }
+    }
+}
+
+/// Returns what a run writes besides its replies, by these flags.
+fn options_of(flags: RunFlags) -> Options {
+    Options {
         tree: flags.tree,
         trace: flags.trace,
-    };
-    if !flags.calls && !flags.explain && !flags.why {
-        return run_plain(rt, alloc, path, options);
     }
-    let mut reader = open(rt, path)?;
+}
+
+/// Checks whether flags ask for nothing but what `run` of `histar_shell` writes.
+fn is_plain(flags: RunFlags) -> bool {
+    !flags.calls && !flags.explain && !flags.why
+}
+
+/// Runs the script of a source, and prints the replies and what else is asked for.
+fn run_source<R: Print, S: Source>(
+    rt: &R,
+    alloc: Global,
+    reader: &mut S,
+    flags: RunFlags,
+) -> Result<Outcome, Fault> {
+    let options = options_of(flags);
     let mut writer = output(rt, alloc)?;
     let done = if flags.calls && flags.why {
-        transcribe_with_reasons(alloc, &mut reader, &mut writer, options)
+        transcribe_with_reasons(alloc, reader, &mut writer, options)
     } else if flags.calls {
-        transcribe(alloc, &mut reader, &mut writer, options, flags.explain)
+        transcribe(alloc, reader, &mut writer, options, flags.explain)
     } else if flags.why {
-        run_with_reasons(alloc, &mut reader, &mut writer, options)
+        run_with_reasons(alloc, reader, &mut writer, options)
+    } else if flags.explain {
+        explain_script(alloc, reader, &mut writer, options)
     } else {
-        explain_script(alloc, &mut reader, &mut writer, options)
+        run(alloc, reader, &mut writer, options).map(|trace| forget(trace))
     };
     finish(done.map(|_| Outcome::Done), writer)
 }
@@ -74,15 +104,23 @@ pub fn run_raw_file<R: Files + Input + Print>(
     finish(done.map(|_| Outcome::Done), writer)
 }
 
-/// Prints what differs for outsiders when the script in a file is run without a job.
+/// What a comparison prints, and up to which line it runs.
+#[derive(Clone, Copy)]
+pub struct CheckOptions {
+    pub flags: CheckFlags,
+    pub at: Option<u32>,
+}
+
+/// Prints what differs for outsiders when the script in a file, or its calls before a line, are run without a job.
 pub fn check_file<R: Files + Input + Print>(
     rt: &R,
     alloc: Global,
     job: &ProcName,
     path: &str,
-    flags: CheckFlags,
+    options: CheckOptions,
 ) -> Result<Outcome, Fault> {
-    let input = read_file(rt, alloc, path)?;
+    let CheckOptions { flags, at } = options;
+    let input = read_until(rt, alloc, path, at)?;
     let (line, verdict) = compared(alloc, input.as_slice(), job, flags.why)?;
     print_text(rt, line.as_slice())?;
     Ok(is_so(!flags.exit_code || matches!(verdict, Verdict::Same)))
@@ -109,9 +147,10 @@ pub fn check_each_job<R: Files + Input + Print>(
     rt: &R,
     alloc: Global,
     path: &str,
-    flags: CheckFlags,
+    options: CheckOptions,
 ) -> Result<Outcome, Fault> {
-    let input = read_file(rt, alloc, path)?;
+    let CheckOptions { flags, at } = options;
+    let input = read_until(rt, alloc, path, at)?;
     let verdicts = compare_all(alloc, input.as_slice())?;
     let text = verdict_lines(alloc, verdicts.as_slice(), flags.why)?;
     print_text(rt, text.as_slice())?;
@@ -199,17 +238,17 @@ pub fn diff_files<R: Files + Input + Print>(
 }
 
 /// Prints which processes have to be trusted with a path after the calls of the script in a file, or before a
-/// line.
+/// line, and why, if that is asked for.
 pub fn trust_file<R: Files + Input + Print>(
     rt: &R,
     alloc: Global,
     path: &Path,
     file: &str,
-    at: Option<u32>,
+    options: TrustOptions,
 ) -> Result<Outcome, Fault> {
     let mut reader = open(rt, file)?;
     let mut writer = output(rt, alloc)?;
-    let done = trust(alloc, path, &mut reader, &mut writer, at);
+    let done = trust(alloc, path, &mut reader, &mut writer, options);
     finish(done.map(|_| Outcome::Done), writer)
 }
 
@@ -278,47 +317,88 @@ pub fn try_file<R: Files + Input + Print>(
     finish(done, writer)
 }
 
-/// Prints why the scripts in files are bad, if they are, or the same of the raw sessions in them.
+/// Answers lines of standard input, one after another, behind those of the script in a file, if there is one. Each
+/// answer is written at once.
+pub fn shell_file<R: Files + Input + Print>(
+    rt: &R,
+    alloc: Global,
+    path: Option<&str>,
+    prompt: bool,
+) -> Result<Outcome, Fault> {
+    let first = match path {
+        None => None,
+        Some(path) => Some(read_file(rt, alloc, path)?),
+    };
+    let text = first.as_ref().map(|text| text.as_slice());
+    let mut reader = Counted::new(rt.reader());
+    let mut writer = Counted::new(io::writer(rt));
+    converse(alloc, text, &mut reader, &mut writer, prompt)?;
+    Ok(Outcome::Done)
+}
+
+/// Prints why files of this kind are bad, if they are, and the warnings on right ones, if they are asked for. Whether the
+/// status says that there was a warning is the last argument.
 pub fn lint_files<R: Files + Input + Print>(
     rt: &R,
     alloc: Global,
     paths: &[&str],
-    is_raw: bool,
+    kind: LintKind,
+    exit_code: bool,
 ) -> Result<Outcome, Fault> {
     let mut outcome = Outcome::Done;
     for path in paths {
-        if !is_right_file(rt, alloc, path, is_raw)? {
-            outcome = Outcome::BadScript;
+        match (lint_file(rt, alloc, path, kind)?, outcome) {
+            (Found::BadLine, _) => outcome = Outcome::BadScript,
+            (Found::Warnings, Outcome::Done) if exit_code => outcome = Outcome::NotSo,
+            _ => {}
         }
     }
     Ok(outcome)
 }
 
-/// Prints why the script in a file is bad, if it is, or the same of the raw session in it, and returns whether it
-/// is right.
-fn is_right_file<R: Files + Input + Print>(
+/// Prints what is found in a file of this kind, and returns whether that is a bad line, or warnings.
+fn lint_file<R: Files + Input + Print>(
     rt: &R,
     alloc: Global,
     path: &str,
-    is_raw: bool,
-) -> Result<bool, Fault> {
+    kind: LintKind,
+) -> Result<Found, Fault> {
     let mut reader = open(rt, path)?;
     let mut writer = output(rt, alloc)?;
-    let done = if is_raw {
-        lint_raw(alloc, path.as_bytes(), &mut reader, &mut writer)
-    } else {
-        lint(alloc, path.as_bytes(), &mut reader, &mut writer)
+    let name = path.as_bytes();
+    let done = match kind {
+        LintKind::Script => lint(alloc, name, &mut reader, &mut writer).map(|is_right| found(
+            is_right,
+        )),
+        LintKind::Raw => lint_raw(alloc, name, &mut reader, &mut writer).map(|is_right| found(
+            is_right,
+        )),
+        LintKind::Attack => {
+            lint_attack(alloc, name, &mut reader, &mut writer).map(|is_right| found(is_right))
+        }
+        LintKind::Policy => lint_policy(alloc, name, &mut reader, &mut writer),
     };
     finish(done, writer)
 }
 
-/// Prints the session of the script in a file as a page.
+/// Returns what was found in a file that is right or has a bad line.
+fn found(is_right: bool) -> Found {
+    if is_right {
+        Found::Nothing
+    } else {
+        Found::BadLine
+    }
+}
+
+/// Prints the session of the script in a file as a page, or that of its calls before a line.
 pub fn report_file<R: Files + Input + Print>(
     rt: &R,
     alloc: Global,
     path: &str,
+    at: Option<u32>,
 ) -> Result<Outcome, Fault> {
-    let mut reader = open(rt, path)?;
+    let input = read_until(rt, alloc, path, at)?;
+    let mut reader = Counted::new(input.as_slice());
     let mut writer = output(rt, alloc)?;
     let name = match path.rsplit_once('/') {
         Some((_, name)) => name,
@@ -352,6 +432,20 @@ fn read_file<R: Files + Input>(rt: &R, alloc: Global, path: &str) -> Result<Vec<
     let mut reader = open(rt, path)?;
     let input = read_input(alloc, &mut reader)?;
     Ok(input)
+}
+
+/// Reads the whole of a file, or the front of the script in it up to a line.
+fn read_until<R: Files + Input>(
+    rt: &R,
+    alloc: Global,
+    path: &str,
+    at: Option<u32>,
+) -> Result<Vec<u8>, Fault> {
+    let input = read_file(rt, alloc, path)?;
+    match at {
+        None => Ok(input),
+        Some(line) => front_before(alloc, input.as_slice(), line),
+    }
 }
 
 /// Reads files, each with its name.

@@ -4,7 +4,7 @@ use Rattle.clap.specs.Lexer.{usize_max}
 use Rattle.clap.specs.Words.{App, Rule, Shape, Text, new_app, new_rule, with_rule, with_subcommand}
 use Rattle.clap.specs.declared.builder.action.ArgAction.TheVariants.{Set, SetTrue}
 use Rattle.histar_command_line.specs.declared.forms.Argument.{Argument}
-use Rattle.histar_command_line.specs.declared.forms.Argument.TheVariants.{Flag, Word, Unless, Words, Valued}
+use Rattle.histar_command_line.specs.declared.forms.Argument.TheVariants.{Flag, Word, Unless, Optional, Words, Valued}
 use Rattle.histar_command_line.specs.declared.forms.Form.{Form}
 
 -- the rule of a flag of this name
@@ -19,6 +19,10 @@ word_rule name = record (new_rule name) { required = true }
 abbrev pub unless_rule : Text → Rule
 unless_rule name = record (new_rule name) { is_free = false }
 
+-- the rule of a word of this name that may be there
+abbrev pub optional_rule : Text → Rule
+optional_rule name = new_rule name
+
 -- the rule of one or more words of this name
 abbrev pub words_rule : Text → Rule
 words_rule name = record (new_rule name) { required = true; range = Some (record { start_inclusive = 1; end_inclusive = usize_max }) }
@@ -32,6 +36,7 @@ abbrev pub argument_rule : Argument → Rule
 argument_rule (Flag name help) = flag_rule name.now
 argument_rule (Word name help) = word_rule name.now
 argument_rule (Unless name flag help) = unless_rule name.now
+argument_rule (Optional name help) = optional_rule name.now
 argument_rule (Words name help) = words_rule name.now
 argument_rule (Valued name flag help) = option_rule name.now flag.now
 
@@ -51,37 +56,44 @@ named_app = let app = new_app (codes "histar") in record app { top = record app.
 abbrev pub subcommand_app : Text → List Rule → App
 subcommand_app name arguments = fold with_rule (new_app name) arguments
 
--- `run [--tree] [--trace] [--why] [--explain] [--calls] FILE`
+-- `run [--tree] [--trace] [--why] [--explain] [--calls] [--at LINE] FILE`
 abbrev pub run_app : App
 run_app = subcommand_app (codes "run")
     (flag_rule (codes "tree") ∷ flag_rule (codes "trace") ∷ flag_rule (codes "why") ∷ flag_rule (codes "explain")
-    ∷ flag_rule (codes "calls") ∷ word_rule (codes "FILE") ∷ [])
+    ∷ flag_rule (codes "calls") ∷ option_rule (codes "LINE") (codes "at") ∷ word_rule (codes "FILE") ∷ [])
 
 -- `try [--at LINE] FILE CALL..`
 abbrev pub try_app : App
 try_app = subcommand_app (codes "try") (option_rule (codes "LINE") (codes "at") ∷ word_rule (codes "FILE") ∷ words_rule (codes "CALL") ∷ [])
 
+-- `shell [FILE]`
+abbrev pub shell_app : App
+shell_app = subcommand_app (codes "shell") (optional_rule (codes "FILE") ∷ [])
+
 -- `raw [--explain] FILE`
 abbrev pub raw_app : App
 raw_app = subcommand_app (codes "raw") (flag_rule (codes "explain") ∷ word_rule (codes "FILE") ∷ [])
 
--- `check [--why] [--all] [--exit-code] JOB [FILE]`
+-- `check [--why] [--all] [--exit-code] [--at LINE] JOB [FILE]`
 abbrev pub check_app : App
 check_app = subcommand_app (codes "check")
-    (flag_rule (codes "why") ∷ flag_rule (codes "all") ∷ flag_rule (codes "exit-code") ∷ word_rule (codes "JOB") ∷ unless_rule (codes "FILE") ∷ [])
+    (flag_rule (codes "why") ∷ flag_rule (codes "all") ∷ flag_rule (codes "exit-code") ∷ option_rule (codes "LINE") (codes "at")
+    ∷ word_rule (codes "JOB") ∷ unless_rule (codes "FILE") ∷ [])
 
 -- `access [--users] [--at LINE] FILE`
 abbrev pub access_app : App
-access_app = subcommand_app (codes "access") (flag_rule (codes "users") ∷ option_rule (codes "LINE") (codes "at") ∷ word_rule (codes "FILE") ∷ [])
+access_app = subcommand_app (codes "access") (flag_rule (codes "users") ∷ option_rule (codes "LINE") (codes "at") ∷ word_rule (codes "FILE")
+    ∷ [])
 
 -- `diff [--more] [--at LINE] OLD NEW`
 abbrev pub diff_app : App
 diff_app = subcommand_app (codes "diff")
     (flag_rule (codes "more") ∷ option_rule (codes "LINE") (codes "at") ∷ word_rule (codes "OLD") ∷ word_rule (codes "NEW") ∷ [])
 
--- `trust [--at LINE] PATH FILE`
+-- `trust [--why] [--at LINE] PATH FILE`
 abbrev pub trust_app : App
-trust_app = subcommand_app (codes "trust") (option_rule (codes "LINE") (codes "at") ∷ word_rule (codes "PATH") ∷ word_rule (codes "FILE") ∷ [])
+trust_app = subcommand_app (codes "trust")
+    (flag_rule (codes "why") ∷ option_rule (codes "LINE") (codes "at") ∷ word_rule (codes "PATH") ∷ word_rule (codes "FILE") ∷ [])
 
 -- `leak [--at LINE] PATH FILE`
 abbrev pub leak_app : App
@@ -96,20 +108,23 @@ abbrev pub attack_app : App
 attack_app = subcommand_app (codes "attack")
     (flag_rule (codes "trace") ∷ flag_rule (codes "follow") ∷ word_rule (codes "JOB") ∷ word_rule (codes "FILE") ∷ [])
 
--- `lint [--raw] FILE..`
+-- `lint [--raw] [--attack] [--policy] [--exit-code] FILE..`
 abbrev pub lint_app : App
-lint_app = subcommand_app (codes "lint") (flag_rule (codes "raw") ∷ words_rule (codes "FILE") ∷ [])
+lint_app = subcommand_app (codes "lint")
+    (flag_rule (codes "raw") ∷ flag_rule (codes "attack") ∷ flag_rule (codes "policy") ∷ flag_rule (codes "exit-code")
+    ∷ words_rule (codes "FILE") ∷ [])
 
 -- `test [--strict] FILE..`
 abbrev pub test_app : App
 test_app = subcommand_app (codes "test") (flag_rule (codes "strict") ∷ words_rule (codes "FILE") ∷ [])
 
--- `report FILE`
+-- `report [--at LINE] FILE`
 abbrev pub report_app : App
-report_app = subcommand_app (codes "report") (word_rule (codes "FILE") ∷ [])
+report_app = subcommand_app (codes "report") (option_rule (codes "LINE") (codes "at") ∷ word_rule (codes "FILE") ∷ [])
 
 -- the program with its subcommands
 abbrev pub histar_app : App
 histar_app = fold with_subcommand named_app
-    (run_app.top ∷ try_app.top ∷ raw_app.top ∷ check_app.top ∷ access_app.top ∷ diff_app.top ∷ trust_app.top ∷ leak_app.top ∷ flows_app.top
+    (run_app.top ∷ try_app.top ∷ shell_app.top ∷ raw_app.top ∷ check_app.top ∷ access_app.top ∷ diff_app.top ∷ trust_app.top
+    ∷ leak_app.top ∷ flows_app.top
     ∷ attack_app.top ∷ lint_app.top ∷ report_app.top ∷ test_app.top ∷ [])

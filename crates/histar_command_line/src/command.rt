@@ -45,6 +45,7 @@ fn arg_of<'a>(alloc: Global, argument: Argument<'a>) -> Result<Arg<'a>, AllocErr
         Argument::Unless(name, flag, help) => Arg::new(alloc, name)
             .help(help)
             .required_unless_present(flag),
+        Argument::Optional(name, help) => Ok(Arg::new(alloc, name).help(help)),
         Argument::Words(name, help) => Ok(
             Arg::new(alloc, name)
                 .required(true)
@@ -118,6 +119,7 @@ pub(crate) fn command<'a>(alloc: Global) -> Result<Command<'a>, AllocError>
     let forms = [
         forms::run(),
         forms::try_calls(),
+        forms::shell(),
         forms::raw(),
         forms::check(),
         forms::access(),

@@ -1,7 +1,7 @@
 //! The forms of the subcommands: their names, their arguments and their help.
 ghost use Rattle.std.specs.Prelude.{◌≡◌};
 ghost use Rattle.histar_command_line.specs.Forms.{form_app, run_app, raw_app, check_app, access_app, diff_app, lint_app};
-ghost use Rattle.histar_command_line.specs.Forms.{attack_app, flows_app, leak_app, report_app, test_app, trust_app, try_app};
+ghost use Rattle.histar_command_line.specs.Forms.{attack_app, flows_app, leak_app, report_app, shell_app, test_app, trust_app, try_app};
 
 /// An argument of a subcommand.
 #[derive(Clone, Copy)]
@@ -12,6 +12,8 @@ pub enum Argument<'a> {
     Word(&'a str, &'a str),
     /// A word that is required unless a flag is given: its name, the name of the flag, and its help.
     Unless(&'a str, &'a str, &'a str),
+    /// A word that may be there: its name, and its help.
+    Optional(&'a str, &'a str),
     /// One or more words: their name, and their help.
     Words(&'a str, &'a str),
     /// A word after a flag: its name, the name of the flag, and its help.
@@ -35,7 +37,7 @@ const SCRIPT: &str = "The script: users, groups, and calls of processes";
 /// The help of the flag that stops a run before a line.
 const AT: &str = "Stop before the call on this line";
 
-/// Returns `run [--tree] [--trace] [--why] [--explain] [--calls] FILE`.
+/// Returns `run [--tree] [--trace] [--why] [--explain] [--calls] [--at LINE] FILE`.
 pub(crate) fn run<'a>() -> Form<'a>
     ensures { form_app result ≡ run_app }
 {
@@ -56,6 +58,7 @@ pub(crate) fn run<'a>() -> Form<'a>
             ),
             Argument::Flag("explain", "Print why each denied raw call was denied"),
             Argument::Flag("calls", "Print each reply behind its call"),
+            Argument::Valued("LINE", "at", AT),
             Argument::Word("FILE", SCRIPT),
         ],
     }
@@ -90,6 +93,26 @@ prints
     }
 }
 
+/// Returns `shell [FILE]`.
+pub(crate) fn shell<'a>() -> Form<'a>
+    ensures { form_app result ≡ shell_app }
+{
+    Form {
+        name: "shell",
+        about: "Read lines of a script from standard input, and answer each before the next is read",
+        after_help: "A right line is added to the session, and a call is answered as `run --why` answers it. A bad line is answered with
+the sentence of `lint`, and is not added. The lines of FILE are the first. `:help` lists the commands.
+
+Example:
+  histar shell examples/scan.histar
+prints, among others, the lines
+  20 EACCES
+  !20 EACCES: 0.2 (bob) may not read /tmp/scan: it is scratch, of alice
+and then answers each line that it reads",
+        arguments: &[Argument::Optional("FILE", SCRIPT)],
+    }
+}
+
 /// Returns `raw [--explain] FILE`.
 pub(crate) fn raw<'a>() -> Form<'a>
     ensures { form_app result ≡ raw_app }
@@ -106,7 +129,7 @@ pub(crate) fn raw<'a>() -> Form<'a>
     }
 }
 
-/// Returns `check [--why] [--all] [--exit-code] JOB [FILE]`.
+/// Returns `check [--why] [--all] [--exit-code] [--at LINE] JOB [FILE]`.
 pub(crate) fn check<'a>() -> Form<'a>
     ensures { form_app result ≡ check_app }
 {
@@ -139,6 +162,7 @@ Exit status: 0; with --exit-code it is 5 for anything but same",
                 "Leave out each job that the script starts, one after another",
             ),
             Argument::Flag("exit-code", "End with status 5 unless the answer is `same`"),
+            Argument::Valued("LINE", "at", AT),
             Argument::Word(
                 "JOB",
                 "The job: the name of its first process; with --all the script",
@@ -209,7 +233,7 @@ With --more nothing is printed where the new script permits no more than the old
     }
 }
 
-/// Returns `trust [--at LINE] PATH FILE`.
+/// Returns `trust [--why] [--at LINE] PATH FILE`.
 pub(crate) fn trust<'a>() -> Form<'a>
     ensures { form_app result ≡ trust_app }
 {
@@ -231,8 +255,15 @@ that it has started since.
 Example:
   histar trust --at 21 /tmp/letters examples/scan.histar
 prints, among others, the line
-  confined 0.1.1 alice",
+  confined 0.1.1 alice
+
+With --why the line of a changer ends with ` by` and the first path on the way that it may write, and the line
+of a confined process with ` by job` and the job that confines it.",
         arguments: &[
+            Argument::Flag(
+                "why",
+                "Print by which path each changes, and by which job each is confined",
+            ),
             Argument::Valued("LINE", "at", AT),
             Argument::Word("PATH", "The path of a file or a directory"),
             Argument::Word("FILE", SCRIPT),
@@ -319,7 +350,7 @@ prints, among others, the lines
     }
 }
 
-/// Returns `lint [--raw] FILE..`.
+/// Returns `lint [--raw] [--attack] [--policy] [--exit-code] FILE..`.
 pub(crate) fn lint<'a>() -> Form<'a>
     ensures { form_app result ≡ lint_app }
 {
@@ -328,7 +359,10 @@ pub(crate) fn lint<'a>() -> Form<'a>
         about: "Print why scripts are bad: the first bad line of each, and the rule that it breaks",
         after_help: "Nothing is printed of a right script. Of a bad one it is FILE, the number of its first bad line, and a sentence.
 
-Exit status: 0 where all scripts are right, 1 where one is bad
+With --policy a right script has a line for each call of a process that was never started, each wrong password, and
+each job that is never used.
+
+Exit status: 0 where all scripts are right, 1 where one is bad; with --exit-code 5 where --policy printed a line
 
 Example:
   histar lint examples/lint/no_mode.histar
@@ -336,12 +370,24 @@ prints
   examples/lint/no_mode.histar:4: the call is `PROC create PATH MODE`",
         arguments: &[
             Argument::Flag("raw", "FILE is a session of raw calls"),
+            Argument::Flag(
+                "attack",
+                "FILE is a script with raw calls between its lines, as `attack` reads it",
+            ),
+            Argument::Flag(
+                "policy",
+                "FILE is a script: print what is odd in a right one, too",
+            ),
+            Argument::Flag(
+                "exit-code",
+                "End with status 5 where --policy prints something",
+            ),
             Argument::Words("FILE", "The scripts, or the sessions of raw calls"),
         ],
     }
 }
 
-/// Returns `report FILE`.
+/// Returns `report [--at LINE] FILE`.
 pub(crate) fn report<'a>() -> Form<'a>
     ensures { form_app result ≡ report_app }
 {
@@ -350,7 +396,10 @@ pub(crate) fn report<'a>() -> Form<'a>
         about: "Run a script and print the session as one HTML page",
         after_help: "Example:
   histar report examples/scan.histar > scan.html",
-        arguments: &[Argument::Word("FILE", SCRIPT)],
+        arguments: &[
+            Argument::Valued("LINE", "at", AT),
+            Argument::Word("FILE", SCRIPT),
+        ],
     }
 }
 

@@ -2,7 +2,7 @@
 ghost use Rattle.std.specs.Prelude.{◌≡◌, IfOk, IfSome, map};
 ghost use Rattle.clap.specs.Words.{app_of, first_value, found_of, rows_of, subcommand_of, subcommand_rows_of};
 ghost use Rattle.histar_command_line.specs.Forms.{histar_app};
-ghost use Rattle.histar_command_line.specs.Tasks.{IsCheckOf, IsTaskOf, is_given};
+ghost use Rattle.histar_command_line.specs.Tasks.{IsCheckOf, IsTaskOf, is_given, lint_kind};
 
 use crate::command::command;
 use clap::error::ErrorKind;
@@ -31,6 +31,19 @@ pub struct CheckFlags {
     pub exit_code: bool,
 }
 
+/// What kind of file is linted.
+#[derive(Clone, Copy)]
+pub enum LintKind {
+    /// A script.
+    Script,
+    /// A session of raw calls.
+    Raw,
+    /// A script with raw calls between its lines.
+    Attack,
+    /// A script, of which a right one may have warnings.
+    Policy,
+}
+
 /// What an attack prints besides what becomes of its lines, and which lines it makes.
 #[derive(Clone, Copy)]
 pub struct AttackFlags {
@@ -42,17 +55,22 @@ pub struct AttackFlags {
 /// What the program is to do: the subcommand with its words and its flags.
 #[derive(Drop)]
 pub enum Task<'a> {
-    /// Run the script in this file, and print what is asked for beside the replies.
-    Run(&'a str, RunFlags),
+    /// Run the script in this file, or its lines before the one of this number, and print what is asked for
+    /// beside the replies.
+    Run(&'a str, RunFlags, Option<&'a str>),
     /// Run the script in this file, make these calls behind it, or before the line of this number, and print
     /// their replies.
     Try(&'a str, Vec<&'a str>, Option<&'a str>),
+    /// Answer lines of standard input, one after another, behind those of the script in this file, if there is one.
+    Shell(Option<&'a str>),
     /// Run the raw session in this file, and explain why calls were denied, if that is asked for.
     Raw(&'a str, bool),
-    /// Compare the script in a file with the one without a job: first the job, then the file.
-    Check(&'a str, &'a str, CheckFlags),
-    /// Compare the script in this file with the ones without each of the jobs that it starts.
-    CheckAll(&'a str, CheckFlags),
+    /// Compare the script in a file with the one without a job, or the lines of both before the one of this
+    /// number: first the job, then the file.
+    Check(&'a str, &'a str, CheckFlags, Option<&'a str>),
+    /// Compare the script in this file with the ones without each of the jobs that it starts, or the lines of all
+    /// before the one of this number.
+    CheckAll(&'a str, CheckFlags, Option<&'a str>),
     /// Print which process may do what after the script in this file, or before the line of this number; or
     /// which user, if that is asked for.
     Access(&'a str, Option<&'a str>, bool),
@@ -60,8 +78,8 @@ pub enum Task<'a> {
     /// both; or only where the new one gives more.
     Diff(&'a str, &'a str, Option<&'a str>, bool),
     /// Print which processes have to be trusted with a path after a script, or before the line of this
-    /// number: first the path, then the file.
-    Trust(&'a str, &'a str, Option<&'a str>),
+    /// number: first the path, then the file; and why, if that is asked for.
+    Trust(&'a str, &'a str, Option<&'a str>, bool),
     /// Print the calls by which processes leak or change what is at a path after a script, or before the line
     /// of this number: first the path, then the file.
     Leak(&'a str, &'a str, Option<&'a str>),
@@ -70,10 +88,10 @@ pub enum Task<'a> {
     Flows(&'a str, Option<&'a str>),
     /// Run a script in which threads of a job make raw calls: first the job, then the file.
     Attack(&'a str, &'a str, AttackFlags),
-    /// Print why the scripts in these files are bad, if they are; or the same of the raw sessions in them.
-    Lint(Vec<&'a str>, bool),
-    /// Print the session of the script in this file as a page.
-    Report(&'a str),
+    /// Print why the files of this kind are bad, if they are; whether the status says that there were warnings.
+    Lint(Vec<&'a str>, LintKind, bool),
+    /// Print the session of the script in this file as a page, or that of its lines before the one of this number.
+    Report(&'a str, Option<&'a str>),
     /// Compare the replies to the scripts in these files with those that they expect, and miss what nothing is
     /// expected of and is refused, if that is asked for.
     Test(Vec<&'a str>, bool),
@@ -100,6 +118,7 @@ fn task_of<'a>(matches: &ArgMatches<'a>) -> Option<Task<'a>>
         let why = is_set(run, "why");
         let explain = is_set(run, "explain");
         let calls = is_set(run, "calls");
+        let at = run.get_str("LINE");
         if why && explain {
             return None;
         }
@@ -110,7 +129,7 @@ fn task_of<'a>(matches: &ArgMatches<'a>) -> Option<Task<'a>>
             explain,
             calls,
         };
-        return Some(Task::Run(file, flags));
+        return Some(Task::Run(file, flags, at));
     }
     if let Some(raw) = matches.subcommand_matches("raw") {
         let file = raw.get_str("FILE")?;
@@ -131,9 +150,10 @@ fn check_task_of<'a>(check: &ArgMatches<'a>) -> Option<Task<'a>>
     let why = is_set(check, "why");
     let exit_code = is_set(check, "exit-code");
     let flags = CheckFlags { why, exit_code };
+    let at = check.get_str("LINE");
     match (is_set(check, "all"), check.get_str("FILE")) {
-        (true, None) => Some(Task::CheckAll(word, flags)),
-        (false, Some(file)) => Some(Task::Check(word, file, flags)),
+        (true, None) => Some(Task::CheckAll(word, flags, at)),
+        (false, Some(file)) => Some(Task::Check(word, file, flags, at)),
         _ => None,
     }
 }
@@ -166,7 +186,8 @@ fn secret_task_of<'a>(matches: &ArgMatches<'a>) -> Option<Task<'a>>
         let path = trust.get_str("PATH")?;
         let file = trust.get_str("FILE")?;
         let at = trust.get_str("LINE");
-        return Some(Task::Trust(path, file, at));
+        let why = is_set(trust, "why");
+        return Some(Task::Trust(path, file, at, why));
     }
     if let Some(leak) = matches.subcommand_matches("leak") {
         let path = leak.get_str("PATH")?;
@@ -182,7 +203,7 @@ fn secret_task_of<'a>(matches: &ArgMatches<'a>) -> Option<Task<'a>>
     session_task_of(matches)
 }
 
-/// Returns the task of a matched subcommand that attacks or shows a whole session.
+/// Returns the task of a matched subcommand that attacks, or answers or shows a whole session.
 fn session_task_of<'a>(matches: &ArgMatches<'a>) -> Option<Task<'a>>
     ensures { IfSome result (λ task. IsTaskOf task (subcommand_rows_of matches.now)) }
 {
@@ -193,9 +214,13 @@ fn session_task_of<'a>(matches: &ArgMatches<'a>) -> Option<Task<'a>>
         let follow = is_set(attack, "follow");
         return Some(Task::Attack(job, file, AttackFlags { trace, follow }));
     }
+    if let Some(shell) = matches.subcommand_matches("shell") {
+        return Some(Task::Shell(shell.get_str("FILE")));
+    }
     let report = matches.subcommand_matches("report")?;
     let file = report.get_str("FILE")?;
-    Some(Task::Report(file))
+    let at = report.get_str("LINE");
+    Some(Task::Report(file, at))
 }
 
 /// Returns the task of `lint`, if it was matched.
@@ -209,8 +234,27 @@ fn lint_task_of<'a>(alloc: Global, matches: &ArgMatches<'a>) -> Result<Option<Ta
         return Ok(None);
     };
     let raw = is_set(lint, "raw");
+    let attack = is_set(lint, "attack");
+    let policy = is_set(lint, "policy");
+    let Some(kind) = lint_kind(raw, attack, policy) else {
+        return Ok(None);
+    };
+    let exit_code = is_set(lint, "exit-code");
     let files = Vec::from_slice(alloc, files)?;
-    Ok(Some(Task::Lint(files, raw)))
+    Ok(Some(Task::Lint(files, kind, exit_code)))
+}
+
+/// Returns which kind of file these flags of `lint` name, if they don't name two.
+fn lint_kind(raw: bool, attack: bool, policy: bool) -> Option<LintKind>
+    ensures { result ≡ lint_kind raw attack policy }
+{
+    match (raw, attack, policy) {
+        (false, false, false) => Some(LintKind::Script),
+        (true, false, false) => Some(LintKind::Raw),
+        (false, true, false) => Some(LintKind::Attack),
+        (false, false, true) => Some(LintKind::Policy),
+        _ => None,
+    }
 }
 
 /// Returns the task of `test`, if it was matched.

@@ -4,8 +4,8 @@ pub mod SpacesRight
 pub mod BytesKept
 pub mod ArgumentsRight
 mod CallsRight
-mod LinesRight
-mod BrokenRules
+pub mod LinesRight
+pub mod BrokenRules
 mod LinesBefore
 mod Steps
 pub mod Sayings

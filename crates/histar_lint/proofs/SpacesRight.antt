@@ -24,7 +24,7 @@ ends_step b c d text =
     ∙ ap (λ n. option_map_or (λ e. e == b) (slice_get (d ∷ text) n) false) fewer
 
 -- a text ends like the text at its end
-ends_append : (b : ℕ) (text : List ℕ) (d : ℕ) (rest : List ℕ) → ends_with b (text ++ d ∷ rest) ≡ ends_with b (d ∷ rest)
+pub ends_append : (b : ℕ) (text : List ℕ) (d : ℕ) (rest : List ℕ) → ends_with b (text ++ d ∷ rest) ≡ ends_with b (d ∷ rest)
 ends_append b [] d rest = refl
 ends_append b (c ∷ []) d rest = ends_step b c d rest
 ends_append b (c ∷ e ∷ text) d rest = ends_step b c e (text ++ d ∷ rest) ∙ ends_append b (e ∷ text) d rest

@@ -65,12 +65,15 @@ unprintable_text found = codes "byte " ++ hex_text found.1 ++ codes " at column 
 abbrev pub long_text : List ℕ → List ℕ
 long_text line = codes "the line has " ++ decimal (length line) ++ codes " bytes, and 1024 is the most"
 
+-- The rules that the bytes of a line are printable.
+abbrev pub printable_rules : List ℕ → List Rule
+printable_rules line =
+    (ends_with 13 line, codes "the line ends with a carriage return (0x0d)")
+    ∷ (is_some (unprintable_from 1 line), option_map_or unprintable_text (unprintable_from 1 line) []) ∷ []
+
 -- The rules for the bytes of a line.
 abbrev pub byte_rules : List ℕ → List Rule
-byte_rules line =
-    (nat_lt most_line_bytes (length line), long_text line)
-    ∷ (ends_with 13 line, codes "the line ends with a carriage return (0x0d)")
-    ∷ (is_some (unprintable_from 1 line), option_map_or unprintable_text (unprintable_from 1 line) []) ∷ []
+byte_rules line = (nat_lt most_line_bytes (length line), long_text line) ∷ printable_rules line
 
 -- The rules for the spaces of a line. They are not for its free part, if it ends in one.
 abbrev pub space_rules : List ℕ → Option (List ℕ) → List Rule

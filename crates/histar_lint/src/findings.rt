@@ -19,7 +19,7 @@ use histar_script::split_word;
 use std::alloc::{AllocError, Global};
 
 /// Copies a sentence, if there is one.
-fn copied(alloc: Global, said: Option<&str>) -> Result<Option<Vec<u8>>, AllocError>
+pub fn copied(alloc: Global, said: Option<&str>) -> Result<Option<Vec<u8>>, AllocError>
     ensures { IfOk result (λ copy. option_map (λ text. text.items) copy ≡ option_copied said.entry) }
 {
     match said {
@@ -149,7 +149,7 @@ fn said_sentence(
 
 /// Returns the sentence of the first rule that a line of a text breaks, given the accounts and calls of the
 /// lines above it.
-pub(crate) fn sentence(
+pub fn sentence(
     alloc: Global,
     text: &[u8],
     accounts: &Accounts,

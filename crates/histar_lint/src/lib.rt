@@ -1,7 +1,7 @@
 //! Why a script is bad: its first bad line, with the sentence of the first rule that the line breaks.
 //!
 //! `specs/Rules.antt` has the rules in their order. [`lint_laws`] says what they guarantee. The rules of
-//! [`line_rules`] are for lines of raw sessions too.
+//! [`line_rules`] are for lines of raw and of mixed sessions too.
 #![tactic(auto)]
 
 mod call_rules;
@@ -14,4 +14,5 @@ mod shapes;
 pub mod texts;
 mod word_rules;
 
-pub use session::{lint, sentence_on};
+pub use findings::{copied, sentence};
+pub use session::{finding, lint, sentence_on, take_line};

@@ -2,7 +2,7 @@
 ghost use Rattle.std.specs.Prelude.{◌≡◌, ◌==◌, ◌&&◌, IfOk, is_none, option_map};
 ghost use Rattle.std.specs.Option.{option_copied};
 ghost use Rattle.histar_lint.specs.Lines.{before_free, begins_with, byte_rules, ends_with, first_sentence, has_after_space};
-ghost use Rattle.histar_lint.specs.Lines.{long_text, rest_of, space_rules, unprintable_from, unprintable_text};
+ghost use Rattle.histar_lint.specs.Lines.{long_text, printable_rules, rest_of, space_rules, unprintable_from, unprintable_text};
 
 use crate::texts::{push_hex, push_number};
 use histar_script::split_word;
@@ -110,14 +110,11 @@ fn unprintable_text(alloc: Global, column: usize, byte: u8) -> Result<Vec<u8>, A
     Ok(said)
 }
 
-/// Returns the sentence of the first rule for bytes that a line breaks.
-pub fn byte_sentence(alloc: Global, line: &[u8]) -> Result<Option<Vec<u8>>, AllocError>
+/// Returns the sentence of the first rule for printable bytes that a line breaks.
+pub fn printable_sentence(alloc: Global, line: &[u8]) -> Result<Option<Vec<u8>>, AllocError>
     ensures { IfOk result (λ said. option_map (λ text. text.items) said
-        ≡ first_sentence (byte_rules line.now)) }
+        ≡ first_sentence (printable_rules line.now)) }
 {
-    if line.len() > MOST_LINE_BYTES {
-        return Ok(Some(long_text(alloc, line)?));
-    }
     if ends_with(line, b'\r') {
         let said = Vec::from_slice(
             alloc,
@@ -129,6 +126,17 @@ pub fn byte_sentence(alloc: Global, line: &[u8]) -> Result<Option<Vec<u8>>, Allo
         None => Ok(None),
         Some((column, byte)) => Ok(Some(unprintable_text(alloc, column, byte)?)),
     }
+}
+
+/// Returns the sentence of the first rule for bytes that a line breaks.
+pub fn byte_sentence(alloc: Global, line: &[u8]) -> Result<Option<Vec<u8>>, AllocError>
+    ensures { IfOk result (λ said. option_map (λ text. text.items) said
+        ≡ first_sentence (byte_rules line.now)) }
+{
+    if line.len() > MOST_LINE_BYTES {
+        return Ok(Some(long_text(alloc, line)?));
+    }
+    printable_sentence(alloc, line)
 }
 
 /// Returns the sentence of the first rule for spaces that a line breaks, given the free part in which it may

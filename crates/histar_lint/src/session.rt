@@ -97,7 +97,7 @@ fn write_finding<W: Sink>(
 }
 
 /// Returns the line that is written for a bad script.
-fn finding(alloc: Global, file: &[u8], line: u32, said: &[u8]) -> Result<Vec<u8>, AllocError>
+pub fn finding(alloc: Global, file: &[u8], line: u32, said: &[u8]) -> Result<Vec<u8>, AllocError>
     ensures { IfOk result (λ text. text.items ≡ finding_text file.now line said.now) }
 {
     let mut text = Vec::from_slice(alloc, file)?;
@@ -110,7 +110,7 @@ fn finding(alloc: Global, file: &[u8], line: u32, said: &[u8]) -> Result<Vec<u8>
 }
 
 /// Adds a line that is right to the script.
-fn take_line(alloc: Global, script: &mut Script, number: u32, line: &[u8]) -> Result<(), Fault>
+pub fn take_line(alloc: Global, script: &mut Script, number: u32, line: &[u8]) -> Result<(), Fault>
     requires { is_some (with_line script.old number line.now) ≡ true }
     ensures ok { OnOk result (with_line script.old number line.now ≡ Some script.new) }
     ensures err { IfErr result IsMemory }

@@ -1,12 +1,12 @@
 -- The lemmas of this crate.
 mod Steps
-mod Parts
+pub mod Parts
 mod NumbersKept
 mod LabelsKept
 mod ValuesKept
 mod CallsKept
-mod BrokenRules
+pub mod BrokenRules
 mod ValuesRight
 mod CallsRight
-mod LinesRight
+pub mod LinesRight
 mod FirstBadLine

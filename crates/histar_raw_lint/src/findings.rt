@@ -22,7 +22,7 @@ fn copied(alloc: Global, said: Option<&str>) -> Result<Option<Vec<u8>>, AllocErr
 }
 
 /// Returns the sentence of the first rule that the thread of a line or its call breaks.
-fn thread_call_sentence(alloc: Global, line: &[u8]) -> Result<Option<Vec<u8>>, AllocError>
+pub fn thread_call_sentence(alloc: Global, line: &[u8]) -> Result<Option<Vec<u8>>, AllocError>
     ensures { IfOk result (λ said. option_map (λ text. text.items) said
         ≡ first_sentence (thread_rules (word_of line.now) ++ call_rules (rest_of line.now))) }
 {

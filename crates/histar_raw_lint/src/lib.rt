@@ -14,4 +14,5 @@ mod session;
 mod texts;
 mod values;
 
+pub use findings::thread_call_sentence;
 pub use session::lint_raw;

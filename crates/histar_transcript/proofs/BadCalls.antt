@@ -1,7 +1,7 @@
 -- The first bad line behind the lines of a script is none of these.
-use Rattle.std.proofs.Common.{◌≡◌, ℕ, zero, suc, ◌+◌, ◌-◌, ◌<◌, ◌≤◌, Bool, true, false, not, eqb}
+use Rattle.std.proofs.Common.{◌≡◌, ℕ, zero, suc, ◌+◌, ◌-◌, ◌≤◌, Bool, true, false, not, eqb}
 use Rattle.std.proofs.Common.{List, [], ◌∷◌, ◌++◌, length, take, Option, None, Some, Ok, Err}
-use Rattle.std.proofs.Common.{refl, sym, ap, ◌∙◌, subst, inl, inr, arith, append_assoc, length-append}
+use Rattle.std.proofs.Common.{refl, sym, ap, ◌∙◌, inl, inr, arith, append_assoc, length-append}
 use Rattle.std.specs.List.{AllByRecursion, list_all}
 use Rattle.std.specs.Prelude.{if◌then◌else◌}
 use Rattle.std.proofs.lemmas.List.{length-take-le}
@@ -18,11 +18,11 @@ use Rattle.histar_transcript.specs.Extended.{ended_lines, extended_text, kept_li
 use Rattle.histar_transcript.specs.TryLaws.{AddedLinesAreBad}
 
 -- the bytes have no line end
-abbrev IsOneLine : List ℕ → Type 0
+abbrev pub IsOneLine : List ℕ → Type 0
 IsOneLine line = list_all (λ b. not (eqb b 10)) line ≡ true
 
 -- the first lines of a script have no line end
-one_lines : (k : ℕ) (s : ScriptModel) (n : ℕ) (lines : List (List ℕ)) (t : ScriptModel) → TakesLines s n lines t
+pub one_lines : (k : ℕ) (s : ScriptModel) (n : ℕ) (lines : List (List ℕ)) (t : ScriptModel) → TakesLines s n lines t
     → AllByRecursion IsOneLine (take k lines)
 one_lines zero s n lines t takes = tt
 one_lines (suc k) s n [] t takes = tt
@@ -34,7 +34,8 @@ no_line : (rest : List ℕ) → lines_of (ended_lines [] ++ rest) ≡ [] ++ line
 no_line rest = refl
 
 -- lines that end are the lines of their text
-lines_back : (lines : List (List ℕ)) (rest : List ℕ) → AllByRecursion IsOneLine lines → lines_of (ended_lines lines ++ rest) ≡ lines ++ lines_of rest
+pub lines_back : (lines : List (List ℕ)) (rest : List ℕ) → AllByRecursion IsOneLine lines
+    → lines_of (ended_lines lines ++ rest) ≡ lines ++ lines_of rest
 lines_back [] rest each = no_line rest
 lines_back (line ∷ lines) rest each =
     ap lines_of (simp append_assoc) ∙ line_back line (ended_lines lines ++ rest) each.0
@@ -49,7 +50,7 @@ first_kept (suc n) (suc k) (line ∷ lines) rest less within =
     ap (λ (ls : List (List ℕ)). line ∷ ls) (first_kept n k lines rest (omega arith) (omega arith))
 
 -- as many are taken as there are, at most
-few_taken : (n : ℕ) (lines : List (List ℕ)) → length (take n lines) ≤ length lines
+pub few_taken : (n : ℕ) (lines : List (List ℕ)) → length (take n lines) ≤ length lines
 few_taken zero lines = omega arith
 few_taken (suc n) [] = omega arith
 few_taken (suc n) (line ∷ lines) = let few = few_taken n lines in omega arith
@@ -59,7 +60,7 @@ few_kept None lines = omega arith
 few_kept (Some first) lines = few_taken (first - 1) lines
 
 -- a text that is not too long is read
-read_so : (text : List ℕ) (s : ScriptModel) → script_of text ≡ Ok s → reading text ≡ Ok s
+pub read_so : (text : List ℕ) (s : ScriptModel) → script_of text ≡ Ok s → reading text ≡ Ok s
 read_so text s is = by (is_too_long text) is
   where
     by : (t : Bool) → (if t then Err TooLong else reading text) ≡ Ok s → reading text ≡ Ok s

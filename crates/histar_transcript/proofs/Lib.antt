@@ -3,3 +3,4 @@ pub mod Replies
 pub mod Outputs
 pub mod Trying
 pub mod BadCalls
+pub mod CutScripts

@@ -4,11 +4,7 @@ use Rattle.std.proofs.Common.{inl, refl, sym, ap, ◌∙◌, subst, append_assoc
 use Rattle.std.specs.Io.KnownBytes.{Keeps}
 use Rattle.std.proofs.lemmas.Grind.{flat_map-append}
 use Rattle.histar_flat.specs.declared.calls.CallLine.{CallLine}
-use Rattle.histar_flat.specs.declared.calls.UnixCall.{UnixCall}
 use Rattle.histar_flat.specs.declared.replies.Reply.{Reply}
-use Rattle.histar_flat.specs.Words.{ProcName}
-use Rattle.histar_flat.specs.Accounts.{Accounts}
-use Rattle.histar_flat.specs.FlatState.{Flat}
 use Rattle.histar_flat.specs.FlatCalls.{reply_to}
 use Rattle.histar_flat.specs.Meaning.{RepliedCall, answered_from, flat_end}
 use Rattle.histar_flat.proofs.Laws.{replies_go_on, states_go_on}

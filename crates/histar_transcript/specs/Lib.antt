@@ -2,6 +2,7 @@
 pub mod Transcript
 pub mod Session
 pub mod Extended
+pub mod Front
 pub mod Tried
 pub mod TrySession
 pub mod TryLaws

@@ -1,5 +1,5 @@
 -- The output of a run with each reply after its call, and behind it why it was refused.
-use Rattle.std.specs.Prelude.{ℕ, Bool, true, false, ◌==◌, if◌then◌else◌, List, [], ◌∷◌, ◌++◌, codes}
+use Rattle.std.specs.Prelude.{ℕ, Bool, false, ◌==◌, if◌then◌else◌, List, [], ◌∷◌, ◌++◌, codes}
 use Rattle.std.specs.List.{filter}
 use Rattle.histar_base.specs.Paths.{same}
 use Rattle.histar_script.specs.Lines.{lines_of, split_word}

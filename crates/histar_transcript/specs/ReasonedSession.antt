@@ -1,13 +1,11 @@
 -- A run with reasons that is printed with its calls, from bytes to bytes.
 use Rattle.std.specs.Prelude.{◌≡◌, ℕ, List, [], Option, Some, Result, Ok, Err}
-use Rattle.std.specs.Global.{Vec}
 use Rattle.std.specs.Io.KnownBytes.{Appends, Keeps}
 use Rattle.histar_io.specs.Writing.{AppendsFront}
 use Rattle.histar_script.specs.declared.fault.Fault.{Fault}
 use Rattle.histar_script.specs.declared.fault.Fault.TheVariants.{BadScript, TooLong, OutOfMemory, ReadFailed, WriteFailed}
 use Rattle.histar_script.specs.Reading.{script_of}
 use Rattle.histar_shell.specs.declared.session.Options.{Options}
-use Rattle.histar_run_explain.specs.Output.{GivesText}
 use Rattle.histar_why.specs.Run.{RunsWithReasons}
 use Rattle.histar_transcript.specs.Reasoned.{reasoned_transcript}
 

@@ -2,6 +2,7 @@
 #![tactic(auto)]
 
 mod extended;
+mod front;
 mod reasoned;
 mod reasoned_session;
 mod session;
@@ -10,6 +11,7 @@ mod tried;
 pub mod try_laws;
 mod try_session;
 
+pub use front::front_before;
 pub use reasoned_session::transcribe_with_reasons;
 pub use session::transcribe;
 pub use try_session::{Tried, try_calls};

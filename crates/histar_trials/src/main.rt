@@ -25,6 +25,7 @@ use std::process::ExitCode;
 fn run_trial(alloc: Global, trial: &Trial<'_>) -> Result<Vec<u8>, Fault> {
     match trial.kind {
         Kind::Run(options) => script::replies(alloc, trial.body, options),
+        Kind::RunAt(at) => questions::run_before(alloc, trial.body, at),
         Kind::Explain(options) => questions::explained(alloc, trial.body, options),
         Kind::Why(options) => questions::with_reasons(alloc, trial.body, options),
         Kind::Calls(options) => questions::with_calls(alloc, trial.body, options),
@@ -35,12 +36,13 @@ fn run_trial(alloc: Global, trial: &Trial<'_>) -> Result<Vec<u8>, Fault> {
         Kind::Access(at) => questions::rights(alloc, trial.body, at),
         Kind::AccessUsers(at) => questions::user_rights(alloc, trial.body, at),
         Kind::Diff(options) => questions::changes(alloc, trial.body, options),
-        Kind::Trust(path, at) => questions::trusted(alloc, trial.body, &path, at),
+        Kind::Trust(path, options) => questions::trusted(alloc, trial.body, &path, options),
         Kind::Leak(path, at) => questions::leaks(alloc, trial.body, &path, at),
         Kind::Flows(at) => questions::flowing(alloc, trial.body, at),
         Kind::Try(at) => questions::tried(alloc, trial.body, at),
         Kind::Attack(job, options) => questions::attacked(alloc, trial.body, &job, options),
         Kind::File(kind) => questions::of_file(alloc, kind, trial.title, trial.body),
+        Kind::Shell => questions::conversation(alloc, trial.body),
         Kind::Raw => raw::answers(alloc, trial.body),
         Kind::ExplainRaw => raw::explained(alloc, trial.body),
     }

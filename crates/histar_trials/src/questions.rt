@@ -3,18 +3,21 @@ use crate::script::with_fault;
 use crate::trial::FileKind;
 use histar_access::{DiffOptions, access, access_users, diff};
 use histar_attack::{AttackOptions, attack};
+use histar_attack_lint::lint_attack;
 use histar_comparison::{compare_all, explain_comparison};
+use histar_dialogue::converse;
 use histar_flat::{Path, ProcName, split_at_first};
 use histar_leak::leak;
 use histar_lint::lint;
+use histar_policy::lint_policy;
 use histar_raw_lint::lint_raw;
 use histar_report::report;
 use histar_run_explain::explain_script;
 use histar_script::Fault;
-use histar_shell::{Counted, Options};
+use histar_shell::{Counted, Options, run};
 use histar_test::{TestFile, test};
-use histar_transcript::{Tried, transcribe, transcribe_with_reasons, try_calls};
-use histar_trust::{flows, trust};
+use histar_transcript::{Tried, front_before, transcribe, transcribe_with_reasons, try_calls};
+use histar_trust::{TrustOptions, flows, trust};
 use histar_why::run_with_reasons;
 use memchr::memmem;
 use std::alloc::Global;
@@ -108,11 +111,11 @@ pub fn trusted(
     alloc: Global,
     script: &[u8],
     path: &Path,
-    at: Option<u32>,
+    options: TrustOptions,
 ) -> Result<Vec<u8>, Fault> {
     let mut reader = Counted::new(script);
     let mut writer = Counted::new(Vec::new(alloc));
-    let done = trust(alloc, path, &mut reader, &mut writer, at);
+    let done = trust(alloc, path, &mut reader, &mut writer, options);
     with_fault(alloc, done, writer.into_inner())
 }
 
@@ -132,6 +135,24 @@ pub fn flowing(alloc: Global, script: &[u8], at: Option<u32>) -> Result<Vec<u8>,
     with_fault(alloc, done, writer.into_inner())
 }
 
+/// Returns what a script writes of its calls before a line.
+pub fn run_before(alloc: Global, script: &[u8], at: Option<u32>) -> Result<Vec<u8>, Fault> {
+    let line = at.ok_or(Fault::BadScript(0))?;
+    let front = front_before(alloc, script, line)?;
+    let mut writer = Counted::new(Vec::new(alloc));
+    let options = Options {
+        tree: false,
+        trace: false,
+    };
+    let done = run(
+        alloc,
+        &mut Counted::new(front.as_slice()),
+        &mut writer,
+        options,
+    );
+    with_fault(alloc, done.map(|_| ()), writer.into_inner())
+}
+
 /// Returns the replies to calls that are made behind a script, or before a line of it, or what is wrong with
 /// one. The calls are before the script.
 pub fn tried(alloc: Global, text: &[u8], at: Option<u32>) -> Result<Vec<u8>, Fault> {
@@ -143,6 +164,18 @@ pub fn tried(alloc: Global, text: &[u8], at: Option<u32>) -> Result<Vec<u8>, Fau
         Ok(Tried::BadCall(number, sentence)) => refused(alloc, number, sentence.as_slice()),
         done => with_fault(alloc, done.map(|_| ()), writer.into_inner()),
     }
+}
+
+/// Returns the answers to lines, which come one after another, perhaps behind a script that is before them.
+pub fn conversation(alloc: Global, text: &[u8]) -> Result<Vec<u8>, Fault> {
+    let (first, lines) = match split_scripts(text) {
+        Some((first, lines)) => (Some(first), lines),
+        None => (None, text),
+    };
+    let mut reader = Counted::new(lines);
+    let mut writer = Counted::new(Vec::new(alloc));
+    let done = converse(alloc, first, &mut reader, &mut writer, false);
+    with_fault(alloc, done, writer.into_inner())
 }
 
 /// Returns what becomes of the calls of a script in which threads of a job make raw calls.
@@ -174,6 +207,8 @@ pub fn of_file(alloc: Global, kind: FileKind, title: &[u8], text: &[u8]) -> Resu
     match kind {
         FileKind::Lint => sentence(alloc, name, text),
         FileKind::LintRaw => raw_sentence(alloc, name, text),
+        FileKind::LintAttack => mixed_sentence(alloc, name, text),
+        FileKind::LintPolicy => warnings(alloc, name, text),
         FileKind::Report => page(alloc, name, text),
         FileKind::Test => results(alloc, name, text, false),
         FileKind::StrictTest => results(alloc, name, text, true),
@@ -193,6 +228,22 @@ fn raw_sentence(alloc: Global, name: &[u8], session: &[u8]) -> Result<Vec<u8>, F
     let mut reader = Counted::new(session);
     let mut writer = Counted::new(Vec::new(alloc));
     let done = lint_raw(alloc, name, &mut reader, &mut writer);
+    with_fault(alloc, done.map(|_| ()), writer.into_inner())
+}
+
+/// Returns the sentence on the first bad line of a script with raw calls between its lines.
+fn mixed_sentence(alloc: Global, name: &[u8], session: &[u8]) -> Result<Vec<u8>, Fault> {
+    let mut reader = Counted::new(session);
+    let mut writer = Counted::new(Vec::new(alloc));
+    let done = lint_attack(alloc, name, &mut reader, &mut writer);
+    with_fault(alloc, done.map(|_| ()), writer.into_inner())
+}
+
+/// Returns the warnings on a script.
+fn warnings(alloc: Global, name: &[u8], script: &[u8]) -> Result<Vec<u8>, Fault> {
+    let mut reader = Counted::new(script);
+    let mut writer = Counted::new(Vec::new(alloc));
+    let done = lint_policy(alloc, name, &mut reader, &mut writer);
     with_fault(alloc, done.map(|_| ()), writer.into_inner())
 }
 

@@ -3,6 +3,7 @@ use histar_access::DiffOptions;
 use histar_attack::AttackOptions;
 use histar_flat::{Path, ProcName, read_number, read_path, read_process, split_at_first};
 use histar_shell::Options;
+use histar_trust::TrustOptions;
 use memchr::memmem;
 
 /// What a trial runs.
@@ -10,7 +11,9 @@ use memchr::memmem;
 pub enum Kind {
     /// A script, with what is printed beside the replies.
     Run(Options),
-    /// The same, with the explanations of denials.
+    /// The calls of a script before a line.
+    RunAt(Option<u32>),
+    /// A script, with the explanations of denials.
     Explain(Options),
     /// The same, with the reasons of refusals.
     Why(Options),
@@ -30,8 +33,8 @@ pub enum Kind {
     AccessUsers(Option<u32>),
     /// The rights that differ between two scripts, or only those that the new one gives.
     Diff(DiffOptions),
-    /// On whom it depends what is at a path.
-    Trust(Path, Option<u32>),
+    /// On whom it depends what is at a path, and why, if that is asked for.
+    Trust(Path, TrustOptions),
     /// By which calls what is at a path is leaked and changed.
     Leak(Path, Option<u32>),
     /// Which process can pass on what it knows to which.
@@ -42,6 +45,8 @@ pub enum Kind {
     Attack(ProcName, AttackOptions),
     /// A script or a raw session whose name is in the title.
     File(FileKind),
+    /// Lines that are answered one after another, perhaps behind a script.
+    Shell,
     /// A session of raw calls.
     Raw,
     /// The same, with the explanations of denials.
@@ -57,6 +62,10 @@ pub enum FileKind {
     LintRaw,
     /// The page of a session.
     Report,
+    /// The sentence on the first bad line of a script with raw calls between its lines.
+    LintAttack,
+    /// The warnings on a right script.
+    LintPolicy,
     /// The results of what a script expects.
     Test,
     /// The same of a strict test.
@@ -116,11 +125,17 @@ fn read_place(words: &[u8]) -> Option<(Path, Option<u32>)> {
     Some((read_path(path)?, read_line(line)?))
 }
 
+/// Returns the options that ask for the trust before a line or at the end, perhaps with reasons.
+fn trust_options(at: Option<u32>, why: bool) -> TrustOptions {
+    TrustOptions { at, why }
+}
+
 /// Reads what a title asks of a path in a script, by its first word.
 fn read_secret(word: &[u8], rest: Option<&[u8]>) -> Option<Kind> {
     let (path, line) = read_place(rest?)?;
     match word {
-        b"trust" => Some(Kind::Trust(path, line)),
+        b"trust" => Some(Kind::Trust(path, trust_options(line, false))),
+        b"trust_why" => Some(Kind::Trust(path, trust_options(line, true))),
         b"leak" => Some(Kind::Leak(path, line)),
         _ => None,
     }
@@ -130,6 +145,7 @@ fn read_secret(word: &[u8], rest: Option<&[u8]>) -> Option<Kind> {
 fn read_run(word: &[u8], rest: Option<&[u8]>) -> Option<Kind> {
     match word {
         b"run" => Some(Kind::Run(read_options(rest)?)),
+        b"run_at" => Some(Kind::RunAt(read_line(rest)?)),
         b"explain" => Some(Kind::Explain(read_options(rest)?)),
         b"why" => Some(Kind::Why(read_options(rest)?)),
         b"calls" => Some(Kind::Calls(read_options(rest)?)),
@@ -175,10 +191,13 @@ fn read_question(word: &[u8], rest: Option<&[u8]>) -> Option<Kind> {
 /// Reads what a title asks for of a raw session or a file, by its first word.
 fn read_session(word: &[u8]) -> Option<Kind> {
     match word {
+        b"shell" => Some(Kind::Shell),
         b"raw" => Some(Kind::Raw),
         b"explain_raw" => Some(Kind::ExplainRaw),
         b"lint" => Some(Kind::File(FileKind::Lint)),
         b"lint_raw" => Some(Kind::File(FileKind::LintRaw)),
+        b"lint_attack" => Some(Kind::File(FileKind::LintAttack)),
+        b"lint_policy" => Some(Kind::File(FileKind::LintPolicy)),
         b"report" => Some(Kind::File(FileKind::Report)),
         b"test" => Some(Kind::File(FileKind::Test)),
         b"test_strict" => Some(Kind::File(FileKind::StrictTest)),

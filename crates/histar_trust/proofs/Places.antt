@@ -23,7 +23,8 @@ use Rattle.histar_secrecy.proofs.NumberedJobs.{in_two_steps}
 use Rattle.histar_readout.specs.declared.tree.TreeNode.{TreeNode}
 use Rattle.histar_readout.specs.TreeEntries.{TreeEntry, flat_entry, node_bytes, tree_entry}
 use Rattle.histar_readout.specs.TreeLines.{TreeLine, flat_line, line_at, node_stat}
-use Rattle.histar_trust.specs.Findings.{are_for_everyone, class_flat, class_there, classes_to, node_at}
+use Rattle.histar_trust.specs.Findings.{are_for_everyone, class_flat, class_there, classes_to, node_at, place_there, places_to}
+use Rattle.histar_trust.proofs.Powers.{place_on, places_on}
 use Rattle.histar_trust.specs.TrustText.{is_for_everyone, is_open_way}
 
 -- the number of a job is that of its category
@@ -136,3 +137,16 @@ module _ (s : State) (category : Categories) where
   classes_are f tree each [] = class_is [] (node_at [] tree) (get f.files []) (each [])
   classes_are f tree each (n ∷ d) =
       λ i. class_is (n ∷ d) (node_at (n ∷ d) tree) (get f.files (n ∷ d)) (each (n ∷ d)) i ++ classes_are f tree each d i
+
+  place_is : (q : Path) (t : Option TreeNode) (o : Option Node) → AreAlike q t o → place_there t ≡ place_on o q
+  place_is q None None h = refl
+  place_is q None (Some there) h = absurd h
+  place_is q (Some node) None h = absurd h
+  place_is q (Some node) (Some there) h = ap (λ r. r ∷ []) h.path
+
+  -- and on the way something is at the same paths
+  pub places_are : (f : Flat) (tree : List TreeNode) → ((q : Path) → AreAlike q (node_at q tree) (get f.files q)) → (q : Path)
+      → places_to tree q ≡ places_on f q
+  places_are f tree each [] = place_is [] (node_at [] tree) (get f.files []) (each [])
+  places_are f tree each (n ∷ d) =
+      λ i. place_is (n ∷ d) (node_at (n ∷ d) tree) (get f.files (n ∷ d)) (each (n ∷ d)) i ++ places_are f tree each d i

@@ -149,3 +149,15 @@ module _ (f : Flat) (category : Categories) where
       (picked test of_flat agree ms cs (ap rest_runners same) all.1)
       ∙ ap (λ b. if b then named_user c ∷ map named_user (filter of_flat cs) else map named_user (filter of_flat cs)) (agree m c one all.0)
       ∙ sym (mapped_named (of_flat c) c (filter of_flat cs))
+
+  -- texts of members and of running processes, one after another, are the same if each two are
+  pub texts_same : (text : Member → List ℕ) (of : Named → List ℕ) → ((m : Member) (c : Named) → runner_of m ≡ numbered c → Runs c
+      → text m ≡ of c)
+      → (ms : List Member) (cs : List Named) → map runner_of ms ≡ map numbered cs → AllOf Runs cs → flat_map text ms ≡ flat_map of cs
+  unfolding first_runner rest_runners
+  texts_same text of agree [] [] same all = refl
+  texts_same text of agree [] (c ∷ cs) same all = absurd (cc)
+  texts_same text of agree (m ∷ ms) [] same all = absurd (cc)
+  texts_same text of agree (m ∷ ms) (c ∷ cs) same all =
+      let one : runner_of m ≡ numbered c = ap (first_runner (runner_of m)) same in
+      λ i. agree m c one all.0 i ++ texts_same text of agree ms cs (ap rest_runners same) all.1 i

@@ -1,12 +1,14 @@
 -- What is computed from a machine is what the flat state determines that it represents.
-use Rattle.std.specs.Prelude.{◌≡◌, ℕ, Bool, length, true, false, not, ◌&&◌, List, [], ◌∷◌, ◌++◌, map, filter, codes, Option, None, Some}
+use Rattle.std.specs.Prelude.{◌≡◌, ℕ, Bool, length, true, false, not, ◌&&◌, List}
+use Rattle.std.specs.Prelude.{[], ◌∷◌, ◌++◌, map, filter, codes, Option, None, Some}
 use Rattle.std.specs.Prelude.{if◌then◌else◌, refl}
-use Rattle.std.specs.List.{filter_map}
+use Rattle.std.specs.List.{filter_map, flat_map}
 use Rattle.std.proofs.Common.{ap, sym, ◌∙◌, subst}
 use Rattle.histar_flat.specs.declared.calls.User.{User}
 use Rattle.histar_flat.specs.Words.{Name, Path, ProcName}
 use Rattle.histar_flat.specs.Accounts.{Accounts}
 use Rattle.histar_flat.specs.Files.{get}
+use Rattle.histar_flat.specs.Classes.{Class as FlatClass, Process}
 use Rattle.histar_flat.specs.FlatState.{Flat, Node}
 use Rattle.histar_flat.specs.FlatCalls.{running}
 use Rattle.histar_object.specs.State.{State}
@@ -27,11 +29,12 @@ use Rattle.histar_secrecy.specs.declared.role.Role.TheVariants.{Trusted, Confine
 use Rattle.histar_secrecy.specs.Ways.{reads_all, way_to}
 use Rattle.histar_secrecy.specs.Roles.{is_bound, is_confined, is_outsider, is_trusted}
 use Rattle.histar_secrecy.specs.Noninterference.{ShowsRole}
-use Rattle.histar_secrecy.specs.Changers.{is_changer}
+use Rattle.histar_secrecy.specs.Logins.{logged_in}
+use Rattle.histar_secrecy.specs.Changers.{is_changer, may_change}
 use Rattle.histar_secrecy.specs.ShownRoles.{AreNumbered, IsShownProcess, ShowsAState, classes_on, flat_class, has_role}
 use Rattle.histar_secrecy.specs.ShownRoles.{is_same_role, is_shown_changer, member_role, role_in, with_user}
 use Rattle.histar_secrecy.proofs.Learning.{roles_are_shown}
-use Rattle.histar_secrecy.proofs.ShownProcesses.{shown_is_so}
+use Rattle.histar_secrecy.proofs.ShownProcesses.{shown_is, shown_is_so}
 use Rattle.histar_readout.specs.declared.tree.TreeNode.{TreeNode}
 use Rattle.histar_readout.specs.Laws.{HasProcessesOf, HasTreeOf}
 use Rattle.histar_readout.specs.Processes.{AreProcessesOf, levels_at}
@@ -46,12 +49,16 @@ use Rattle.histar_shell.proofs.SameUsers.{tree_unproved}
 use Rattle.histar_prefix.specs.Listing.{HasProcesses}
 use Rattle.histar_prefix.proofs.Listed.{filter_map_map, processes_there, tree_there}
 use Rattle.histar_prefix.proofs.SameProcesses.{one_list, processes_unproved}
-use Rattle.histar_trust.specs.Findings.{AreMembers, ShowsReached, classes_to, head_text, node_at, runner_of, running_node}
-use Rattle.histar_trust.specs.Findings.{shown_changers, shown_found, shown_node, shown_readers, shown_roles}
-use Rattle.histar_trust.specs.TrustText.{changers_text, found_text, process_lines, readers_text, running_where, roles_text, trust_text}
-use Rattle.histar_trust.specs.TrustText.{user_lines}
-use Rattle.histar_trust.proofs.Places.{AreAlike, IsAt, alike, classes_are, number_of, open_by_number}
-use Rattle.histar_trust.proofs.Runners.{AllOf, Runs, each_runs, numbered, picked, runners_listed, running_line}
+use Rattle.histar_trust.specs.Findings.{AreMembers, ShowsReached, classes_to, head_text, node_at, places_to, runner_of, running_node}
+use Rattle.histar_trust.specs.Findings.{shown_changer, shown_changers, shown_confined, shown_found, shown_login_changer, shown_node, shown_power}
+use Rattle.histar_trust.specs.Findings.{shown_readers, shown_roles}
+use Rattle.histar_trust.specs.Reasons.{by_path, if_asked}
+use Rattle.histar_trust.specs.TrustText.{changers_text, found_text, job_reason, power_reason, process_entry, process_lines, readers_text}
+use Rattle.histar_trust.specs.TrustText.{reasoned_line, reasoned_user, roles_text, running_where, trust_text, user_entry, user_lines}
+use Rattle.histar_trust.proofs.Lineages.{descends, lines, shown_by_lines}
+use Rattle.histar_trust.proofs.Powers.{places_on, power_is}
+use Rattle.histar_trust.proofs.Places.{AreAlike, IsAt, alike, classes_are, number_of, open_by_number, places_are}
+use Rattle.histar_trust.proofs.Runners.{AllOf, Runs, each_runs, numbered, picked, runners_listed, running_line, texts_same}
 
 -- ---- roles
 
@@ -205,51 +212,88 @@ module _ {accounts : Accounts} {m : MachineModel} {f : Flat} (r : ShowsReached a
         → map with_user (filter test members) ≡ running_where accounts f of_name
     chosen test of_name agree = picked f l.category test (λ c. of_name c.0) agree members (running_in f) members_are all_run
 
-    module _ (path : Path) where
+    module _ (why : Bool) (path : Path) where
       -- the member has the role
       abbrev has : Role → Member → Bool
       has = has_role accounts.groups (classes_on number f path)
 
+      -- the lines of the confined that are printed are those of the flat state
+      confined_are : shown_confined (without_passwords accounts) why (classes_on number f path) [] found_members.processes
+          ≡ flat_map (reasoned_line (codes "confined") (is_confined accounts (way_to f path) f) (job_reason accounts f why (way_to f path)))
+          (running_in f)
+      unfolding running_in
+      confined_are =
+          shown_by_lines accounts why (classes_on number f path) [] found_members.processes
+          ∙ ap (lines accounts why (classes_on number f path) []) (ap (map process_line) same_processes ∙ own.lines)
+          ∙ (descends f l.category one_number accounts r.reached path why (levels_at []) [] [] refl refl).text
+
       -- the roles that are printed, and the login readers, are those of the flat state
-      readers_are : shown_readers (without_passwords accounts) members (classes_on number f path) ≡ readers_text accounts f (way_to f path)
+      readers_are : shown_readers (without_passwords accounts) why (classes_on number f path) found_members.processes members
+          ≡ readers_text accounts f why (way_to f path)
       readers_are = λ i.
           process_lines (codes "trusted") (chosen (has Trusted) (is_trusted accounts (way_to f path) f)
           (λ member c same runs. trusted_same member c same runs path) i)
-          ++ process_lines (codes "confined") (chosen (has Confined) (is_confined accounts (way_to f path) f)
-          (λ member c same runs. confined_same member c same runs path) i)
+          ++ confined_are i
           ++ process_lines (codes "outside") (chosen (has Outside) (is_outsider accounts (way_to f path) f)
           (λ member c same runs. outside_same member c same runs path) i)
           ++ user_lines (codes "login") (filter (λ user. is_so.reader_login path user i) (same_names accounts.users i))
 
     module _ (path : Path) (classes : List FileClass) (to : map flat_class classes ≡ classes_on number f path) where
-      -- the changers that are printed, and the login changers, are those of the flat state
-      changers_are : shown_changers (without_passwords accounts) members classes ≡ changers_text accounts f path
-      changers_are = λ i.
-          process_lines (codes "changer") (chosen (is_shown_changer accounts.groups classes) (is_changer accounts f path)
-          (λ member c same runs. changer_same member c same runs path classes to) i)
-          ++ user_lines (codes "changer-login") (filter (λ user. is_so.changer_login path classes to user i) (same_names accounts.users i))
-
       pub head_is : (node : TreeNode) (there : Node) → IsAt s l.category path node there
           → head_text node ≡ access_line_text (line_of accounts f [] (path, there))
       head_is node there is = λ i. access_line_text (record { path = is.path i; stat = is.stat i; cells = [] })
 
-      roles_are : (node : TreeNode) (there : Node) → IsAt s l.category path node there
-          → shown_roles (without_passwords accounts) members node (map flat_class classes) ≡ roles_text accounts f path there
-      roles_are node there is =
-          ap (shown_roles (without_passwords accounts) members node) to
-          ∙ (λ i. if is.kind i then [] else if open_by_number number f path i then codes "everyone\n" else readers_are path i)
+      module _ (why : Bool) (places : List Path) (on : places ≡ places_on f path) where
+        -- the line of a changer that is printed is that of the flat state
+        changer_is : (member : Member) (c : Named) → runner_of member ≡ numbered f l.category c → Runs f l.category c
+            → shown_changer (without_passwords accounts) why classes places member
+            ≡ reasoned_line (codes "changer") (is_changer accounts f path) (λ (e : Named). power_reason accounts f why path e.1) c
+        changer_is member c same runs =
+            let power = ap (λ (q : Process). shown_power accounts.groups q classes places)
+            (shown_is number one_number accounts f {m = member} {p = c.1} (shown member c same runs))
+            ∙ power_is number one_number accounts f c.1 path classes to places on in
+            λ i. if changer_same member c same runs path classes to i
+            then process_entry (codes "changer") ((same i).name, (same i).user) ++ if_asked why (by_path (power i)) ++ codes "\n" else []
 
-      found_is : (found : Option TreeNode) (there : Option Node) → AreAlike s l.category path found there
-          → shown_found (without_passwords accounts) members found classes ≡ found_text accounts f path there
-      found_is None None alike = refl
-      found_is None (Some there) alike = absurd alike
-      found_is (Some node) None alike = absurd alike
-      found_is (Some node) (Some there) alike = λ i. head_is node there alike i ++ roles_are node there alike i
+        -- the line of a login changer that is printed is that of the flat state
+        login_is : (user : Name) → shown_login_changer (without_passwords accounts) why classes places user
+            ≡ reasoned_user (codes "changer-login") (λ (u : Name). may_change accounts f (logged_in u) path)
+            (λ (u : Name). power_reason accounts f why path (logged_in u)) user
+        login_is user =
+            let power = power_is number one_number accounts f (logged_in user) path classes to places on in
+            λ i. if is_so.changer_login path classes to user i
+            then user_entry (codes "changer-login") user ++ if_asked why (by_path (power i)) ++ codes "\n" else []
+
+        -- the changers that are printed, and the login changers, are those of the flat state
+        changers_are : shown_changers (without_passwords accounts) why members classes places ≡ changers_text accounts f why path
+        changers_are = λ i.
+            texts_same f l.category (shown_changer (without_passwords accounts) why classes places)
+            (reasoned_line (codes "changer") (is_changer accounts f path) (λ (e : Named). power_reason accounts f why path e.1)) changer_is members
+            (running_in f) members_are all_run i
+            ++ flat_map (λ user. login_is user i) (same_names accounts.users i)
+
+        roles_are : (node : TreeNode) (there : Node) → IsAt s l.category path node there
+            → shown_roles (without_passwords accounts) why (map flat_class classes) found_members.processes members node
+            ≡ roles_text accounts f why path there
+        roles_are node there is =
+            ap (λ (way : List FlatClass). shown_roles (without_passwords accounts) why way found_members.processes members node) to
+            ∙ (λ i. if is.kind i then [] else if open_by_number number f path i then codes "everyone\n" else readers_are why path i)
+
+        found_is : (found : Option TreeNode) (there : Option Node) → AreAlike s l.category path found there
+            → shown_found (without_passwords accounts) why (map flat_class classes) found_members.processes members found
+            ≡ found_text accounts f why path there
+        found_is None None alike = refl
+        found_is None (Some there) alike = absurd alike
+        found_is (Some node) None alike = absurd alike
+        found_is (Some node) (Some there) alike = λ i. head_is node there alike i ++ roles_are node there alike i
 
     -- what is printed of a path is the text of the flat state
     pub text_there : (tree : List TreeNode) → IsTreeIn m tree → (path : Path) (classes : List FileClass)
-        → map flat_class classes ≡ classes_to tree path → shown_node m.users members (node_at path tree) classes ≡ trust_text accounts f path
-    text_there tree is path classes are =
+        → map flat_class classes ≡ classes_to tree path → (why : Bool) (places : List Path) → places ≡ places_to tree path
+        → shown_node m.users why found_members.processes members classes places (node_at path tree) ≡ trust_text accounts f why path
+    text_there tree is path classes are why places at =
         let to = are ∙ classes_are s l.category f tree (each tree is) path in
-        ap (λ (users : Accounts). shown_node users members (node_at path tree) classes) r.shows.users
-        ∙ (λ i. found_is path classes to (node_at path tree) (get f.files path) (each tree is path) i ++ changers_are path classes to i)
+        let on = at ∙ places_are s l.category f tree (each tree is) path in
+        ap (λ (users : Accounts). shown_node users why found_members.processes members classes places (node_at path tree)) r.shows.users
+        ∙ (λ i. found_is path classes to why places on (node_at path tree) (get f.files path) (each tree is path) i
+        ++ changers_are path classes to why places on i)

@@ -1,15 +1,17 @@
 -- What is computed from a machine: its running processes, and their roles towards what is at a path.
-use Rattle.std.specs.Prelude.{◌≡◌, ℕ, Bool, ◌++◌, List, [], ◌∷◌, Option, None, Some, codes, filter, length, map, take, if◌then◌else◌}
+use Rattle.std.specs.Prelude.{◌≡◌, ℕ, Bool, ◌&&◌, ◌++◌, List, [], ◌∷◌}
+use Rattle.std.specs.Prelude.{Option, None, Some, codes, filter, length, map, take, if◌then◌else◌}
 use Rattle.histar_flat.specs.declared.calls.User.{User}
 use Rattle.histar_flat.specs.Words.{Name, Path, ProcName}
 use Rattle.histar_base.specs.Paths.{same_path}
-use Rattle.histar_flat.specs.Accounts.{Accounts}
-use Rattle.histar_flat.specs.Classes.{Class as FlatClass}
+use Rattle.histar_flat.specs.Accounts.{Accounts, Group as FlatGroup}
+use Rattle.histar_flat.specs.Classes.{Class as FlatClass, Process, may_write}
 use Rattle.histar_flat.specs.Classes.Class.{Private as FlatPrivate, Readable as FlatReadable, Open as FlatOpen, Scratch as FlatScratch}
 use Rattle.histar_flat.specs.Classes.Class.{Grouped as FlatGrouped}
 use Rattle.histar_flat.specs.FlatState.{Flat}
 use Rattle.histar_flat.specs.Texts.{path_text}
 use Rattle.std.specs.List.{filter_map, flat_map, list_all}
+use Rattle.std.specs.Option.{option_or}
 use Rattle.histar_rights.specs.Table.{access_line_text}
 use Rattle.histar_layout.specs.Listing.{is_directory}
 use Rattle.histar_layout.specs.declared.class.Class.{Class}
@@ -18,8 +20,12 @@ use Rattle.histar_secrecy.specs.declared.file_class.FileClass.{FileClass}
 use Rattle.histar_secrecy.specs.declared.role.Member.{Member}
 use Rattle.histar_secrecy.specs.declared.role.Role.{Role}
 use Rattle.histar_secrecy.specs.declared.role.Role.TheVariants.{Trusted, Confined, Outside}
+use Rattle.histar_secrecy.specs.Logins.{logged_in}
 use Rattle.histar_secrecy.specs.Noninterference.{IsReached}
-use Rattle.histar_secrecy.specs.ShownRoles.{flat_class, has_role, is_login_changer, is_login_reader, is_shown_changer, job_numbered, with_user}
+use Rattle.histar_secrecy.specs.Roles.{is_bound}
+use Rattle.histar_secrecy.specs.Ways.{reads_all}
+use Rattle.histar_secrecy.specs.ShownRoles.{flat_class, has_role, is_login_changer, is_login_reader, is_same_role, is_shown_changer}
+use Rattle.histar_secrecy.specs.ShownRoles.{job_numbered, of_groups, role_of, with_rights, with_user}
 use Rattle.histar_readout.specs.declared.process.Life.{Life}
 use Rattle.histar_readout.specs.declared.process.Life.TheVariants.{Running, Exited}
 use Rattle.histar_readout.specs.declared.process.ProcessNode.{ProcessNode}
@@ -28,8 +34,10 @@ use Rattle.histar_readout.specs.TreeLines.{node_stat}
 use Rattle.histar_shell.specs.Machine.{MachineModel}
 use Rattle.histar_shell.specs.Meaning.{Shows}
 use Rattle.histar_prefix.specs.Listing.{AreProcessesIn}
+use Rattle.histar_trust.specs.declared.ancestors.Ancestor.{Ancestor}
+use Rattle.histar_trust.specs.Reasons.{by_job, by_path, if_asked}
 use Rattle.histar_trust.specs.Secrets.{is_secret, process_mark, runner_mark, secrets_text, user_mark}
-use Rattle.histar_trust.specs.TrustText.{is_for_everyone, is_open_way, process_lines, trust_text, user_lines}
+use Rattle.histar_trust.specs.TrustText.{is_for_everyone, is_open_way, process_entry, process_lines, trust_text, user_entry, user_lines}
 
 -- a running process: its user, the jobs that it is in, and those that it holds, by the numbers of their categories
 pub record Runner : Type 0 where
@@ -103,18 +111,6 @@ module _ (accounts : Accounts) (members : List Member) where
   abbrev pub those_of : List FlatClass → Role → List (ProcName × Name)
   those_of way role = map with_user (filter (has_role accounts.groups way role) members)
 
-  -- the roles towards a file with this way, as they are printed
-  abbrev pub shown_readers : List FlatClass → List ℕ
-  shown_readers way =
-      process_lines (codes "trusted") (those_of way Trusted)
-      ++ process_lines (codes "confined") (those_of way Confined)
-      ++ process_lines (codes "outside") (those_of way Outside)
-      ++ shown_login_readers accounts way
-
-  -- the text of the roles towards a file or a directory of a tree, by the way to it
-  abbrev pub shown_roles : TreeNode → List FlatClass → List ℕ
-  shown_roles node way = if is_directory node.target then [] else if is_open_way way then codes "everyone\n" else shown_readers way
-
   -- the trusted and the confined processes and the login readers of a file with this way, as they are printed on one line
   abbrev pub shown_members : List FlatClass → List ℕ
   shown_members way =
@@ -132,34 +128,128 @@ module _ (accounts : Accounts) (members : List Member) where
   shown_secrets before [] = []
   shown_secrets before (node ∷ nodes) = shown_secret node (next_way before node) ++ shown_secrets (next_way before node) nodes
 
-  -- the processes and users that may change what is of one of these classes, in directories of those behind it, as they are printed
-  abbrev pub shown_changers : List FileClass → List ℕ
-  shown_changers classes =
-      process_lines (codes "changer") (map with_user (filter (is_shown_changer accounts.groups classes) members))
-      ++ user_lines (codes "changer-login") (filter (is_login_changer accounts.groups classes) (names_of accounts))
-
 -- the line of a file or a directory, without processes
 abbrev pub head_text : TreeNode → List ℕ
 head_text node = access_line_text (record { path = node.path; stat = node_stat node; cells = [] })
 
--- the text of what a tree has at a path, by its class and those of the directories above it
-abbrev pub shown_found : Accounts → List Member → Option TreeNode → List FileClass → List ℕ
-shown_found accounts members None classes = codes "no entry\n"
-shown_found accounts members (Some node) classes = head_text node ++ shown_roles accounts members node (map flat_class classes)
+-- ---- why a process is a changer
 
--- the same with the changers
-abbrev pub shown_node : Accounts → List Member → Option TreeNode → List FileClass → List ℕ
-shown_node accounts members found classes = shown_found accounts members found classes ++ shown_changers accounts members classes
+-- the path of the node, if there is one
+abbrev pub place_there : Option TreeNode → List Path
+place_there None = []
+place_there (Some node) = node.path ∷ []
+
+-- the path of what a tree has at a path, and of each directory above it
+abbrev pub places_to : List TreeNode → Path → List Path
+places_to tree [] = place_there (node_at [] tree)
+places_to tree (n ∷ d) = place_there (node_at (n ∷ d) tree) ++ places_to tree d
+
+-- the process may write what is of the class, and read what is of each class behind it
+abbrev pub changes_here : List FlatGroup → Process → FileClass → List FileClass → Bool
+changes_here groups p class above =
+    may_write (of_groups groups) p (flat_class class) && reads_all (of_groups groups) (map flat_class above) p
+
+-- the last of the places, one of each class, by which the process may change what is at the first one
+abbrev pub shown_power : List FlatGroup → Process → List FileClass → List Path → Option Path
+shown_power groups p [] places = None
+shown_power groups p (class ∷ above) [] = None
+shown_power groups p (class ∷ above) (place ∷ higher) =
+    option_or (shown_power groups p above higher) (if changes_here groups p class above then Some place else None)
+
+-- ---- why a process is confined
+
+-- the processes above a process and itself, from process 0 on, each with the jobs that it is in, by numbers
+abbrev pub Lineage : Type 0
+Lineage = List (ProcName × List ℕ)
+
+-- a process and the jobs that it is in
+abbrev pub named_jobs : Ancestor → ProcName × List ℕ
+named_jobs a = (a.name, a.jobs.items)
+
+-- the lineage of a process: those above it are taken from the lineage of the process before it
+abbrev pub next_lineage : Lineage → ProcessNode → Lineage
+next_lineage before node = take (length node.name) before ++ (node.name, node.chain) ∷ []
+
+-- the first process of a lineage in whose jobs alone a process of this user would be bound by the way
+abbrev pub shown_job : List FlatGroup → List FlatClass → Name → Lineage → Option ProcName
+shown_job groups way user [] = None
+shown_job groups way user (a ∷ lineage) =
+    if is_bound (of_groups groups) way (with_rights user a.1 []) then Some a.0 else shown_job groups way user lineage
+
+-- the running process is confined by the way
+abbrev pub is_confined_runner : List FlatGroup → List FlatClass → Runner → Bool
+is_confined_runner groups way r = is_same_role Confined (role_of groups way (with_rights r.user r.jobs r.held))
+
+module _ (accounts : Accounts) (why : Bool) where
+  -- the reason of a process with these rights that is a changer, as it is printed
+  abbrev pub shown_power_reason : List FileClass → List Path → Process → List ℕ
+  shown_power_reason classes places p = if_asked why (by_path (shown_power accounts.groups p classes places))
+
+  -- the line of a process, if it is a changer, as it is printed
+  abbrev pub shown_changer : List FileClass → List Path → Member → List ℕ
+  shown_changer classes places m =
+      if is_shown_changer accounts.groups classes m then
+      process_entry (codes "changer") (with_user m)
+      ++ shown_power_reason classes places (with_rights m.user m.jobs.items m.held.items) ++ codes "\n" else []
+
+  -- the line of a user as whom a process could log in to be a changer, as it is printed
+  abbrev pub shown_login_changer : List FileClass → List Path → Name → List ℕ
+  shown_login_changer classes places user =
+      if is_login_changer accounts.groups classes user then
+      user_entry (codes "changer-login") user ++ shown_power_reason classes places (logged_in user) ++ codes "\n" else []
+
+  -- the processes and users that may change what is of one of these classes, in directories of those behind it, as they are printed
+  abbrev pub shown_changers : List Member → List FileClass → List Path → List ℕ
+  shown_changers members classes places =
+      flat_map (shown_changer classes places) members ++ flat_map (shown_login_changer classes places) (names_of accounts)
+
+  module _ (way : List FlatClass) where
+    -- the line of a running process, if it is confined, as it is printed
+    abbrev pub shown_runner_confined : Lineage → Runner → List ℕ
+    shown_runner_confined lineage r =
+        if is_confined_runner accounts.groups way r then
+        process_entry (codes "confined") (r.name, r.user)
+        ++ if_asked why (by_job (shown_job accounts.groups way r.user lineage)) ++ codes "\n" else []
+
+    -- the same of a process, if it runs
+    abbrev pub shown_confined_if : Lineage → Option Runner → List ℕ
+    shown_confined_if lineage None = []
+    shown_confined_if lineage (Some r) = shown_runner_confined lineage r
+
+    -- the lines of those of these processes that are confined, one after another, as they are printed
+    abbrev pub shown_confined : Lineage → List ProcessNode → List ℕ
+    shown_confined before [] = []
+    shown_confined before (node ∷ nodes) =
+        shown_confined_if (next_lineage before node) (running_node node) ++ shown_confined (next_lineage before node) nodes
+
+    module _ (processes : List ProcessNode) (members : List Member) where
+      -- the roles towards a file with this way, as they are printed
+      abbrev pub shown_readers : List ℕ
+      shown_readers =
+          process_lines (codes "trusted") (those_of accounts members way Trusted)
+          ++ shown_confined [] processes
+          ++ process_lines (codes "outside") (those_of accounts members way Outside)
+          ++ shown_login_readers accounts way
+
+      -- the text of the roles towards a file or a directory of a tree, by the way to it
+      abbrev pub shown_roles : TreeNode → List ℕ
+      shown_roles node = if is_directory node.target then [] else if is_open_way way then codes "everyone\n" else shown_readers
+
+      -- the text of what a tree has at a path, by the way to it
+      abbrev pub shown_found : Option TreeNode → List ℕ
+      shown_found None = codes "no entry\n"
+      shown_found (Some node) = head_text node ++ shown_roles node
+
+  -- the same with the changers
+  abbrev pub shown_node : List ProcessNode → List Member → List FileClass → List Path → Option TreeNode → List ℕ
+  shown_node processes members classes places found =
+      shown_found (map flat_class classes) processes members found ++ shown_changers members classes places
 
 -- the processes of a machine were found, and these members are the running ones
 pub record AreMembers (m : MachineModel) (members : List Member) : Type 0 where
   pub processes : List ProcessNode
   pub are : AreProcessesIn m processes
   pub runners : map runner_of members ≡ filter_map running_node processes
-
--- the text of what a tree has at a path by the running processes of a machine
-abbrev pub ShowsNode : MachineModel → Option TreeNode → List FileClass → List ℕ → Type 0
-ShowsNode m found classes text = (members : List Member) × AreMembers m members × (text ≡ shown_node m.users members found classes)
 
 -- a machine represents a flat state that calls lead to
 pub record ShowsReached (accounts : Accounts) (m : MachineModel) (f : Flat) : Type 0 where
@@ -170,9 +260,9 @@ pub record ShowsReached (accounts : Accounts) (m : MachineModel) (f : Flat) : Ty
 abbrev pub HasState : MachineModel → Type 0
 HasState m = (accounts : Accounts) × (f : Flat) × ShowsReached accounts m f
 
--- for every such state that a machine represents, this is its text for the path
-abbrev pub ShowsTrust : MachineModel → Path → List ℕ → Type 0
-ShowsTrust m path text = (accounts : Accounts) (f : Flat) → ShowsReached accounts m f → text ≡ trust_text accounts f path
+-- for every such state that a machine represents, this is its text for the path, with reasons if these are asked for
+abbrev pub ShowsTrust : MachineModel → Bool → Path → List ℕ → Type 0
+ShowsTrust m why path text = (accounts : Accounts) (f : Flat) → ShowsReached accounts m f → text ≡ trust_text accounts f why path
 
 -- for every such state that a machine represents, this is the text on its processes and files
 abbrev pub ShowsSecrets : MachineModel → List ℕ → Type 0

@@ -9,6 +9,7 @@ use Rattle.histar_script.specs.declared.fault.Fault.{Fault}
 use Rattle.histar_script.specs.declared.fault.Fault.TheVariants.{WriteFailed}
 use Rattle.histar_shell.specs.Outcome.{AgreesWith}
 use Rattle.histar_prefix.specs.Prefix.{state_before}
+use Rattle.histar_trust.specs.declared.session.TrustOptions.{TrustOptions}
 use Rattle.histar_trust.specs.FlowsText.{flows_before}
 use Rattle.histar_trust.specs.Secrets.{secrets_after}
 use Rattle.histar_trust.specs.TrustText.{trust_text}
@@ -36,13 +37,13 @@ pub record WritesOf (text_of : ScriptModel → List ℕ) (text : List ℕ) (old 
   pub faults : AgreesWith (script_of text) result
   pub writes : MatchResult result (λ _. WritesText text_of old new (script_of text)) (WritesAtFault text_of old new (script_of text))
 
--- the text of the flat state of a script before this line, for a path
-abbrev pub text_before : Option ℕ → Path → ScriptModel → List ℕ
-text_before at path script = trust_text script.accounts (state_before at script) path
+-- the text of the flat state of a script before the line of the options, for a path, with reasons if they ask for these
+abbrev pub text_before : TrustOptions → Path → ScriptModel → List ℕ
+text_before options path script = trust_text script.accounts (state_before options.at script) options.why path
 
 -- The text was read as a script: its fault is returned, or exactly the text of its state for a path was written.
-abbrev pub TrustText : Option ℕ → Path → List ℕ → Option (List ℕ) → Option (List ℕ) → Result (Unit {0}) Fault → Type 0
-TrustText at path = WritesOf (text_before at path)
+abbrev pub TrustText : TrustOptions → Path → List ℕ → Option (List ℕ) → Option (List ℕ) → Result (Unit {0}) Fault → Type 0
+TrustText options path = WritesOf (text_before options path)
 
 -- The text was read as a script: its fault is returned, or exactly the text on the files after all its calls was written.
 abbrev pub SecretsText : List ℕ → Option (List ℕ) → Option (List ℕ) → Result (Unit {0}) Fault → Type 0

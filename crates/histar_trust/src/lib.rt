@@ -3,15 +3,17 @@
 //! from a machine's own objects.
 #![tactic(auto)]
 
+mod ancestors;
 mod files;
 mod flow_lines;
 mod members;
 mod output;
+mod reasons;
 mod session;
 pub mod trust_laws;
 mod way;
 
 pub use members::members_among;
 pub use output::{is_open_way, push_head};
-pub use session::{flows, secrets, trust};
+pub use session::{TrustOptions, flows, secrets, trust};
 pub use way::{node_at, push_classes};

@@ -25,7 +25,7 @@ pub fn members_among(alloc: Global, processes: &[ProcessNode]) -> Result<Vec<Mem
 }
 
 /// Returns a process with its user and its jobs, if it runs.
-fn member_of(alloc: Global, process: &ProcessNode) -> Result<Option<Member>, AllocError>
+pub fn member_of(alloc: Global, process: &ProcessNode) -> Result<Option<Member>, AllocError>
     ensures { IfOk result (λ member. option_map runner_of member ≡ running_node process.now) }
 {
     let Life::Running { user, held } = &process.life else {

@@ -15,9 +15,18 @@ use histar_prefix::{discard, machine_before};
 use histar_script::Fault;
 use std::alloc::Global;
 
+/// Before which line `trust` stops, and what it writes.
+#[derive(Clone, Copy)]
+pub struct TrustOptions {
+    /// The line before which the calls are run, or `None` for all.
+    pub at: Option<u32>,
+    /// Whether each changer and each confined process has the reason why it is one.
+    pub why: bool,
+}
+
 /// Reads a script, runs it on a machine of its own, and writes which processes have to be trusted to keep
-/// what is at a path secret, and unchanged. With a line number it runs the calls on the lines before that
-/// one, and else all.
+/// what is at a path secret, and unchanged. It runs the calls that the options say, and writes the reasons that
+/// they ask for.
 ///
 /// The whole script is read and checked before the first call. It doesn't flush the sink.
 pub fn trust<R: Source, W: Sink>(
@@ -25,7 +34,7 @@ pub fn trust<R: Source, W: Sink>(
     path: &Path,
     reader: &mut R,
     writer: &mut W,
-    at: Option<u32>,
+    options: TrustOptions,
 ) -> Result<(), Fault>
     // After a bad script, one that is too long or a failed read, the sink is as it was.
     ensures nothing { IfErr result (LeavesSink writer.old writer.new) }
@@ -38,21 +47,21 @@ pub fn trust<R: Source, W: Sink>(
 
     // Some bytes of the source were read, to its end but never more than 1,048,577: the fault of their script
     // is returned, or exactly the text of the flat state after its calls is written.
-    ensures runs { RunsInput (TrustText at path.now) (R.left reader.old) (R.left reader.new)
+    ensures runs { RunsInput (TrustText options path.now) (R.left reader.old) (R.left reader.new)
         (W.written writer.old) (W.written writer.new) result }
 
     // If the input is known, this is the text of the script of the whole input.
     ensures known { IfSome (R.left reader.old) (λ input.
-        TrustText at path.now input (W.written writer.old) (W.written writer.new) result) }
+        TrustText options path.now input (W.written writer.old) (W.written writer.new) result) }
 {
-    run_command(alloc, reader, writer, Trusted { path, at })
+    run_command(alloc, reader, writer, Trusted { path, options })
 }
 
 /// The command that writes the lines on what is at a path after the calls of the script in a text.
 #[derive(Drop)]
 struct Trusted<'a> {
     path: &'a Path,
-    at: Option<u32>,
+    options: TrustOptions,
 }
 
 impl<'a> Command for Trusted<'a> {
@@ -60,10 +69,10 @@ impl<'a> Command for Trusted<'a> {
 
     type Answer = ();
 
-    ghost Runs = { λ command. TrustText command.at command.path.now };
+    ghost Runs = { λ command. TrustText command.options command.path.now };
 
     fn on_text<W: Sink>(self, alloc: Global, text: Vec<u8>, writer: &mut W) -> Result<(), Fault> {
-        trust_text(alloc, text.as_slice(), self.path, writer, self.at)
+        trust_text(alloc, text.as_slice(), self.path, writer, self.options)
     }
 
     ghost unread = { Prim.search rules };
@@ -77,17 +86,17 @@ fn trust_text<W: Sink>(
     text: &[u8],
     path: &Path,
     writer: &mut W,
-    at: Option<u32>,
+    options: TrustOptions,
 ) -> Result<(), Fault>
     ensures nothing { IfErr result (LeavesSink writer.old writer.new) }
     ensures reads { is_read_failed result ≡ false }
     ensures writes { CountsFailure (W.failures writer.old) (W.failures writer.new)
         (is_write_failed result) }
-    ensures runs { TrustText at path.now text.now (W.written writer.old) (W.written writer.new)
+    ensures runs { TrustText options path.now text.now (W.written writer.old) (W.written writer.new)
         result }
 {
-    let machine = machine_before(alloc, text, at)?;
-    let shown = trust_lines(alloc, &machine, path);
+    let machine = machine_before(alloc, text, options.at)?;
+    let shown = trust_lines(alloc, &machine, path, options.why);
     discard(machine);
     let lines = shown?;
     write_bytes(writer, lines.as_slice())?;

@@ -1,7 +1,8 @@
-//! What `run` prints to processes that may not read a secret, and what the lines of `flows` mean. Each law is
-//! the contract of a function that does nothing.
+//! What `run` prints to processes that may not read a secret, and what the lines of `flows` and the reasons in
+//! those of `trust` mean. Each law is the contract of a function that does nothing.
 ghost use Rattle.histar_trust.specs.FlowLaws.{ListedAreKnowers, ListedCanObserve, OnlyListedObserve};
 ghost use Rattle.histar_trust.specs.Printed.{OutsidersReadTheSame};
+ghost use Rattle.histar_trust.specs.ReasonLaws.{JobIsNamed, PowerIsNamed};
 
 /// Shows that the replies to outsiders that `run` prints for a script are the same texts, whatever bytes a
 /// line of the script writes to a secret file.
@@ -24,4 +25,15 @@ pub fn listed_can_observe()
 /// is one to a process that is listed behind it, or to one that comes later in all its jobs.
 pub fn only_listed_observe()
     ensures { OnlyListedObserve }
+{}
+
+/// Shows that a path is named for each process that may change what is at a path: one by which it may, and the
+/// highest of these; and that a call of the process changes what is there.
+pub fn power_is_named()
+    ensures { PowerIsNamed }
+{}
+
+/// Shows that a job is named for each confined process: one that it is in, and that no outsider knows.
+pub fn job_is_named()
+    ensures { JobIsNamed }
 {}

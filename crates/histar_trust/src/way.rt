@@ -2,10 +2,10 @@
 ghost use Rattle.std.specs.Prelude.{◌≡◌, ◌++◌, IfOk, map, OnOk};
 ghost use Rattle.std.specs.Option.{option_copied};
 ghost use Rattle.histar_secrecy.specs.ShownRoles.{flat_class};
-ghost use Rattle.histar_trust.specs.Findings.{class_flat, class_there, classes_to, next_way, node_at};
+ghost use Rattle.histar_trust.specs.Findings.{class_flat, class_there, classes_to, next_way, node_at, place_there, places_to};
 
 use crate::members::numbers;
-use histar_flat::Name;
+use histar_flat::{Name, Path};
 use histar_layout::Class;
 use histar_readout::TreeNode;
 use histar_secrecy::FileClass;
@@ -38,6 +38,32 @@ pub fn push_classes(
         return Ok(());
     };
     push_classes(alloc, tree, above, classes)
+}
+
+/// Adds the path of what a tree has at the path of these names, and then that of each directory above.
+pub fn push_places(
+    tree: &[TreeNode],
+    names: &[Name],
+    places: &mut Vec<Path>,
+) -> Result<(), AllocError>
+    ensures { OnOk result (places.new.items ≡ places.old.items ++ places_to tree.now names.now) }
+{
+    push_place(node_at(tree, names), places)?;
+    let [_, above @ ..] = names else {
+        return Ok(());
+    };
+    push_places(tree, above, places)
+}
+
+/// Adds the path of a node, if there is one.
+fn push_place(there: Option<&TreeNode>, places: &mut Vec<Path>) -> Result<(), AllocError>
+    ensures { OnOk result (places.new.items
+        ≡ places.old.items ++ place_there (option_copied there.entry)) }
+{
+    let Some(node) = there else {
+        return Ok(());
+    };
+    Ok(places.push(node.path)?)
 }
 
 /// Goes on from the way to one node of a tree to that of the next one: it leaves the classes of the directories

@@ -10,3 +10,4 @@ pub mod Lines
 pub mod Turns
 pub mod WholeRuns
 pub mod TextRuns
+pub mod ReasonedCalls

@@ -9,3 +9,4 @@ pub mod Absences
 pub mod Logging
 pub mod Session
 pub mod Run
+pub mod Answering

@@ -5,6 +5,7 @@
 #![tactic(auto)]
 
 mod absences;
+mod answering;
 mod asked;
 mod causes;
 mod logging;
@@ -15,4 +16,5 @@ mod session;
 mod views;
 mod ways;
 
-pub use session::run_with_reasons;
+pub use answering::answer_with_reason;
+pub use session::{Log, run_with_reasons};

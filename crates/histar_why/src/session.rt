@@ -29,11 +29,24 @@ const REMEMBERED_ANSWERS: usize = 256;
 
 /// The lines of refused calls, and what they are made from.
 #[derive(Drop)]
-pub(crate) struct Log {
+pub struct Log {
     /// For each category, by its number, the process that was born with it.
     pub births: Vec<Option<ProcName>>,
     /// The lines so far.
     pub text: Vec<u8>,
+}
+
+impl Log {
+    /// Returns the log of a machine that has made no call.
+    pub fn new(alloc: Global) -> Log
+        ensures births { result.births.items ≡ [] }
+        ensures text { result.text.items ≡ [] }
+    {
+        Log {
+            births: Vec::new(alloc),
+            text: Vec::new(alloc),
+        }
+    }
 }
 
 /// Runs a script as `run` does, and writes after all that was asked for why each refused call was
@@ -157,10 +170,7 @@ fn log_calls<S: LabelStore + Drop, W: Sink>(
     ensures count { CountsFailure (W.failures writer.old) (W.failures writer.new)
         (is_write_failed result) }
 {
-    let mut log = Log {
-        births: Vec::new(alloc),
-        text: Vec::new(alloc),
-    };
+    let mut log = Log::new(alloc);
     let outcome = answer_calls(alloc, machine, &mut log, calls, writer);
     with_text(outcome, log)
 }
@@ -311,7 +321,7 @@ fn write_reply<W: Sink>(
 }
 
 /// Returns the line of a reply.
-fn reply_line(alloc: Global, line: u32, reply: &Reply) -> Result<Vec<u8>, AllocError>
+pub(crate) fn reply_line(alloc: Global, line: u32, reply: &Reply) -> Result<Vec<u8>, AllocError>
     ensures { IfOk result (λ text. text.items ≡ line_text line reply.now) }
 {
     let said = reply_text(alloc, reply)?;

@@ -44,6 +44,14 @@ returns-in-Unless-clause-local c =
     (λ r adds. ap global adds.0 ∙ ap global c.help-in-Unless.ensures ∙ c.new-in-Unless.ensures.optional.1)
     c.required_unless_present.ensures
 
+pub returns-in-Optional-clause-rule : goal.returns-in-Optional-clause-rule
+returns-in-Optional-clause-rule c =
+    ap rule_of c.help-in-Optional.ensures ∙ c.new-in-Optional.ensures.rule ∙ ap argument_rule (sym c.in-Optional.is)
+
+pub returns-in-Optional-clause-local : goal.returns-in-Optional-clause-local
+returns-in-Optional-clause-local c =
+    ap (λ (arg : Arg). arg.global) c.help-in-Optional.ensures ∙ c.new-in-Optional.ensures.optional.1
+
 pub returns-in-Words-clause-rule : goal.returns-in-Words-clause-rule
 returns-in-Words-clause-rule c =
     let words : rule_of c.help-in-Words.result ≡ words_rule c.in-Words.name.now = search rules in
@@ -52,7 +60,8 @@ returns-in-Words-clause-rule c =
 pub returns-in-Words-clause-local : goal.returns-in-Words-clause-local
 returns-in-Words-clause-local c =
     let global = λ (arg : Arg). arg.global in
-    ap global c.help-in-Words.ensures ∙ ap global c.num_args.ensures.0 ∙ ap global c.required-in-Words.ensures ∙ c.new-in-Words.ensures.optional.1
+    ap global c.help-in-Words.ensures ∙ ap global c.num_args.ensures.0 ∙ ap global c.required-in-Words.ensures
+    ∙ c.new-in-Words.ensures.optional.1
 
 pub returns-in-Valued-clause-rule : goal.returns-in-Valued-clause-rule
 returns-in-Valued-clause-rule c =

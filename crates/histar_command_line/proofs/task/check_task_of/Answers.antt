@@ -17,6 +17,7 @@ returns-in-true-None c =
           c.is_set-why.ensures ∙ ap is_given (first_value-rows found (codes "why")),
           c.is_set-exit_code.ensures ∙ ap is_given (first_value-rows found (codes "exit-code")),
         ),
+        c.get_str-at.ensures ∙ first_value-rows found (codes "LINE"),
       ),
     )
 
@@ -32,5 +33,6 @@ returns-in-false-Some c =
           c.is_set-why.ensures ∙ ap is_given (first_value-rows found (codes "why")),
           c.is_set-exit_code.ensures ∙ ap is_given (first_value-rows found (codes "exit-code")),
         ),
+        c.get_str-at.ensures ∙ first_value-rows found (codes "LINE"),
       ),
     )

@@ -1,7 +1,8 @@
 -- Proves the goals of `secret_task_of` of src/task.rt that the search leaves open.
-use Rattle.std.proofs.Common.{refl, sym, ◌∙◌, codes}
+use Rattle.std.proofs.Common.{refl, sym, ap, ◌∙◌, codes}
 use Rattle.clap.specs.Words.{rows_of, found_of}
 use Rattle.clap.proofs.WalkLemmas.{first_value-rows}
+use Rattle.histar_command_line.specs.Tasks.{is_given}
 use Rattle.histar_command_line.proofs.Matches.{matched}
 use Rattle.histar_command_line.proofs.task.secret_task_of.Goals as goal
 
@@ -15,6 +16,7 @@ returns-in-Some c =
         sym (c.in_ok-path.ensures ∙ first_value-rows found (codes "PATH")),
         sym (c.in_ok-file.ensures ∙ first_value-rows found (codes "FILE")),
         c.get_str-at.ensures ∙ first_value-rows found (codes "LINE"),
+        c.is_set-why.ensures ∙ ap is_given (first_value-rows found (codes "why")),
       ),
     )
 

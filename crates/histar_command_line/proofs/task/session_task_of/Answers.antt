@@ -20,11 +20,23 @@ returns-in-Some c =
       ),
     )
 
+pub returns-in-Some-subcommand_matches : goal.returns-in-Some-subcommand_matches
+returns-in-Some-subcommand_matches c =
+    let m = c.in-Some-subcommand_matches in
+    let found = found_of m.shell.now in (
+      rows_of found,
+      matched c.args.matches.now (codes "shell") (rows_of found) (m.ensures.found.0 refl) m.ensures.rows,
+      c.get_str-in-Some-subcommand_matches.ensures ∙ first_value-rows found (codes "FILE"),
+    )
+
 pub returns : goal.returns
 returns c =
     let m = c.in_ok-report in
     let found = found_of m.report.now in (
       rows_of found,
       matched c.args.matches.now (codes "report") (rows_of found) (m.ensures.found.0 refl) m.ensures.rows,
-      sym (c.in_ok-file-2.ensures ∙ first_value-rows found (codes "FILE")),
+      (
+        sym (c.in_ok-file-2.ensures ∙ first_value-rows found (codes "FILE")),
+        c.get_str-at.ensures ∙ first_value-rows found (codes "LINE"),
+      ),
     )

@@ -20,6 +20,7 @@ returns-in-Some c =
         c.is_set-why.ensures ∙ ap is_given (first_value-rows found (codes "why")),
         c.is_set-explain.ensures ∙ ap is_given (first_value-rows found (codes "explain")),
         c.is_set-calls.ensures ∙ ap is_given (first_value-rows found (codes "calls")),
+        c.get_str-at.ensures ∙ first_value-rows found (codes "LINE"),
       ),
     )
 

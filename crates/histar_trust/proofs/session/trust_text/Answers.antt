@@ -7,7 +7,7 @@ use Rattle.histar_trust.proofs.Runs.{begun_text, has_state, shows_reached, unwri
 use Rattle.histar_trust.proofs.session.trust_text.Goals as goal
 
 pub trust_lines-shown-requires : goal.trust_lines-shown-requires
-trust_lines-shown-requires g c = has_state c.args.at c.args.text.now c.in_ok-machine.machine c.in_ok-machine.ensures
+trust_lines-shown-requires g c = has_state c.args.options.at c.args.text.now c.in_ok-machine.machine c.in_ok-machine.ensures
 
 pub returns-in_err-lines-clause-nothing : goal.returns-in_err-lines-clause-nothing
 returns-in_err-lines-clause-nothing g c =
@@ -23,7 +23,7 @@ returns-in_err-lines-clause-writes g c =
 
 pub returns-in_err-lines-clause-runs : goal.returns-in_err-lines-clause-runs
 returns-in_err-lines-clause-runs g c =
-    rw (passed_on _ _ c.from_residual-in_err-lines.ensures.1) (unwritten_text (text_before c.args.at c.args.path.now) c.args.text.now _)
+    rw (passed_on _ _ c.from_residual-in_err-lines.ensures.1) (unwritten_text (text_before c.args.options c.args.path.now) c.args.text.now _)
 
 pub returns-in_err-write_bytes-clause-nothing : goal.returns-in_err-write_bytes-clause-nothing
 returns-in_err-write_bytes-clause-nothing g c =
@@ -39,19 +39,19 @@ returns-in_err-write_bytes-clause-writes g c =
 
 pub returns-in_err-write_bytes-clause-runs : goal.returns-in_err-write_bytes-clause-runs
 returns-in_err-write_bytes-clause-runs g c =
-    let shown : c.as_slice.result.now ≡ text_before c.args.at c.args.path.now c.in_ok-machine.ensures.script =
+    let shown : c.as_slice.result.now ≡ text_before c.args.options c.args.path.now c.in_ok-machine.ensures.script =
     c.as_slice.ensures.value
     ∙ (rw c.in_ok-lines.was at c.trust_lines-shown.ensures) c.in_ok-machine.ensures.script.accounts
-    (state_before c.args.at c.in_ok-machine.ensures.script)
-    (shows_reached c.args.at c.args.text.now c.in_ok-machine.machine c.in_ok-machine.ensures) in
-    rw (passed_on _ _ c.from_residual-in_err-write_bytes.ensures.1) (begun_text (text_before c.args.at c.args.path.now) c.in_ok-machine.ensures _
+    (state_before c.args.options.at c.in_ok-machine.ensures.script)
+    (shows_reached c.args.options.at c.args.text.now c.in_ok-machine.machine c.in_ok-machine.ensures) in
+    rw (passed_on _ _ c.from_residual-in_err-write_bytes.ensures.1) (begun_text (text_before c.args.options c.args.path.now) c.in_ok-machine.ensures _
     shown _ _ c.in_err-write_bytes.ensures.err)
 
 pub returns-clause-runs : goal.returns-clause-runs
 returns-clause-runs g c =
-    let shown : c.as_slice.result.now ≡ text_before c.args.at c.args.path.now c.in_ok-machine.ensures.script =
+    let shown : c.as_slice.result.now ≡ text_before c.args.options c.args.path.now c.in_ok-machine.ensures.script =
     c.as_slice.ensures.value
     ∙ (rw c.in_ok-lines.was at c.trust_lines-shown.ensures) c.in_ok-machine.ensures.script.accounts
-    (state_before c.args.at c.in_ok-machine.ensures.script)
-    (shows_reached c.args.at c.args.text.now c.in_ok-machine.machine c.in_ok-machine.ensures) in
-    written_text (text_before c.args.at c.args.path.now) c.in_ok-machine.ensures _ shown _ _ c.in_ok-write_bytes.ensures.ok
+    (state_before c.args.options.at c.in_ok-machine.ensures.script)
+    (shows_reached c.args.options.at c.args.text.now c.in_ok-machine.machine c.in_ok-machine.ensures) in
+    written_text (text_before c.args.options c.args.path.now) c.in_ok-machine.ensures _ shown _ _ c.in_ok-write_bytes.ensures.ok

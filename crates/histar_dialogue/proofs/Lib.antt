@@ -1,0 +1,6 @@
+-- The lemmas of this crate.
+pub mod InputLines
+pub mod MoreLines
+pub mod Following
+pub mod Talking
+pub mod Runs

@@ -1,0 +1,120 @@
+-- A dialogue: the lines of a source, each answered before the next one is read.
+use Rattle.std.specs.Prelude.{◌≡◌, ℕ, ◌+◌, ◌⊎◌, Bool, false, List, []}
+use Rattle.std.specs.Prelude.{◌∷◌, ◌++◌, length, codes, decimal, Option, None, Some}
+use Rattle.std.specs.Prelude.{Result, Ok, Err, IsOk, MatchOption, if◌then◌else◌}
+use Rattle.std.specs.List.{AllByRecursion}
+use Rattle.std.specs.Str.{bytes_eq}
+use Rattle.std.specs.Io.KnownBytes.{Appends, Consumes, IsAtEnd}
+use Rattle.histar_io.specs.Writing.{AppendsFront}
+use Rattle.histar_script.specs.declared.fault.Fault.{Fault}
+use Rattle.histar_script.specs.declared.fault.Fault.TheVariants.{BadScript, TooLong}
+use Rattle.histar_script.specs.declared.fault.Fault.TheVariants.{OutOfMemory, ReadFailed, WriteFailed}
+use Rattle.histar_script.specs.Lines.{lines_of}
+use Rattle.histar_script.specs.Reading.{script_of}
+use Rattle.histar_dialogue.specs.Session.{Answers, Talk, nothing_yet}
+
+-- the line ends the dialogue
+abbrev pub is_quit : List ℕ → Bool
+is_quit line = bytes_eq line (codes ":quit")
+
+-- the prompt, if there is one: the number of the next line of the session
+abbrev pub prompt_text : Bool → Talk → List ℕ
+prompt_text prompt talk = if prompt then decimal (length (lines_of talk.text) + 1) ++ codes "> " else []
+
+-- These lines were answered one after another, each as the session says with the lines before it, and this is what was said: before each
+-- line the prompt, and behind it its answer.
+abbrev pub Converses : Bool → Talk → List (List ℕ) → Talk → List ℕ → Type 0
+Converses prompt talk [] end said = (end ≡ talk) × (said ≡ [])
+Converses prompt talk (line ∷ lines) end said =
+    (mid : Talk) × (first rest : List ℕ) × Answers talk line mid first × Converses prompt mid lines end rest
+    × (said ≡ (prompt_text prompt talk ++ first) ++ rest)
+
+-- the script to begin with, if there is one, is a script, and its lines were answered without a prompt
+abbrev pub Begins : Option (List ℕ) → Talk → List ℕ → Type 0
+Begins None begun said = (begun ≡ nothing_yet) × (said ≡ [])
+Begins (Some text) begun said = IsOk (script_of text) × Converses false nothing_yet (lines_of text) begun said
+
+-- the script to begin with has this fault
+abbrev pub HasFault : Option (List ℕ) → Fault → Type 0
+HasFault first fault = MatchOption first ⊥ (λ text. script_of text ≡ Err fault)
+
+-- what is behind the lines that were answered: nothing, and the source is at its end; or a line that ends the dialogue
+abbrev pub EndsAt : Option (List ℕ) → List (List ℕ) → Type 0
+EndsAt rest more = ((more ≡ []) × IsAtEnd rest) ⊎ ((others : List (List ℕ)) × (more ≡ codes ":quit" ∷ others))
+
+-- it may be anything
+abbrev pub StopsAt : List (List ℕ) → Type 0
+StopsAt more = Unit {0}
+
+-- Bytes were taken from the source. Their first lines, none of which ends the dialogue, were answered, and what is behind them is as `Ends`
+-- says. What was
+-- said and a last prompt were written as far as `Writes` says.
+pub record TalksFrom (prompt : Bool) (begun : Talk) (left rest : Option (List ℕ)) (Ends : List (List ℕ)
+    → Type 0) (Writes : List ℕ → Type 0) : Type 0 where
+  pub taken : List ℕ
+  pub consumed : Consumes left rest taken
+  pub lines : List (List ℕ)
+  pub more : List (List ℕ)
+  pub parts : lines_of taken ≡ lines ++ more
+  pub stays : AllByRecursion (λ line. is_quit line ≡ false) lines
+  pub ends : Ends more
+  pub end : Talk
+  pub said : List ℕ
+  pub converses : Converses prompt begun lines end said
+  pub written : Writes (said ++ prompt_text prompt end)
+
+-- the dialogue from this state on went to its end, or as far as the fault allowed
+abbrev pub TalksOn : Bool → Talk → Option (List ℕ) → Option (List ℕ) → Option (List ℕ)
+    → Option (List ℕ) → Result (Unit {0}) Fault → Type 0
+TalksOn prompt begun left rest old new (Ok u) = TalksFrom prompt begun left rest (EndsAt rest) (Appends old new)
+TalksOn prompt begun left rest old new (Err OutOfMemory) = TalksFrom prompt begun left rest StopsAt
+    (AppendsFront old new)
+TalksOn prompt begun left rest old new (Err WriteFailed) = TalksFrom prompt begun left rest StopsAt
+    (AppendsFront old new)
+TalksOn prompt begun left rest old new (Err ReadFailed) = TalksFrom prompt begun left rest StopsAt (Appends old new)
+TalksOn prompt begun left rest old new (Err (BadScript n)) = ⊥
+TalksOn prompt begun left rest old new (Err TooLong) = ⊥
+
+-- The first lines of a text were answered without a prompt, and a beginning of what was said was written.
+pub record BeginsLines (text : List ℕ) (old new : Option (List ℕ)) : Type 0 where
+  pub lines : List (List ℕ)
+  pub more : List (List ℕ)
+  pub parts : lines_of text ≡ lines ++ more
+  pub end : Talk
+  pub said : List ℕ
+  pub converses : Converses false nothing_yet lines end said
+  pub written : AppendsFront old new said
+
+-- the script to begin with was answered and what was said was written, and then the dialogue went on as this says
+pub record Greets (first : Option (List ℕ)) (old : Option (List ℕ)) (GoesOn : Talk → Option (List ℕ)
+    → Type 0) : Type 0 where
+  pub begun : Talk
+  pub greeting : List ℕ
+  pub begins : Begins first begun greeting
+  pub mid : Option (List ℕ)
+  pub written : Appends old mid greeting
+  pub goes_on : GoesOn begun mid
+
+-- the first lines of the script to begin with were answered, and nothing was read
+abbrev pub StopsFirst : Option (List ℕ) → Option (List ℕ) → Option (List ℕ) → Option (List ℕ) → Option (List ℕ) → Type 0
+StopsFirst first left rest old new = (rest ≡ left) × MatchOption first ⊥ (λ text. BeginsLines text old new)
+
+-- The script to begin with was answered, and then the lines of the source; or as many as the fault allowed.
+abbrev pub Talks : Option (List ℕ) → Bool → Option (List ℕ) → Option (List ℕ) → Option (List ℕ)
+    → Option (List ℕ) → Result (Unit {0}) Fault → Type 0
+Talks first prompt left rest old new (Err (BadScript n)) = HasFault first (BadScript n)
+Talks first prompt left rest old new (Err TooLong) = HasFault first TooLong
+Talks first prompt left rest old new (Err OutOfMemory) =
+    StopsFirst first left rest old new
+    ⊎ Greets first old (λ begun mid. TalksOn prompt begun left rest mid new (Err OutOfMemory))
+Talks first prompt left rest old new (Err WriteFailed) =
+    StopsFirst first left rest old new
+    ⊎ Greets first old (λ begun mid. TalksOn prompt begun left rest mid new (Err WriteFailed))
+Talks first prompt left rest old new result = Greets first old
+    (λ begun mid. TalksOn prompt begun left rest mid new result)
+
+-- a bad script to begin with, or one that is too long, leaves the source and the sink as they were
+abbrev pub LeavesBoth : {R W : Type 0} → R → R → W → W → Fault → Type 0
+LeavesBoth from to old new (BadScript n) = (to ≡ from) × (new ≡ old)
+LeavesBoth from to old new TooLong = (to ≡ from) × (new ≡ old)
+LeavesBoth from to old new fault = Unit {0}

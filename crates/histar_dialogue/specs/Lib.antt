@@ -1,0 +1,10 @@
+-- The definitions of this crate that contracts cite.
+pub mod Input
+pub mod Texts
+pub mod Commands
+pub mod Running
+pub mod Refusals
+pub mod Session
+pub mod Steps
+pub mod Dialogue
+pub mod Exchange

@@ -1,0 +1,65 @@
+//! The text of a session, which grows by a line.
+ghost use Rattle.std.specs.Prelude.{◌≡◌, ◌+◌, ◌<◌, ◌≤◌, true, Err, IfErr, IfOk, OnOk, length};
+ghost use Rattle.histar_dialogue.specs.Texts.{SaysRule, with_line};
+ghost use Rattle.histar_script.specs.Lines.{lines_of, most_script_bytes, most_script_lines};
+ghost use Rattle.histar_script.specs.Reading.{script_of};
+
+use histar_lint::sentence_on;
+use histar_script::{Fault, split_line};
+use std::alloc::{AllocError, Global};
+
+/// The most bytes of a script.
+const MOST_SCRIPT_BYTES: usize = 1_048_576;
+
+/// The most lines of a script.
+const MOST_SCRIPT_LINES: usize = 16_384;
+
+/// Returns a text with one line more.
+pub(crate) fn with_line(alloc: Global, text: &[u8], line: &[u8]) -> Result<Vec<u8>, AllocError>
+    ensures { IfOk result (λ longer. longer.items ≡ with_line text.now line.now) }
+{
+    let mut longer = Vec::from_slice(alloc, text)?;
+    push_line(&mut longer, line)?;
+    Ok(longer)
+}
+
+/// Adds a line and its end.
+pub(crate) fn push_line(text: &mut Vec<u8>, line: &[u8]) -> Result<(), AllocError>
+    ensures { OnOk result (text.new.items ≡ with_line text.old.items line.now) }
+{
+    text.extend_from_slice(line)?;
+    text.extend_from_slice(b"\n")
+}
+
+/// Returns how many lines a text has.
+pub(crate) fn count_lines(text: &[u8]) -> usize
+    ensures { result ≡ length (lines_of text.now) }
+{
+    let mut rest = text;
+    let mut count = 0;
+    'lines: while !rest.is_empty() {
+        let (_, after) = split_line(rest);
+        rest = after;
+        count += 1;
+    }
+    count
+}
+
+/// Checks whether a text with this many lines may have this line more.
+pub(crate) fn has_room(text: &[u8], count: usize, line: &[u8]) -> bool
+    ensures lines { result ≡ true → count < most_script_lines }
+    ensures bytes { result ≡ true → length text.now + length line.now + 1 ≤ most_script_bytes }
+{
+    count < MOST_SCRIPT_LINES && line.len() < MOST_SCRIPT_BYTES.saturating_sub(text.len())
+}
+
+/// Returns the sentence of the rule that the first bad line of a text breaks, and a line end.
+pub(crate) fn rule_text(alloc: Global, text: &[u8], bad: u32) -> Result<Vec<u8>, Fault>
+    requires { script_of text.now ≡ Err (Fault.BadScript bad) }
+    ensures ok { IfOk result (λ said. SaysRule text.now bad said.items) }
+    ensures err { IfErr result (λ fault. fault ≡ Fault.OutOfMemory) }
+{
+    let mut said = sentence_on(alloc, text, bad)?;
+    said.push(b'\n')?;
+    Ok(said)
+}

@@ -1,0 +1,4 @@
+-- The lemmas of this crate.
+pub mod Marks
+pub mod ItemsTaken
+pub mod LinesRead

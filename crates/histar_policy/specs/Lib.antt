@@ -1,0 +1,8 @@
+-- The definitions of this crate that contracts cite.
+pub mod Names
+pub mod Notes
+pub mod Warnings
+pub mod Sets
+pub mod Answers
+pub mod Session
+pub mod Laws

@@ -1,0 +1,61 @@
+-- What a reader would want to know of a right script, a line each.
+use Rattle.std.specs.Prelude.{ℕ, Bool, List, [], ◌∷◌, ◌++◌, codes, Option, None, Some, if◌then◌else◌}
+use Rattle.std.specs.List.{list_any}
+use Rattle.std.specs.Option.{option_to_list}
+use Rattle.histar_flat.specs.Accounts.{has}
+use Rattle.histar_flat.specs.PathOrder.{under_process}
+use Rattle.histar_flat.specs.Texts.{process_text}
+use Rattle.histar_flat.specs.Words.{ProcName}
+use Rattle.histar_lint.specs.Session.{finding_text}
+use Rattle.histar_policy.specs.declared.notes.Event.{Event}
+use Rattle.histar_policy.specs.declared.notes.Event.TheVariants.{IsGone, Starts, StartsJob, WrongPassword}
+use Rattle.histar_policy.specs.declared.notes.Note.{Note}
+
+-- a call line of the script is of a process of this job
+abbrev pub is_used : List Note → ProcName → Bool
+is_used script job = list_any (λ (note : Note). under_process job note.process) script
+
+-- the sentence that a process was never started
+abbrev pub never_started : ProcName → List ℕ
+never_started me = process_text me ++ codes " was never started"
+
+-- the sentence that a job is never used
+abbrev pub never_used : ProcName → List ℕ
+never_used job = codes "job " ++ process_text job ++ codes " is never used"
+
+-- the sentence that a password is not the user's
+abbrev pub wrong_password : List ℕ → List ℕ
+wrong_password user = codes "that is not the password of " ++ user
+
+-- the sentence on what a call line of this process says, given the script and the processes started above it
+abbrev pub sentence_on : List Note → List ProcName → ProcName → Event → Option (List ℕ)
+sentence_on script started me IsGone = if has started me then None else Some (never_started me)
+sentence_on script started me (StartsJob job) = if is_used script job then None else Some (never_used job)
+sentence_on script started me (WrongPassword user) = Some (wrong_password user)
+sentence_on script started me event = None
+
+-- the line of a warning, if there is one
+abbrev pub warning_line : List ℕ → ℕ → Option (List ℕ) → List ℕ
+warning_line file n None = []
+warning_line file n (Some said) = finding_text file n said
+
+-- the process that was started, if one was
+abbrev pub child_of : Event → Option ProcName
+child_of (Starts child) = Some child
+child_of (StartsJob child) = Some child
+child_of event = None
+
+-- the processes that were started, and the one that this event started
+abbrev pub with_child : List ProcName → Event → List ProcName
+with_child started event = started ++ option_to_list (child_of event)
+
+-- the warnings on these call lines of a script, given the processes that were started above them
+abbrev pub warnings_from : List ℕ → List Note → List ProcName → List Note → List ℕ
+warnings_from file script started [] = []
+warnings_from file script started (note ∷ notes) =
+    warning_line file note.line (sentence_on script started note.process note.event)
+    ++ warnings_from file script (with_child started note.event) notes
+
+-- the warnings on a script's call lines: process 0 is there at the start
+abbrev pub warnings_text : List ℕ → List Note → List ℕ
+warnings_text file script = warnings_from file script ([] ∷ []) script
