@@ -1,10 +1,10 @@
 -- A session that is right answers a line as it should, and stays right.
 use Rattle.std.proofs.Common.{◌≡◌, ℕ, ◌+◌, ◌<◌, ◌≤◌, Bool, true, false, List}
 use Rattle.std.proofs.Common.{[], ◌∷◌, ◌++◌, length, Option, None, Some, Result, Ok, Err}
-use Rattle.std.proofs.Common.{refl, sym, ap, subst, ◌∙◌, inl, arith, append-nil}
+use Rattle.std.proofs.Common.{refl, sym, ap, subst, ◌∙◌, inl, inr, arith, append-nil}
 use Rattle.std.proofs.lemmas.Bool.{false≢true, le-ltb, lt-ltb, ltb-true}
 use Rattle.std.proofs.lemmas.List.Elements.{All-head, All-tail}
-use Rattle.std.specs.Prelude.{All, IfSome, IsTrue, MatchBool, is_some, nat_lt}
+use Rattle.std.specs.Prelude.{All, IfSome, IsOk, IsTrue, MatchBool, is_some, nat_lt}
 use Rattle.histar_flat.specs.declared.calls.CallLine.{CallLine}
 use Rattle.histar_flat.specs.declared.calls.UnixCall.{UnixCall}
 use Rattle.histar_flat.specs.Accounts.{Accounts}
@@ -26,7 +26,8 @@ use Rattle.histar_dialogue.specs.declared.running.Running.{Running}
 use Rattle.histar_dialogue.specs.declared.session.Session.{Session}
 use Rattle.histar_dialogue.specs.Commands.{too_long_text}
 use Rattle.histar_dialogue.specs.Running.{Ran, Represents, answer_text, answers_behind, said_behind}
-use Rattle.histar_dialogue.specs.Session.{AnswersLine, AnswersRead, FollowsBy, IsNew, IsRight, IsRunning, talk_of, with_text}
+use Rattle.histar_dialogue.specs.Session.{AnswersLine, AnswersRead, FollowsBy, IsBegun, IsNew, IsRight, IsRunning, talk_of}
+use Rattle.histar_dialogue.specs.Talk.{with_text}
 use Rattle.histar_dialogue.specs.Steps.{AnswersOn, IsPushed, IsRestarted, MayGrow, Refuses}
 use Rattle.histar_dialogue.specs.Texts.{SaysRule, with_line}
 use Rattle.histar_dialogue.proofs.InputLines.{nothing_left}
@@ -55,6 +56,18 @@ module _ (first : ℕ) (accounts : Accounts) where
       (last_behind (flat_after accounts f d.process d.call) calls c
       (All-tail (λ (e : CallLine). (0 < e.line) × (e.line ≤ first)) d calls here) lt)
 
+-- ---- a session of which no line was taken back
+
+-- the text of a session is a script, or has no user as yet
+pub begun : (text : List ℕ) (found : Option Running) → IsRunning text found → IsBegun text
+begun text None runs = inr runs
+begun text (Some r) runs = inl (subst IsOk (sym runs.1.is_script) refl)
+
+-- with no line behind it it is the same
+whole_alone : (text undone : List ℕ) (found : Option Running) → IsRunning text found → undone ≡ [] → IsBegun (text ++ undone)
+whole_alone text undone found runs none =
+    subst IsBegun (sym (ap (λ (l : List ℕ). text ++ l) none ∙ append-nil text)) (begun text found runs)
+
 -- ---- a line that was added to the text
 
 module _ (old mid : Session) (line : List ℕ) (grows : MayGrow old line) (pushed : IsPushed old mid line) where
@@ -73,6 +86,8 @@ module _ (old mid : Session) (line : List ℕ) (grows : MayGrow old line) (pushe
         pushed.count ∙ ap (λ (n : ℕ). n + 1) right.count ∙ sym (one_line_more before line i right.ends item)
         ∙ ap (λ (l : List ℕ). length (lines_of l)) (sym pushed.text);
     running = subst (λ (l : List ℕ). IsRunning l next) (sym pushed.text) runs;
+    undone_ends = inl pushed.undone;
+    whole = whole_alone mid.text.items mid.undone.items next (subst (λ (l : List ℕ). IsRunning l next) (sym pushed.text) runs) pushed.undone;
   }
 
   -- what the line says was added to the script
@@ -87,7 +102,7 @@ module _ (old mid : Session) (line : List ℕ) (grows : MayGrow old line) (pushe
       → said ≡ said_behind (length (lines_of before)) t → AnswersLine (talk_of old) line (talk_of (record mid { running = next })) said
   answered_now next t said is said_is =
       subst (λ (r : Result ScriptModel Fault). AnswersRead (talk_of old) longer r (talk_of (record mid { running = next })) said) (sym is)
-      ((λ i. record { text = pushed.text i; undone = pushed.undone i }), said_is)
+      ((λ i. record { text = pushed.text i; undone = pushed.undone i; speaker = pushed.speaker i }), said_is)
 
   pub comment_taken : item_of line ≡ Some items.Comment → FollowsBy AnswersLine old mid line []
   comment_taken item right = by old.running refl grows.running right.running
@@ -159,18 +174,23 @@ module _ (old new : Session) (line text : List ℕ) (is : text ≡ with_line old
       (subst (λ (r : Result ScriptModel Fault). AnswersRead (talk_of old) text r (talk_of new) said) (sym reads) answers)
 
   -- the session is right if it has the text and a machine that has run it
-  right_then : (found : Option Running) → IsRestarted new text found → IsRunning text found → IsRight new
+  right_then : (found : Option Running) → IsRestarted old new text found → IsRunning text found → IsRight new
   right_then found restarted runs = record {
     ends = subst EndsItsLines (sym (restarted.text ∙ is)) (ends_then old.text.items line);
     count = restarted.count ∙ ap (λ (l : List ℕ). length (lines_of l)) (sym restarted.text);
-    running = subst (λ (l : List ℕ). IsRunning l new.running) (sym restarted.text) (subst (IsRunning text) (sym restarted.running) runs);
+    running = runs_now;
+    undone_ends = inl restarted.undone;
+    whole = whole_alone new.text.items new.undone.items new.running runs_now restarted.undone;
   }
+    where
+      runs_now : IsRunning new.text.items new.running
+      runs_now = subst (λ (l : List ℕ). IsRunning l new.running) (sym restarted.text) (subst (IsRunning text) (sym restarted.running) runs)
 
-  pub ran_again : (r : Running) (said : List ℕ) → Ran old.count text r said → IsRestarted new text (Some r)
+  pub ran_again : (r : Running) (said : List ℕ) → Ran old.count text r said → IsRestarted old new text (Some r)
       → FollowsBy AnswersLine old new line said
   ran_again r said ran restarted right = (
     answered_by said (Ok ran.script) ran.has_run.is_script (
-      (λ i. record { text = restarted.text i; undone = restarted.undone i }),
+      (λ i. record { text = restarted.text i; undone = restarted.undone i; speaker = restarted.speaker i }),
       ran.said
           ∙ ap (λ (n : ℕ). said_behind n ran.script) right.count,
     ),
@@ -182,18 +202,18 @@ module _ (old new : Session) (line text : List ℕ) (is : text ≡ with_line old
   refused bad said reads refuses right = by (nat_lt (length (lines_of text)) bad) refl refuses
     where
       by : (b : Bool) → nat_lt (length (lines_of text)) bad ≡ b
-          → MatchBool b (IsRestarted new text None × (said ≡ [])) ((new ≡ old) × SaysRule text bad said)
+          → MatchBool b (IsRestarted old new text None × (said ≡ [])) ((new ≡ old) × SaysRule text bad said)
           → AnswersLine (talk_of old) line (talk_of new) said × IsRight new
       by true e here = (
         answered_by said (Err (BadScript bad)) reads
-            (subst (λ (b : Bool). MatchBool b ((talk_of new ≡ with_text text) × (said ≡ [])) ((talk_of new ≡ talk_of old)
+            (subst (λ (b : Bool). MatchBool b ((talk_of new ≡ with_text (talk_of old) text) × (said ≡ [])) ((talk_of new ≡ talk_of old)
             × SaysRule text bad said))
-            (sym e) ((λ i. record { text = here.0.text i; undone = here.0.undone i }), here.1)),
+            (sym e) ((λ i. record { text = here.0.text i; undone = here.0.undone i; speaker = here.0.speaker i }), here.1)),
         right_then None here.0 (lacks_user text bad reads (ltb-true (length (lines_of text)) bad e)),
       )
       by false e here = (
         answered_by said (Err (BadScript bad)) reads
-            (subst (λ (b : Bool). MatchBool b ((talk_of new ≡ with_text text) × (said ≡ [])) ((talk_of new ≡ talk_of old)
+            (subst (λ (b : Bool). MatchBool b ((talk_of new ≡ with_text (talk_of old) text) × (said ≡ [])) ((talk_of new ≡ talk_of old)
             × SaysRule text bad said))
             (sym e) (ap talk_of here.0, here.1)),
         subst IsRight (sym here.0) right,
@@ -207,14 +227,19 @@ too_long old line text said is reads said_is right = (answered_by old old line t
 -- ---- the first session, and each line
 
 -- a session of no lines is right
-pub new_right : (s : Session) → s.text.items ≡ [] → s.undone.items ≡ [] → s.count ≡ 0 → s.running ≡ None → IsNew s
-new_right s text undone count running = (
-  (λ i. record { text = text i; undone = undone i }),
+pub new_right : (s : Session) → s.text.items ≡ [] → s.undone.items ≡ [] → s.count ≡ 0 → s.running ≡ None → s.speaker ≡ None → IsNew s
+new_right s text undone count running speaker = (
+  (λ i. record { text = text i; undone = undone i; speaker = speaker i }),
   record {
     ends = inl text;
     count = count ∙ ap length (sym nothing_left) ∙ ap (λ (l : List ℕ). length (lines_of l)) (sym text);
-    running =
-        subst (λ (l : List ℕ). IsRunning l s.running) (sym text)
-        (subst (IsRunning []) (sym running) (nothing_is_bad ∙ ap (λ (n : ℕ). Err (BadScript (n + 1))) (sym (ap length nothing_left))));
+    running = runs;
+    undone_ends = inl undone;
+    whole = whole_alone s.text.items s.undone.items s.running runs undone;
   },
 )
+  where
+    runs : IsRunning s.text.items s.running
+    runs =
+        subst (λ (l : List ℕ). IsRunning l s.running) (sym text)
+        (subst (IsRunning []) (sym running) (nothing_is_bad ∙ ap (λ (n : ℕ). Err (BadScript (n + 1))) (sym (ap length nothing_left))))

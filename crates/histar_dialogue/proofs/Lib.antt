@@ -1,6 +1,9 @@
 -- The lemmas of this crate.
 pub mod InputLines
 pub mod MoreLines
+pub mod Fronts
 pub mod Following
+pub mod Becoming
+pub mod Showing
 pub mod Talking
 pub mod Runs

@@ -56,7 +56,7 @@ unfolding lines_of
 no_text rest = refl
 
 -- the lines of a text that ends its lines, and of what comes after it
-lines_after : (text rest : List ℕ) → EndsItsLines text → lines_of (text ++ rest) ≡ lines_of text ++ lines_of rest
+pub lines_after : (text rest : List ℕ) → EndsItsLines text → lines_of (text ++ rest) ≡ lines_of text ++ lines_of rest
 lines_after text rest (inl none) = subst (λ (t : List ℕ). lines_of (t ++ rest) ≡ lines_of t ++ lines_of rest) (sym none) (no_text rest)
 lines_after text rest (inr ends) =
     subst (λ (t : List ℕ). lines_of (t ++ rest) ≡ lines_of t ++ lines_of rest) (sym ends.1)
@@ -72,7 +72,7 @@ pub ends_then : (text line : List ℕ) → EndsItsLines (with_line text line)
 ends_then text line = inr (text ++ line, sym (append_assoc text line (10 ∷ [])))
 
 -- the script of a text that is not too long
-read_of : (text : List ℕ) (s : ScriptModel) → script_of text ≡ Ok s → reading text ≡ Ok s
+pub read_of : (text : List ℕ) (s : ScriptModel) → script_of text ≡ Ok s → reading text ≡ Ok s
 read_of text s is = by (is_too_long text) is
   where
     by : (t : Bool) → (if t then Err TooLong else reading text) ≡ Ok s → reading text ≡ Ok s
@@ -80,7 +80,7 @@ read_of text s is = by (is_too_long text) is
     by false e = e
 
 -- the limits of a script are kept
-within : (text : List ℕ) → length text ≤ most_script_bytes → length (lines_of text) ≤ most_script_lines → is_too_long text ≡ false
+pub within : (text : List ℕ) → length text ≤ most_script_bytes → length (lines_of text) ≤ most_script_lines → is_too_long text ≡ false
 within text bytes lines =
     let few : ltb most_script_bytes (length text) ≡ false = search (rules, tests) in
     let short : ltb most_script_lines (length (lines_of text)) ≡ false = search (rules, tests) in
@@ -128,7 +128,7 @@ pub numbered_by : (text : List ℕ) (s : ScriptModel) → script_of text ≡ Ok 
 numbered_by text s is = (numbered text s (found_from text s (read_of text s is))).within
 
 -- a bad text is not too long
-bad_of : (text : List ℕ) (n : ℕ) → script_of text ≡ Err (BadScript n) → (is_too_long text ≡ false) × (reading text ≡ Err (BadScript n))
+pub bad_of : (text : List ℕ) (n : ℕ) → script_of text ≡ Err (BadScript n) → (is_too_long text ≡ false) × (reading text ≡ Err (BadScript n))
 bad_of text n is = by (is_too_long text) refl is
   where
     by : (t : Bool) → is_too_long text ≡ t → (if t then Err TooLong else reading text) ≡ Err (BadScript n)

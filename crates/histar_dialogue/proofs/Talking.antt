@@ -20,7 +20,8 @@ use Rattle.histar_dialogue.specs.declared.session.Session.{Session}
 use Rattle.histar_dialogue.specs.Dialogue.{BeginsLines, Converses, EndsAt, Greets, StopsAt, Talks, TalksFrom, TalksOn, is_quit, prompt_text}
 use Rattle.histar_dialogue.specs.Exchange.{AnswersLines, AnswersTo, BeginsAnswer, BeginsFile, BeginsFirst, BeginsWith}
 use Rattle.histar_dialogue.specs.Input.{FailsReading, IsEmptyInput, Pulls, TakesNext, WaitsBehind}
-use Rattle.histar_dialogue.specs.Session.{Answers, IsNew, IsRight, Talk, nothing_yet, talk_of}
+use Rattle.histar_dialogue.specs.Session.{Answers, IsNew, IsRight, talk_of}
+use Rattle.histar_dialogue.specs.Talk.{Talk, nothing_yet}
 
 -- a whole text was written, and then a beginning of what follows, behind which more may come
 pub front_after : (a b c : Option (List ℕ)) (text next rest : List ℕ) → Appends a b text → AppendsFront b c next

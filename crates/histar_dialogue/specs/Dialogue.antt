@@ -11,7 +11,8 @@ use Rattle.histar_script.specs.declared.fault.Fault.TheVariants.{BadScript, TooL
 use Rattle.histar_script.specs.declared.fault.Fault.TheVariants.{OutOfMemory, ReadFailed, WriteFailed}
 use Rattle.histar_script.specs.Lines.{lines_of}
 use Rattle.histar_script.specs.Reading.{script_of}
-use Rattle.histar_dialogue.specs.Session.{Answers, Talk, nothing_yet}
+use Rattle.histar_dialogue.specs.Session.{Answers}
+use Rattle.histar_dialogue.specs.Talk.{Talk, nothing_yet}
 
 -- the line ends the dialogue
 abbrev pub is_quit : List ℕ → Bool

@@ -9,7 +9,8 @@ use Rattle.histar_script.specs.Lines.{lines_of}
 use Rattle.histar_script.specs.Reading.{script_of}
 use Rattle.histar_dialogue.specs.declared.session.Session.{Session}
 use Rattle.histar_dialogue.specs.Dialogue.{Begins, BeginsLines, Converses}
-use Rattle.histar_dialogue.specs.Session.{Answers, IsRight, Talk, nothing_yet, talk_of}
+use Rattle.histar_dialogue.specs.Session.{Answers, IsRight, talk_of}
+use Rattle.histar_dialogue.specs.Talk.{Talk, nothing_yet}
 
 -- a session answered a line, and the answer was written
 pub record AnswersTo (before after : Session) (line : List ℕ) (old new : Option (List ℕ)) : Type 0 where

@@ -2,6 +2,8 @@
 pub mod Input
 pub mod Texts
 pub mod Commands
+pub mod Talk
+pub mod Asked
 pub mod Running
 pub mod Refusals
 pub mod Session

@@ -24,19 +24,21 @@ pub record IsPushed (old new : Session) (line : List ℕ) : Type 0 where
   pub undone : new.undone.items ≡ []
   pub count : new.count ≡ old.count + 1
   pub running : new.running ≡ old.running
+  pub speaker : new.speaker ≡ old.speaker
 
 -- the session has this text, which was counted, and this machine
-pub record IsRestarted (new : Session) (longer : List ℕ) (found : Option Running) : Type 0 where
+pub record IsRestarted (old new : Session) (longer : List ℕ) (found : Option Running) : Type 0 where
   pub text : new.text.items ≡ longer
   pub undone : new.undone.items ≡ []
   pub count : new.count ≡ length (lines_of longer)
   pub running : new.running ≡ found
+  pub speaker : new.speaker ≡ old.speaker
 
 -- a text whose first bad line has this number is the session now, if only a user is missing; else the session stays, and the answer is the
 -- sentence of the rule that the line breaks
 abbrev pub Refuses : Session → Session → List ℕ → ℕ → List ℕ → Type 0
 Refuses old new longer bad said =
-    MatchBool (nat_lt (length (lines_of longer)) bad) (IsRestarted new longer None × (said ≡ []))
+    MatchBool (nat_lt (length (lines_of longer)) bad) (IsRestarted old new longer None × (said ≡ []))
     ((new ≡ old) × SaysRule longer bad said)
 
 -- the machine that runs answered a call, if there is one

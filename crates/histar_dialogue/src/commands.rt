@@ -1,20 +1,55 @@
 //! What a line that begins with a colon asks for.
 ghost use Rattle.std.specs.Prelude.{◌≡◌, IfOk};
-ghost use Rattle.histar_dialogue.specs.Commands.{command_of, help_text, is_command, too_long_text, unknown_text};
+ghost use Rattle.histar_dialogue.specs.Commands.{command_alone, command_of, command_with, help_text, is_command};
+ghost use Rattle.histar_dialogue.specs.Commands.{count_of, misused_text, no_call_text, no_user_text, too_long_text, unknown_text};
 
+use histar_flat::{Path, ProcName, read_number, read_path, read_process};
+use histar_script::split_word;
 use std::alloc::{AllocError, Global};
 
+/// The most lines that one command takes back or enters again, which is as many as a script has.
+const MOST_LINES: u64 = 16_384;
+
+/// What may be shown of a session.
+pub(crate) enum Asked {
+    /// What each process may do at each path.
+    Access,
+    /// What each process may do at one path.
+    AccessAt(Path),
+    /// Whom the file at a path rests on.
+    Trust(Path),
+    /// How what is at a path is revealed and changed.
+    Leak(Path),
+    /// To whom each process can pass on what it learns.
+    Flows,
+    /// Each file and directory.
+    Tree,
+    /// Each raw call.
+    Trace,
+}
+
 /// What a line that begins with a colon asks for.
-#[derive(Clone, Copy)]
 pub(crate) enum Command {
     /// The list of what may be asked for.
     Help,
     /// Why the last refused call was refused.
     Why,
+    /// What the subcommand of the program writes for the session.
+    Show(Asked),
+    /// Takes back so many lines.
+    Undo(u64),
+    /// Enters so many lines again that were taken back.
+    Redo(u64),
+    /// Reads lines that begin with no process as lines of this one, or as they are.
+    As(Option<ProcName>),
+    /// Adds the last reply as the expected one.
+    Expect,
     /// The session itself.
     Session,
     /// The end.
     Quit,
+    /// A command with other words than it takes.
+    Misused,
     /// There is no such command.
     Unknown,
 }
@@ -33,19 +68,95 @@ pub(crate) fn is_command(line: &[u8]) -> bool
 pub(crate) fn command_of(line: &[u8]) -> Command
     ensures { result ≡ command_of line.now }
 {
-    if line == b":help".as_slice() {
-        return Command::Help;
+    match split_word(line) {
+        (word, None) => command_alone(word),
+        (word, Some(argument)) => command_with(word, argument),
     }
-    if line == b":why".as_slice() {
-        return Command::Why;
+}
+
+/// Returns what a word alone asks for.
+fn command_alone(word: &[u8]) -> Command
+    ensures { result ≡ command_alone word.now }
+{
+    if word == b":help".as_slice() {
+        Command::Help
+    } else if word == b":why".as_slice() {
+        Command::Why
+    } else if word == b":access".as_slice() {
+        Command::Show(Asked::Access)
+    } else if word == b":flows".as_slice() {
+        Command::Show(Asked::Flows)
+    } else if word == b":tree".as_slice() {
+        Command::Show(Asked::Tree)
+    } else if word == b":trace".as_slice() {
+        Command::Show(Asked::Trace)
+    } else if word == b":undo".as_slice() {
+        Command::Undo(1)
+    } else if word == b":redo".as_slice() {
+        Command::Redo(1)
+    } else if word == b":as".as_slice() {
+        Command::As(None)
+    } else if word == b":expect".as_slice() {
+        Command::Expect
+    } else if word == b":session".as_slice() {
+        Command::Session
+    } else if word == b":quit".as_slice() {
+        Command::Quit
+    } else if word == b":trust".as_slice() || word == b":leak".as_slice() {
+        Command::Misused
+    } else {
+        Command::Unknown
     }
-    if line == b":session".as_slice() {
-        return Command::Session;
+}
+
+/// Returns what a word asks for with what is behind it.
+fn command_with(word: &[u8], argument: &[u8]) -> Command
+    ensures { result ≡ command_with word.now argument.now }
+{
+    if word == b":access".as_slice() {
+        return match read_path(argument) {
+            Some(path) => Command::Show(Asked::AccessAt(path)),
+            None => Command::Misused,
+        };
     }
-    if line == b":quit".as_slice() {
-        return Command::Quit;
+    if word == b":trust".as_slice() {
+        return match read_path(argument) {
+            Some(path) => Command::Show(Asked::Trust(path)),
+            None => Command::Misused,
+        };
+    }
+    if word == b":leak".as_slice() {
+        return match read_path(argument) {
+            Some(path) => Command::Show(Asked::Leak(path)),
+            None => Command::Misused,
+        };
+    }
+    if word == b":undo".as_slice() {
+        return match count_of(argument) {
+            Some(count) => Command::Undo(count),
+            None => Command::Misused,
+        };
+    }
+    if word == b":redo".as_slice() {
+        return match count_of(argument) {
+            Some(count) => Command::Redo(count),
+            None => Command::Misused,
+        };
+    }
+    if word == b":as".as_slice() {
+        return match read_process(argument) {
+            Some(process) => Command::As(Some(process)),
+            None => Command::Misused,
+        };
     }
     Command::Unknown
+}
+
+/// Returns the number of lines that a word spells.
+fn count_of(word: &[u8]) -> Option<u64>
+    ensures { result ≡ count_of word.now }
+{
+    read_number(word, MOST_LINES)
 }
 
 /// Returns the list of what may be asked for.
@@ -53,10 +164,26 @@ pub(crate) fn help_text(alloc: Global) -> Result<Vec<u8>, AllocError>
     ensures { IfOk result (λ text. text.items ≡ help_text) }
 {
     let mut text = Vec::new(alloc);
-    text.extend_from_slice(b":help     this list\n")?;
-    text.extend_from_slice(b":why      why the last call that was refused was refused\n")?;
-    text.extend_from_slice(b":session  the session, which is a script\n")?;
-    text.extend_from_slice(b":quit     ends, as the end of input does\n")?;
+    text.extend_from_slice(b":help           this list\n")?;
+    text.extend_from_slice(b":why            why the last call that was refused was refused\n")?;
+    text.extend_from_slice(
+        b":access [PATH]  what each process may do, at each path or at this one\n",
+    )?;
+    text.extend_from_slice(b":trust PATH     whom the file at this path rests on\n")?;
+    text.extend_from_slice(b":leak PATH      how what is at this path is revealed and changed\n")?;
+    text.extend_from_slice(b":flows          to whom each process can pass on what it learns\n")?;
+    text.extend_from_slice(b":tree           each file and directory\n")?;
+    text.extend_from_slice(b":trace          each raw call, and why it was denied\n")?;
+    text.extend_from_slice(b":undo [N]       takes back the last line, or the last N lines\n")?;
+    text.extend_from_slice(
+        b":redo [N]       enters the next line that was taken back, or the next N\n",
+    )?;
+    text.extend_from_slice(
+        b":as [PROC]      reads a line that begins with no process as one of PROC\n",
+    )?;
+    text.extend_from_slice(b":expect         adds the last reply as the expected one\n")?;
+    text.extend_from_slice(b":session        the session, which is a script\n")?;
+    text.extend_from_slice(b":quit           ends, as the end of input does\n")?;
     Ok(text)
 }
 
@@ -70,9 +197,33 @@ pub(crate) fn unknown_text(alloc: Global) -> Result<Vec<u8>, AllocError>
     )
 }
 
+/// Returns the answer to a command with other words than it takes.
+pub(crate) fn misused_text(alloc: Global) -> Result<Vec<u8>, AllocError>
+    ensures { IfOk result (λ text. text.items ≡ misused_text) }
+{
+    Vec::from_slice(
+        alloc,
+        b"the command takes other words (:help lists them)\n".as_slice(),
+    )
+}
+
 /// Returns the answer to a line with which the session would be too long.
 pub(crate) fn too_long_text(alloc: Global) -> Result<Vec<u8>, AllocError>
     ensures { IfOk result (λ text. text.items ≡ too_long_text) }
 {
     Vec::from_slice(alloc, b"the session would be too long\n".as_slice())
+}
+
+/// Returns the answer where a session with a user is asked for.
+pub(crate) fn no_user_text(alloc: Global) -> Result<Vec<u8>, AllocError>
+    ensures { IfOk result (λ text. text.items ≡ no_user_text) }
+{
+    Vec::from_slice(alloc, b"the session has no user\n".as_slice())
+}
+
+/// Returns the answer where a reply is asked for.
+pub(crate) fn no_call_text(alloc: Global) -> Result<Vec<u8>, AllocError>
+    ensures { IfOk result (λ text. text.items ≡ no_call_text) }
+{
+    Vec::from_slice(alloc, b"no call was made\n".as_slice())
 }

@@ -1,15 +1,22 @@
 //! A session that grows by the lines that are entered, and the answer to each line.
-ghost use Rattle.std.specs.Prelude.{◌≡◌, ◌+◌, Err, IfErr, IfOk, IfSome, IsTrue, OnOk, Some, is_some, length, true};
-ghost use Rattle.histar_dialogue.specs.Session.{AnswersLine, Follows, FollowsBy, IsNew, IsRight, Obeys};
+ghost use Rattle.std.specs.Prelude.{◌≡◌, ◌+◌, Err, IfErr, IfOk, IfSome, IsTrue, OnOk, Some, is_some, length, true, option_map};
+ghost use Rattle.histar_dialogue.specs.Session.{AnswersLine, AnswersSpoken, Becomes, Expects, ExpectsLast, Follows, FollowsBy};
+ghost use Rattle.histar_dialogue.specs.Session.{FollowsSo, IsNew, IsRight, Obeys, ObeysCommand};
 ghost use Rattle.histar_dialogue.specs.Steps.{AnswersOn, HasRoom, IsPushed, IsRestarted, MayGrow, Refuses};
 ghost use Rattle.histar_script.specs.Lines.{lines_of};
 ghost use Rattle.histar_script.specs.Reading.{item_of, script_of};
 ghost use Rattle.histar_script.specs.Script.{is_declared_call};
 
-use crate::commands::{Command, command_of, help_text, is_command, too_long_text, unknown_text};
+use crate::asked::{expecting, or_no_user, replies_of, shown};
+use crate::commands::{
+    Command, command_of, help_text, is_command, misused_text, no_call_text, too_long_text,
+    unknown_text,
+};
 use crate::refusals::why_text;
 use crate::running::{Running, run_behind};
-use crate::texts::{count_lines, has_room, push_line, rule_text, with_line};
+use crate::speaking::spoken;
+use crate::texts::{count_lines, has_room, joined, push_line, rule_text, with_line};
+use crate::undoing::bytes_of_lines;
 use histar_flat::{CallLine, ProcName, UnixCall};
 use histar_script::{Fault, Item, is_declared_call, read_item};
 use std::alloc::{AllocError, Global};
@@ -21,6 +28,7 @@ pub struct Session {
     undone: Vec<u8>,
     count: usize,
     running: Option<Running>,
+    speaker: Option<ProcName>,
 }
 
 impl Session {
@@ -33,6 +41,7 @@ impl Session {
             undone: Vec::new(alloc),
             count: 0,
             running: None,
+            speaker: None,
         }
     }
 
@@ -55,25 +64,123 @@ impl Session {
         ensures err { IfErr result (λ fault. fault ≡ Fault.OutOfMemory) }
     {
         if is_command(line) {
-            self.obey(alloc, line)
+            self.obey(alloc, command_of(line))
         } else {
-            self.take(alloc, line)
+            self.take_spoken(alloc, line)
         }
     }
 
     /// Does what a command asks for.
-    fn obey(&mut self, alloc: Global, line: &[u8]) -> Result<Vec<u8>, Fault>
-        ensures ok { IfOk result (λ said. FollowsBy Obeys self.old self.new line.now said.items) }
+    fn obey(&mut self, alloc: Global, command: Command) -> Result<Vec<u8>, Fault>
+        ensures ok { IfOk result (λ said. FollowsSo (ObeysCommand command) self.old self.new said.items) }
         ensures err { IfErr result (λ fault. fault ≡ Fault.OutOfMemory) }
     {
-        let said = match command_of(line) {
-            Command::Help => help_text(alloc)?,
-            Command::Why => why_text(alloc, self.text.as_slice())?,
-            Command::Session => Vec::from_slice(alloc, self.text.as_slice())?,
-            Command::Quit => Vec::new(alloc),
-            Command::Unknown => unknown_text(alloc)?,
-        };
-        Ok(said)
+        match command {
+            Command::Help => Ok(help_text(alloc)?),
+            Command::Why => why_text(alloc, self.text.as_slice()),
+            Command::Show(asked) => shown(alloc, self.text.as_slice(), asked),
+            Command::Undo(count) => self.undo(alloc, count),
+            Command::Redo(count) => self.redo(alloc, count),
+            Command::As(process) => {
+                self.speaker = process;
+                Ok(Vec::new(alloc))
+            }
+            Command::Expect => self.expect(alloc),
+            Command::Session => Ok(Vec::from_slice(alloc, self.text.as_slice())?),
+            Command::Quit => Ok(Vec::new(alloc)),
+            Command::Misused => Ok(misused_text(alloc)?),
+            Command::Unknown => Ok(unknown_text(alloc)?),
+        }
+    }
+
+    /// Takes back the last lines, so many or all.
+    fn undo(&mut self, alloc: Global, count: u64) -> Result<Vec<u8>, Fault>
+        ensures ok { IfOk result (λ said. FollowsSo (ObeysCommand (Command.Undo count)) self.old self.new said.items) }
+        ensures err { IfErr result (λ fault. fault ≡ Fault.OutOfMemory) }
+    {
+        let kept = (self.count as u64).saturating_sub(count);
+        let at = bytes_of_lines(self.text.as_slice(), kept);
+        let (front, back) = self.text.as_slice().split_at(at);
+        let text = Vec::from_slice(alloc, front)?;
+        let undone = joined(alloc, back, self.undone.as_slice())?;
+        let first = self.count;
+        let _answers = self.turn_into(alloc, text, undone, first)?;
+        Ok(Vec::new(alloc))
+    }
+
+    /// Enters the first lines again of those that were taken back, so many or all.
+    fn redo(&mut self, alloc: Global, count: u64) -> Result<Vec<u8>, Fault>
+        ensures ok { IfOk result (λ said. FollowsSo (ObeysCommand (Command.Redo count)) self.old self.new said.items) }
+        ensures err { IfErr result (λ fault. fault ≡ Fault.OutOfMemory) }
+    {
+        let at = bytes_of_lines(self.undone.as_slice(), count);
+        let (front, back) = self.undone.as_slice().split_at(at);
+        let text = joined(alloc, self.text.as_slice(), front)?;
+        let undone = Vec::from_slice(alloc, back)?;
+        let first = self.count;
+        self.turn_into(alloc, text, undone, first)
+    }
+
+    /// Takes a text for the session, and these lines for those that were taken back, and returns the
+    /// answers to the calls behind the first lines.
+    fn turn_into(
+        &mut self,
+        alloc: Global,
+        text: Vec<u8>,
+        undone: Vec<u8>,
+        first: usize,
+    ) -> Result<Vec<u8>, Fault>
+        ensures ok { IfOk result (λ said. Becomes first self.old self.new text.items undone.items said.items) }
+        ensures err { IfErr result (λ fault. fault ≡ Fault.OutOfMemory) }
+    {
+        match run_behind(alloc, text.as_slice(), first) {
+            Ok((running, said)) => {
+                self.restart(text, Some(running));
+                self.undone = undone;
+                Ok(said)
+            }
+            Err(Fault::BadScript(_)) => {
+                self.restart(text, None);
+                self.undone = undone;
+                Ok(Vec::new(alloc))
+            }
+            Err(_) => Err(Fault::OutOfMemory),
+        }
+    }
+
+    /// Takes the comment that expects the last reply as a line.
+    fn expect(&mut self, alloc: Global) -> Result<Vec<u8>, Fault>
+        ensures ok { IfOk result (λ said. FollowsSo Expects self.old self.new said.items) }
+        ensures err { IfErr result (λ fault. fault ≡ Fault.OutOfMemory) }
+    {
+        match replies_of(alloc, self.text.as_slice()) {
+            Ok(replies) => {
+                let found = expecting(alloc, replies.as_slice())?;
+                self.take_expected(alloc, found)
+            }
+            Err(fault) => or_no_user(alloc, Err(fault)),
+        }
+    }
+
+    /// Takes a comment that expects a reply as a line, if there is one.
+    fn take_expected(&mut self, alloc: Global, found: Option<Vec<u8>>) -> Result<Vec<u8>, Fault>
+        ensures ok { IfOk result (λ said. FollowsSo (λ talk. ExpectsLast talk (option_map (λ line. line.items) found))
+            self.old self.new said.items) }
+        ensures err { IfErr result (λ fault. fault ≡ Fault.OutOfMemory) }
+    {
+        match found {
+            None => Ok(no_call_text(alloc)?),
+            Some(line) => self.take(alloc, line.as_slice()),
+        }
+    }
+
+    /// Takes a line, behind the process as which it is read if it lacks one.
+    fn take_spoken(&mut self, alloc: Global, line: &[u8]) -> Result<Vec<u8>, Fault>
+        ensures ok { IfOk result (λ said. FollowsBy AnswersSpoken self.old self.new line.now said.items) }
+        ensures err { IfErr result (λ fault. fault ≡ Fault.OutOfMemory) }
+    {
+        let read = spoken(alloc, &self.speaker, line)?;
+        self.take(alloc, read.as_slice())
     }
 
     /// Takes a line of a script.
@@ -209,7 +316,7 @@ impl Session {
 
     /// Takes a text for the session, with the machine that has made its calls.
     fn restart(&mut self, text: Vec<u8>, running: Option<Running>)
-        ensures { IsRestarted self.new text.items running }
+        ensures { IsRestarted self.old self.new text.items running }
     {
         self.count = count_lines(text.as_slice());
         self.text = text;

@@ -1,5 +1,5 @@
 //! The text of a session, which grows by a line.
-ghost use Rattle.std.specs.Prelude.{◌≡◌, ◌+◌, ◌<◌, ◌≤◌, true, Err, IfErr, IfOk, OnOk, length};
+ghost use Rattle.std.specs.Prelude.{◌≡◌, ◌++◌, ◌+◌, ◌<◌, ◌≤◌, true, Err, IfErr, IfOk, OnOk, length};
 ghost use Rattle.histar_dialogue.specs.Texts.{SaysRule, with_line};
 ghost use Rattle.histar_script.specs.Lines.{lines_of, most_script_bytes, most_script_lines};
 ghost use Rattle.histar_script.specs.Reading.{script_of};
@@ -21,6 +21,15 @@ pub(crate) fn with_line(alloc: Global, text: &[u8], line: &[u8]) -> Result<Vec<u
     let mut longer = Vec::from_slice(alloc, text)?;
     push_line(&mut longer, line)?;
     Ok(longer)
+}
+
+/// Returns a text, and another one behind it.
+pub(crate) fn joined(alloc: Global, text: &[u8], more: &[u8]) -> Result<Vec<u8>, AllocError>
+    ensures { IfOk result (λ whole. whole.items ≡ text.now ++ more.now) }
+{
+    let mut whole = Vec::from_slice(alloc, text)?;
+    whole.extend_from_slice(more)?;
+    Ok(whole)
 }
 
 /// Adds a line and its end.
