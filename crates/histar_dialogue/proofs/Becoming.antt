@@ -64,8 +64,11 @@ module _ (first : ℕ) (old new : Session) (text undone said : List ℕ) where
       (subst EndsItsLines (sym behind) (joined_ends (drop at old.text.items) old.undone.items
       (subst (λ (k : ℕ). EndsItsLines (drop k old.text.items)) here cut.1) right.undone_ends))
       (subst IsBegun (sym joined) right.whole) in (
-        (done.talk ∙ (λ i. record { text = front i; undone = behind i; speaker = old.speaker })
-            ∙ ap (λ (k : ℕ). cut_at k (talk_of old)) (place ∙ ap (λ (c : ℕ). bytes_of_lines (c - n) old.text.items) right.count), refl),
+        (
+          done.talk ∙ (λ i. record { text = front i; undone = behind i; speaker = old.speaker })
+              ∙ ap (λ (k : ℕ). cut_at k (talk_of old)) (place ∙ ap (λ (c : ℕ). bytes_of_lines (c - n) old.text.items) right.count),
+          refl,
+        ),
         done.right,
       )
     where

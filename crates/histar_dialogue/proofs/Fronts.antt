@@ -10,6 +10,7 @@ use Rattle.histar_script.specs.Laws.{EndsItsLines}
 use Rattle.histar_script.specs.Lines.{is_too_long, lines_of, most_script_bytes, most_script_lines}
 use Rattle.histar_script.specs.Reading.{is_empty, reading, script_of, with_line, with_lines}
 use Rattle.histar_script.specs.Script.{ScriptModel, nothing_read}
+use Rattle.histar_script.proofs.FirstBad.{failed}
 use Rattle.histar_script.proofs.ScriptsBack.{after}
 use Rattle.histar_dialogue.specs.Session.{IsBegun}
 use Rattle.histar_dialogue.specs.Talk.{bytes_of_lines}
@@ -33,28 +34,23 @@ front_reads s n [] more reads = by (is_empty s.accounts.users)
     by : (none : Bool) → IsRight (n + 0) (if none then Err (BadScript (n + 1)) else Ok s)
     by true = inr (n + 1, omega arith, refl)
     by false = inl (s, refl)
-front_reads s n (line ∷ lines) more reads = by (with_line s (n + 1) line) reads
+front_reads s n (line ∷ lines) more reads =
+    by (with_line s (n + 1) line) (λ m later. front_reads m (n + 1) lines more later) reads
   where
-    by : (o : Option ScriptModel) → IsRight (n + suc (length (lines ++ more))) (after (n + 1) (λ m. with_lines m (n + 1) (lines ++ more)) o)
+    shifted : (read : Result ScriptModel Fault) → IsRight (n + 1 + length lines) read → IsRight (n + suc (length lines)) read
+    shifted read (inl is) = inl is
+    shifted read (inr is) = inr (is.0, omega (arith, is.1), is.2)
+
+    one : (a b : ℕ) → failed a ≡ failed b → a ≡ b
+    one a b e = cc
+
+    by : (o : Option ScriptModel) → ((m : ScriptModel) → ReadsOn m (n + 1) (lines ++ more) → ReadsOn m (n + 1) lines)
+        → IsRight (n + suc (length (lines ++ more))) (after (n + 1) (λ m. with_lines m (n + 1) (lines ++ more)) o)
         → IsRight (n + suc (length lines)) (after (n + 1) (λ m. with_lines m (n + 1) lines) o)
-    by None (inl is) = absurd (no_script is.1)
-      where
-        no_script : {t : ScriptModel} → Err (BadScript (n + 1)) ≡ Ok t → ⊥
-        no_script e = cc
-    by None (inr is) = absurd (omega (arith, is.1.0, same (n + 1) is.0 is.1.1))
-      where
-        same : (a b : ℕ) → Err {ScriptModel} (BadScript a) ≡ Err (BadScript b) → a ≡ b
-        same a b e = cc
-    by (Some m) (inl is) = shifted (front_reads m (n + 1) lines more (inl is))
-      where
-        shifted : ReadsOn m (n + 1) lines → IsRight (n + suc (length lines)) (with_lines m (n + 1) lines)
-        shifted (inl is) = inl is
-        shifted (inr is) = inr (is.0, omega (arith, is.1.0), is.1.1)
-    by (Some m) (inr is) = shifted (front_reads m (n + 1) lines more (inr (is.0, omega (arith, is.1.0), is.1.1)))
-      where
-        shifted : ReadsOn m (n + 1) lines → IsRight (n + suc (length lines)) (with_lines m (n + 1) lines)
-        shifted (inl is) = inl is
-        shifted (inr is) = inr (is.0, omega (arith, is.1.0), is.1.1)
+    by None next (inl is) = absurd cc
+    by None next (inr is) = let same : n + 1 ≡ is.0 = one (n + 1) is.0 is.2 in absurd (omega (arith, is.1, same))
+    by (Some m) next (inl is) = shifted (with_lines m (n + 1) lines) (next m (inl is))
+    by (Some m) next (inr is) = shifted (with_lines m (n + 1) lines) (next m (inr (is.0, omega (arith, is.1), is.2)))
 
 -- ---- the limits
 
@@ -98,7 +94,7 @@ begun_of text short reads = by reads
 
     by : ReadsOn nothing_read 0 (lines_of text) → IsBegun text
     by (inl is) = inl (subst IsOk (sym (read ∙ is.1)) refl)
-    by (inr is) = let same : is.0 ≡ length (lines_of text) + 1 = omega (arith, is.1.0) in inr (read ∙ is.1.1 ∙ ap (λ (k : ℕ). Err (BadScript k)) same)
+    by (inr is) = let same : is.0 ≡ length (lines_of text) + 1 = omega (arith, is.1) in inr (read ∙ is.2 ∙ ap (λ (k : ℕ). Err (BadScript k)) same)
 
 -- the first lines of a session are a session
 pub front_begun : (front back : List ℕ) → EndsItsLines front → IsBegun (front ++ back) → IsBegun front
@@ -113,7 +109,7 @@ pub lacks_one : (text : List ℕ) (n : ℕ) → IsBegun text → script_of text 
     → script_of text ≡ Err (BadScript (length (lines_of text) + 1))
 lacks_one text n (inl ok) is = absurd (no_script (subst IsOk is ok))
   where
-    no_script : IsOk {ScriptModel} (Err (BadScript n)) → ⊥
+    no_script : IsOk (failed n) → ⊥
     no_script ok = cc
 lacks_one text n (inr bad) is = bad
 
@@ -153,35 +149,38 @@ joined_ends (b ∷ text) more ends more_ends =
     by [] ends none = one_feed b ends
     by (c ∷ text) ends none = absurd cc
 
+-- how many line ends are to come behind this byte, of so many
+abbrev left : ℕ → ℕ → ℕ
+left n b = if eqb b 10 then n - 1 else n
+
+-- where nothing is taken behind a byte, it is the last line end
+last_feed : (n b : ℕ) (text : List ℕ) → EndsItsLines (b ∷ text) → eqb n 0 ≡ false
+    → take (bytes_of_lines (left n b) text) text ≡ [] → b ≡ 10
+unfolding bytes_of_lines
+last_feed n b [] ends some none = one_feed b ends
+last_feed n b (c ∷ text) ends some none = by (eqb (left n b) 0) refl none
+  where
+    at_end : (t : Bool) → eqb b 10 ≡ t → eqb (if t then n - 1 else n) 0 ≡ true → b ≡ 10
+    at_end true e zero = eqb-true b 10 e
+    at_end false e zero = absurd cc
+
+    by : (t : Bool) → eqb (left n b) 0 ≡ t
+        → take (if t then 0 else suc (bytes_of_lines (if eqb c 10 then left n b - 1 else left n b) text)) (c ∷ text) ≡ []
+        → b ≡ 10
+    by true e none = at_end (eqb b 10) refl e
+    by false e none = absurd cc
+
 -- the first lines of a text that ends its lines end theirs, and so do the others
 pub cut_ends : (n : ℕ) (text : List ℕ) → EndsItsLines text
     → EndsItsLines (take (bytes_of_lines n text) text) × EndsItsLines (drop (bytes_of_lines n text) text)
 unfolding bytes_of_lines
 cut_ends n [] ends = (inl refl, inl refl)
-cut_ends n (b ∷ text) ends = by (eqb n 0) refl
+cut_ends n (b ∷ text) ends = by (eqb n 0) refl (cut_ends (left n b) text (tail_ends b text ends))
   where
-    abbrev left : ℕ
-    left = if eqb b 10 then n - 1 else n
-
-    later : EndsItsLines (take (bytes_of_lines left text) text) × EndsItsLines (drop (bytes_of_lines left text) text)
-    later = cut_ends left text (tail_ends b text ends)
-
-    feed : (text : List ℕ) → EndsItsLines (b ∷ text) → eqb n 0 ≡ false → take (bytes_of_lines left text) text ≡ [] → b ≡ 10
-    unfolding bytes_of_lines
-    feed [] ends some none = one_feed b ends
-    feed (c ∷ text) ends some none = last (eqb left 0) refl none
-      where
-        at_end : (t : Bool) → eqb b 10 ≡ t → eqb (if t then n - 1 else n) 0 ≡ true → b ≡ 10
-        at_end true e zero = eqb-true b 10 e
-        at_end false e zero = absurd cc
-
-        last : (t : Bool) → eqb left 0 ≡ t
-            → take (if t then 0 else suc (bytes_of_lines (if eqb c 10 then left - 1 else left) text)) (c ∷ text) ≡ [] → b ≡ 10
-        last true e none = at_end (eqb b 10) refl e
-        last false e none = absurd cc
-
     by : (t : Bool) → eqb n 0 ≡ t
-        → EndsItsLines (take (if t then 0 else suc (bytes_of_lines left text)) (b ∷ text))
-        × EndsItsLines (drop (if t then 0 else suc (bytes_of_lines left text)) (b ∷ text))
-    by true e = (inl refl, ends)
-    by false e = (onto_ends b (take (bytes_of_lines left text) text) later.0 (feed text ends e), later.1)
+        → EndsItsLines (take (bytes_of_lines (left n b) text) text) × EndsItsLines (drop (bytes_of_lines (left n b) text) text)
+        → EndsItsLines (take (if t then 0 else suc (bytes_of_lines (left n b) text)) (b ∷ text))
+        × EndsItsLines (drop (if t then 0 else suc (bytes_of_lines (left n b) text)) (b ∷ text))
+    by true e later = (inl refl, ends)
+    by false e later =
+        (onto_ends b (take (bytes_of_lines (left n b) text) text) later.0 (last_feed n b text ends e), later.1)

@@ -33,36 +33,38 @@ pub without_front : (front rest : List ℕ) → drop (length front) (front ++ re
 without_front [] rest = refl
 without_front (b ∷ front) rest = without_front front rest
 
--- what `run` writes begins with its replies
-pub behind_so : (options : Options) (text replies output said : List ℕ) → IsRun of_replies text replies → IsRun options text output
-    → said ≡ drop (length replies) output → IsBehindReplies options text said
-behind_so options text replies output said replied ran is =
-    (replies, replied, subst (IsRun options text) (sym whole) ran)
-  where
-    abbrev short : ScriptModel
-    short = replied.1.means.script
+module _ (options : Options) (text replies output : List ℕ) (replied : IsRun of_replies text replies) (ran : IsRun options text output) where
+  -- both runs read one script
+  abbrev short : ScriptModel
+  short = replied.1.means.script
 
-    abbrev long : ScriptModel
-    long = ran.1.means.script
+  abbrev long : ScriptModel
+  long = ran.1.means.script
 
-    same : short ≡ long
-    same = let a = replied.1.means.is_read in let b = ran.1.means.is_read in cc
+  one_script : short ≡ long
+  one_script =
+      let a = replied.1.means.is_read in
+      let b = ran.1.means.is_read in cc
 
-    of_meaning : replies ≡ answers_text (meaning long.accounts long.calls)
-    of_meaning =
-        replied.1.means.written ∙ append-nil (meaning_text of_replies short)
-        ∙ append-nil (answers_text (meaning short.accounts short.calls))
-        ∙ ap (λ (s : ScriptModel). answers_text (meaning s.accounts s.calls)) same
+  -- the replies
+  of_meaning : replies ≡ answers_text (meaning long.accounts long.calls)
+  of_meaning =
+      replied.1.means.written ∙ append-nil (meaning_text of_replies short)
+      ∙ append-nil (answers_text (meaning short.accounts short.calls))
+      ∙ ap (λ (s : ScriptModel). answers_text (meaning s.accounts s.calls)) one_script
 
-    abbrev rest : List ℕ
-    rest = asked_tree options (last_state long) ++ asked_trace options ran.0
+  -- what is written behind them
+  abbrev behind : List ℕ
+  behind = asked_tree options (last_state long) ++ asked_trace options ran.0
 
-    begins : output ≡ replies ++ rest
-    begins =
-        ran.1.means.written
-        ∙ append_assoc (answers_text (meaning long.accounts long.calls)) (asked_tree options (last_state long)) (asked_trace options ran.0)
-        ∙ ap (λ (l : List ℕ). l ++ rest) (sym of_meaning)
+  begins : output ≡ replies ++ behind
+  begins =
+      ran.1.means.written
+      ∙ append_assoc (answers_text (meaning long.accounts long.calls)) (asked_tree options (last_state long)) (asked_trace options ran.0)
+      ∙ ap (λ (l : List ℕ). l ++ behind) (sym of_meaning)
 
-    whole : replies ++ said ≡ output
-    whole =
-        ap (λ (l : List ℕ). replies ++ l) (is ∙ ap (drop (length replies)) begins ∙ without_front replies rest) ∙ sym begins
+  -- what `run` writes behind its replies is what comes after so many bytes
+  pub behind_so : (said : List ℕ) → said ≡ drop (length replies) output → IsBehindReplies options text said
+  behind_so said is =
+      let rest = is ∙ ap (drop (length replies)) begins ∙ without_front replies behind in
+      (replies, replied, subst (IsRun options text) (begins ∙ ap (λ (l : List ℕ). replies ++ l) (sym rest)) ran)

@@ -1,15 +1,12 @@
 -- What is shown of a session: what a subcommand of the program writes of it.
-use Rattle.std.specs.Prelude.{◌≡◌, ℕ, ◌⊎◌, true, false, List, [], ◌∷◌, ◌++◌, codes}
-use Rattle.std.specs.Prelude.{Option, None, Some, Result, Ok, Err, if◌then◌else◌, unwrap_or}
+use Rattle.std.specs.Prelude.{◌≡◌, ℕ, ◌⊎◌, true, false, List, [], ◌++◌, None, Some, Result, Ok, Err}
 use Rattle.std.specs.List.{flat_map}
-use Rattle.std.specs.Str.{bytes_eq}
 use Rattle.std.specs.Global.{Vec}
 use Rattle.histar_flat.specs.Words.{Path}
-use Rattle.histar_flat.specs.Texts.{path_text}
 use Rattle.histar_script.specs.declared.fault.Fault.{Fault}
 use Rattle.histar_script.specs.declared.fault.Fault.TheVariants.{BadScript, TooLong}
 use Rattle.histar_script.specs.declared.fault.Fault.TheVariants.{OutOfMemory, ReadFailed, WriteFailed}
-use Rattle.histar_script.specs.Lines.{lines_of, split_word}
+use Rattle.histar_script.specs.Lines.{lines_of}
 use Rattle.histar_script.specs.Reading.{script_of}
 use Rattle.histar_trace.specs.declared.entries.TraceEntry.{TraceEntry}
 use Rattle.histar_shell.specs.declared.session.Options.{Options}
@@ -21,6 +18,7 @@ use Rattle.histar_leak.specs.Session.{LeakOf}
 use Rattle.histar_dialogue.specs.declared.commands.Asked.{Asked}
 use Rattle.histar_dialogue.specs.declared.commands.Asked.TheVariants as asked
 use Rattle.histar_dialogue.specs.Commands.{no_user_text}
+use Rattle.histar_dialogue.specs.Parts.{line_at, or_no_entry}
 
 -- the replies alone
 abbrev pub of_replies : Options
@@ -46,15 +44,6 @@ IsBehindReplies options text said =
 -- this is what `access` writes of a text
 abbrev pub IsTable : List ℕ → List ℕ → Type 0
 IsTable text said = AccessText None text (Some []) (Some said) (Ok tt)
-
--- a line of a table with its end, if it is of this path
-abbrev pub line_at : Path → List ℕ → List ℕ
-line_at path line = if bytes_eq (split_word line).0 (path_text path) then line ++ 10 ∷ [] else []
-
--- the text, or that there is no entry if it is empty
-abbrev pub or_no_entry : List ℕ → List ℕ
-or_no_entry [] = codes "no entry\n"
-or_no_entry (b ∷ text) = b ∷ text
 
 -- this is the line of a path among those that `access` writes of a text
 abbrev pub IsTableAt : Path → List ℕ → List ℕ → Type 0
@@ -91,12 +80,3 @@ OrNoUser (Err TooLong) said = said ≡ no_user_text
 OrNoUser (Err OutOfMemory) said = ⊥
 OrNoUser (Err ReadFailed) said = ⊥
 OrNoUser (Err WriteFailed) said = ⊥
-
--- a line of replies without its number
-abbrev pub without_number : List ℕ → List ℕ
-without_number line = unwrap_or (split_word line).1 []
-
--- the comment that expects the last of these replies, if there is one
-abbrev pub expecting : Option (List ℕ) → List (List ℕ) → Option (List ℕ)
-expecting found [] = found
-expecting found (line ∷ lines) = expecting (Some (codes "#= " ++ without_number line)) lines

@@ -3,6 +3,7 @@ pub mod Input
 pub mod Texts
 pub mod Commands
 pub mod Talk
+pub mod Parts
 pub mod Asked
 pub mod Running
 pub mod Refusals

@@ -12,9 +12,10 @@ use Rattle.histar_dialogue.specs.declared.commands.Command.{Command}
 use Rattle.histar_dialogue.specs.declared.commands.Command.TheVariants as commands
 use Rattle.histar_dialogue.specs.declared.running.Running.{Running}
 use Rattle.histar_dialogue.specs.declared.session.Session.{Session}
-use Rattle.histar_dialogue.specs.Asked.{IsAnswer, IsRun, LacksUser, Shows, expecting, of_replies}
+use Rattle.histar_dialogue.specs.Asked.{IsAnswer, IsRun, LacksUser, Shows, of_replies}
 use Rattle.histar_dialogue.specs.Commands.{command_of, help_text, is_command, misused_text}
 use Rattle.histar_dialogue.specs.Commands.{no_call_text, too_long_text, unknown_text}
+use Rattle.histar_dialogue.specs.Parts.{expecting}
 use Rattle.histar_dialogue.specs.Refusals.{why_text}
 use Rattle.histar_dialogue.specs.Running.{HasRun, said_behind}
 use Rattle.histar_dialogue.specs.Talk.{Talk, entered_again, nothing_yet, spoken, taken_back, with_text}

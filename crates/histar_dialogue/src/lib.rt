@@ -5,6 +5,7 @@ mod asked;
 mod commands;
 mod dialogue;
 mod input;
+mod parts;
 mod refusals;
 mod running;
 mod session;

@@ -7,11 +7,12 @@ ghost use Rattle.histar_script.specs.Lines.{lines_of};
 ghost use Rattle.histar_script.specs.Reading.{item_of, script_of};
 ghost use Rattle.histar_script.specs.Script.{is_declared_call};
 
-use crate::asked::{expecting, or_no_user, replies_of, shown};
+use crate::asked::{or_no_user, replies_of, shown};
 use crate::commands::{
     Command, command_of, help_text, is_command, misused_text, no_call_text, too_long_text,
     unknown_text,
 };
+use crate::parts::expecting;
 use crate::refusals::why_text;
 use crate::running::{Running, run_behind};
 use crate::speaking::spoken;

@@ -7,18 +7,14 @@ pub(crate) fn bytes_of_lines(text: &[u8], lines: u64) -> usize
     ensures count { result ≡ bytes_of_lines lines text.now }
     ensures within { result ≤ length text.now }
 {
-    let mut rest = text;
     let mut left = lines;
-    let mut count = 0;
-    'bytes: while let [byte, after @ ..] = rest {
+    'bytes: for at in 0..text.len() {
         if left == 0 {
-            return count;
+            return at;
         }
-        if *byte == b'\n' {
+        if text[at] == b'\n' {
             left -= 1;
         }
-        count += 1;
-        rest = after;
     }
-    count
+    text.len()
 }
