@@ -1,8 +1,8 @@
 -- The titles of the secret files of a machine are those of the flat state that it represents.
-use Rattle.std.specs.Prelude.{◌≡◌, ℕ, zero, suc, ◌+◌, ◌*◌, ◌<◌, ◌≤◌, min, nat_lt, Bool, true, false, List, [], ◌∷◌, ◌++◌, drop, filter, length, map}
+use Rattle.std.specs.Prelude.{◌≡◌, ℕ, zero, suc, ◌+◌, ◌*◌, ◌<◌, ◌≤◌, min, nat_lt, Bool, true, false, List, [], ◌++◌, length}
 use Rattle.std.specs.Prelude.{if◌then◌else◌, refl}
 use Rattle.std.specs.List.{flat_map}
-use Rattle.std.proofs.Common.{ap, sym, ◌∙◌, arith, append_assoc}
+use Rattle.std.proofs.Common.{ap, sym, ◌∙◌, arith}
 use Rattle.std.proofs.Math.Nat.{suc-mul}
 use Rattle.std.proofs.lemmas.Bool.{le-ltb, lt-ltb, ltb-false, ltb-true}
 use Rattle.std.proofs.lemmas.List.{length-map}
@@ -22,26 +22,8 @@ use Rattle.histar_trust.proofs.Runners.{numbered}
 use Rattle.histar_trust.proofs.ShownSecrets.{secret_paths_there}
 use Rattle.histar_trust.proofs.ShownTrust.{members_are, own_tree, same_tree}
 use Rattle.histar_leak.specs.declared.titles.TheConstants.{MOST_TITLE_WORK}
-use Rattle.histar_leak.specs.Titles.{file_titles, is_title, title_line, title_lines, title_work, titles_text}
-use Rattle.histar_leak.specs.Findings.{AddsFiles, shown_title}
-
--- ---- titles among lines
-
--- the titles among lines are that of the first one, if it is a title, and those among the others
-pub one_line_more : (line : List ℕ) (lines : List (List ℕ)) → shown_title line ++ title_lines lines ≡ title_lines (line ∷ lines)
-one_line_more line lines = by (is_title line)
-  where
-    by : (b : Bool) → (let l : List ℕ = if b then title_line line else [] in l) ++ title_lines lines
-        ≡ flat_map title_line (let l : List (List ℕ) = if b then line ∷ filter is_title lines else filter is_title lines in l)
-    by true = refl
-    by false = refl
-
--- one more line was looked at
-pub next_line : (line : List ℕ) (more : List (List ℕ)) (old : List ℕ) {lines : List (List ℕ)} {new whole : List ℕ} → lines ≡ line ∷ more
-    → new ≡ old ++ shown_title line → old ++ title_lines lines ≡ whole → new ++ title_lines more ≡ whole
-next_line line more old turn added before =
-    ap (λ (t : List ℕ). t ++ title_lines more) added ∙ append_assoc old (shown_title line) (title_lines more)
-    ∙ ap (λ (t : List ℕ). old ++ t) (one_line_more line more) ∙ ap (λ (ls : List (List ℕ)). old ++ title_lines ls) (sym turn) ∙ before
+use Rattle.histar_leak.specs.Titles.{file_titles, title_work, titles_text}
+use Rattle.histar_leak.specs.Findings.{AddsFiles}
 
 -- ---- how much work it is
 
@@ -55,7 +37,7 @@ cut_off limit most x lt = by (nat_lt limit x) refl
 
 -- so is a product with a number that is cut off above it
 cut_factor : (limit most files each : ℕ) → limit < most → nat_lt limit (files * min each most) ≡ nat_lt limit (files * each)
-cut_factor limit most zero each lt = refl
+cut_factor limit most zero each lt = ap (nat_lt limit) (let e : 0 * min each most ≡ 0 * each = omega arith in e)
 cut_factor limit most (suc k) each lt = by (nat_lt most each) refl
   where
     over : (x : ℕ) → most ≤ x → nat_lt limit (suc k * x) ≡ true
