@@ -6,4 +6,5 @@ pub mod ChangesShown
 pub mod Passwords
 pub mod Members
 pub mod ShownLeak
+pub mod ShownTitles
 pub mod Runs

@@ -1,7 +1,7 @@
 -- What is computed from a machine and the users of its script is the text of the flat state that the machine represents.
 use Rattle.std.specs.Prelude.{◌≡◌, ℕ, ◌≤◌, true, not, ◌&&◌, ◌||◌, List, [], ◌∷◌, ◌++◌, length, map, codes, Option, None, Some, option_map}
 use Rattle.std.specs.Prelude.{if◌then◌else◌, refl}
-use Rattle.std.specs.List.{flat_map}
+use Rattle.std.specs.List.{filter_map, flat_map}
 use Rattle.std.proofs.Common.{ap, sym, ◌∙◌, subst}
 use Rattle.histar_flat.specs.declared.calls.User.{User}
 use Rattle.histar_flat.specs.declared.calls.UnixCall.TheVariants.{Read}
@@ -29,7 +29,9 @@ use Rattle.histar_secrecy.specs.Changers.{is_changer, may_change}
 use Rattle.histar_secrecy.specs.ShownRoles.{classes_on, flat_class, has_role, has_shown_role, is_login_reader, is_shown_changer, with_user}
 use Rattle.histar_shell.specs.Ending.{IsTreeIn}
 use Rattle.histar_shell.specs.Machine.{MachineModel}
-use Rattle.histar_trust.specs.Findings.{AreMembers, ShowsReached, classes_to, node_at}
+use Rattle.histar_prefix.specs.Listing.{AreProcessesIn}
+use Rattle.histar_readout.specs.declared.process.ProcessNode.{ProcessNode}
+use Rattle.histar_trust.specs.Findings.{AreMembers, ShowsReached, classes_to, node_at, runner_of, running_node}
 use Rattle.histar_trust.specs.TrustText.{is_open_way}
 use Rattle.histar_trust.proofs.Places.{AreAlike, classes_are, number_of, open_by_number}
 use Rattle.histar_trust.proofs.Runners.{AllOf, Runs}
@@ -57,6 +59,15 @@ use Rattle.histar_leak.proofs.Replies.{OfFirst, first_passes, login_lines, trust
 use Rattle.histar_secrecy.proofs.Names.{some_process}
 use Rattle.std.proofs.lemmas.Bool.{and_parts}
 use Rattle.histar_flat.specs.Classes.{is_free}
+
+-- the members among the processes that were found are those of the machine
+pub members_found : {m : MachineModel} {processes found : List ProcessNode} {members listed : List Member} → AreProcessesIn m processes
+    → map runner_of listed ≡ filter_map running_node found → found ≡ processes → members ≡ listed → AreMembers m members
+members_found {processes = processes} are runners same is = record {
+  processes = processes;
+  are = are;
+  runners = ap (map runner_of) is ∙ runners ∙ ap (filter_map running_node) same;
+}
 
 -- texts of users, one after another, are the same if each two are
 users_same : (P : User → Type 0) (text of : User → List ℕ) → ((u : User) → P u → text u ≡ of u) → (us : List User) → AllOf P us

@@ -36,6 +36,7 @@ use Rattle.histar_leak.specs.declared.changes.Change.TheVariants as changes
 use Rattle.histar_leak.specs.LeakLines.{call_line, reply_line, some_text, titled, who_text}
 use Rattle.histar_leak.specs.ChangeCalls.{made_name}
 use Rattle.histar_leak.specs.LeakText.{leak_text, login_line}
+use Rattle.histar_leak.specs.Titles.{file_titles, is_title, title_line, titles_text}
 
 -- ---- calls that change something
 
@@ -294,3 +295,22 @@ HasStateOf accounts m = (f : Flat) × ShowsReached accounts m f
 -- for every such state, this is its text for the path
 abbrev pub ShowsLeak : Accounts → MachineModel → Path → List ℕ → Type 0
 ShowsLeak accounts m path text = (f : Flat) → ShowsReached accounts m f → text ≡ leak_text accounts f path
+
+-- ---- titles
+
+-- the line of a title, and nothing for another line
+abbrev pub shown_title : List ℕ → List ℕ
+shown_title line = if is_title line then title_line line else []
+
+module _ (accounts : Accounts) (m : MachineModel) where
+  -- for every such state, this is its text on the secret files
+  abbrev pub ShowsTitles : List ℕ → Type 0
+  ShowsTitles text = (f : Flat) → ShowsReached accounts m f → text ≡ titles_text accounts f
+
+  -- for every such state, the titles of this file are added
+  abbrev pub AddsFile : Path → List ℕ → List ℕ → Type 0
+  AddsFile path old new = (f : Flat) → ShowsReached accounts m f → new ≡ old ++ file_titles accounts f path
+
+  -- for every such state, the titles of these files are added
+  abbrev pub AddsFiles : List Path → List ℕ → List ℕ → Type 0
+  AddsFiles paths old new = (f : Flat) → ShowsReached accounts m f → new ≡ old ++ flat_map (file_titles accounts f) paths

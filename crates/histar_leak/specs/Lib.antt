@@ -2,5 +2,6 @@
 pub mod LeakLines
 pub mod ChangeCalls
 pub mod LeakText
+pub mod Titles
 pub mod Findings
 pub mod Session

@@ -19,8 +19,7 @@ abbrev pub LeakOf : Option ℕ → Path → List ℕ → Option (List ℕ) → O
 LeakOf at path = WritesOf (leak_before at path)
 
 -- The text of a script is returned, unless memory ran out.
-abbrev pub MakesText : Option ℕ → Path → List ℕ → Result (Vec ℕ) Fault → Type 0
-MakesText at path text (Ok lines) =
-    (script : ScriptModel) → script_of text ≡ Ok script → lines.items ≡ leak_before at path script
-MakesText at path text (Err OutOfMemory) = Unit {0}
-MakesText at path text (Err fault) = ⊥
+abbrev pub MakesText : (ScriptModel → List ℕ) → List ℕ → Result (Vec ℕ) Fault → Type 0
+MakesText text_of text (Ok lines) = (script : ScriptModel) → script_of text ≡ Ok script → lines.items ≡ text_of script
+MakesText text_of text (Err OutOfMemory) = Unit {0}
+MakesText text_of text (Err fault) = ⊥

@@ -3,7 +3,7 @@ ghost use Rattle.std.specs.Prelude.{◌≡◌, ◌++◌, codes, IfOk, OnOk, if�
 ghost use Rattle.std.specs.Option.{option_copied};
 ghost use Rattle.histar_syscall.specs.KernelModel.{state};
 ghost use Rattle.histar_shell.specs.Ending.{IsTreeIn};
-ghost use Rattle.histar_trust.specs.Findings.{node_at};
+ghost use Rattle.histar_trust.specs.Findings.{AreMembers, node_at};
 ghost use Rattle.histar_leak.specs.Findings.{bytes_there, HasStateOf, is_below_shown_file};
 ghost use Rattle.histar_leak.specs.Findings.{is_file_there, ShowsLeak};
 ghost use Rattle.histar_leak.specs.Findings.{shown_changes, shown_found, shown_leak, shown_roles};
@@ -20,6 +20,14 @@ use histar_shell::Machine;
 use histar_trust::{members_among, node_at, push_classes, push_head};
 use std::alloc::{AllocError, Global};
 
+/// What is read of a machine once: its users and groups, its running processes, and its tree.
+#[derive(Drop)]
+pub struct Snapshot<'a> {
+    pub accounts: &'a Accounts,
+    pub members: &'a [Member],
+    pub tree: &'a [TreeNode],
+}
+
 /// What is found on a machine: its users and groups, its running processes, a path, the classes of
 /// what is there and of each directory above it, and the bytes of a file that is there.
 #[derive(Drop)]
@@ -33,8 +41,7 @@ struct Scene<'a> {
 
 /// Returns the text on what is at a path of a machine with these users and groups.
 ///
-/// It reads the tree and the processes once, and goes over the tree a few times for each directory
-/// on the way to the path, of which there are at most eight.
+/// It reads the tree and the processes once.
 pub fn leak_lines<S: LabelStore + Drop>(
     alloc: Global,
     machine: &Machine<S>,
@@ -62,16 +69,39 @@ fn lines_in<S: LabelStore + Drop>(
 {
     let processes = processes(alloc, machine)?;
     let members = members_among(alloc, processes.as_slice())?;
-    let mut classes = Vec::new(alloc);
-    push_classes(alloc, tree, path.names(), &mut classes)?;
-    let scene = Scene {
+    let snapshot = Snapshot {
         accounts,
         members: members.as_slice(),
+        tree,
+    };
+    path_lines(alloc, machine, &snapshot, path)
+}
+
+/// Returns the text on what is at a path of a machine.
+///
+/// It goes over the tree a few times for each directory on the way to the path, of which there are
+/// at most eight.
+pub fn path_lines<S: LabelStore + Drop>(
+    alloc: Global,
+    machine: &Machine<S>,
+    snapshot: &Snapshot,
+    path: &Path,
+) -> Result<Vec<u8>, AllocError>
+    requires members { AreMembers machine.now snapshot.now.members.now }
+    requires tree { IsTreeIn machine.now snapshot.now.tree.now }
+    ensures { IfOk result (λ text.
+        ShowsLeak snapshot.now.accounts.now machine.now path.now text.items) }
+{
+    let mut classes = Vec::new(alloc);
+    push_classes(alloc, snapshot.tree, path.names(), &mut classes)?;
+    let scene = Scene {
+        accounts: snapshot.accounts,
+        members: snapshot.members,
         path,
         classes: classes.as_slice(),
-        bytes: bytes_there(machine, node_at(tree, path.names())),
+        bytes: bytes_there(machine, node_at(snapshot.tree, path.names())),
     };
-    scene_lines(alloc, &scene, tree)
+    scene_lines(alloc, &scene, snapshot.tree)
 }
 
 /// Returns the bytes of what is there.

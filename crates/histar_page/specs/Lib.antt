@@ -11,6 +11,7 @@ pub mod Story
 pub mod Session
 pub mod Files
 pub mod Secrets
+pub mod Titles
 pub mod Flows
 pub mod Views
 pub mod Places

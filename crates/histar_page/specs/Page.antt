@@ -10,6 +10,7 @@ use Rattle.histar_page.specs.Who.{who_items}
 use Rattle.histar_page.specs.Session.{IsSession}
 use Rattle.histar_page.specs.Files.{files_items, runners_of}
 use Rattle.histar_page.specs.Secrets.{secrets_items}
+use Rattle.histar_page.specs.Titles.{titles_items}
 use Rattle.histar_page.specs.Flows.{flows_items}
 use Rattle.histar_page.specs.Drawing.{drawing_items, jobs_of}
 
@@ -22,21 +23,23 @@ pub record Sources : Type 0 where
   pub reasons : List ℕ
   pub table : List ℕ
   pub secrets : List ℕ
+  pub titles : List ℕ
   pub flows : List ℕ
 
 -- the texts behind the references
 abbrev pub sources_of : Texts → Sources
-sources_of texts = record { name = texts.name.now; version = texts.version.now; script = texts.script.now; output = texts.output.now; reasons = texts.reasons.now; table = texts.table.now; secrets = texts.secrets.now; flows = texts.flows.now }
+sources_of texts = record { name = texts.name.now; version = texts.version.now; script = texts.script.now; output = texts.output.now; reasons = texts.reasons.now; table = texts.table.now; secrets = texts.secrets.now; titles = texts.titles.now; flows = texts.flows.now }
 
 -- the files, with the jobs of the session and the users of its processes
 abbrev pub files_shown : Sources → List Item
 files_shown sources =
     files_items (jobs_of (lines_of sources.script) (lines_of sources.output)) (runners_of (lines_of sources.secrets)) (lines_of sources.table)
 
--- the files, the secrets, the flows and the drawing
+-- the files, the secrets with their titles, the flows and the drawing
 abbrev pub rights_shown : Sources → List Item
 rights_shown sources =
-    files_shown sources ++ secrets_items (lines_of sources.secrets) ++ flows_items (lines_of sources.flows)
+    files_shown sources ++ (secrets_items (lines_of sources.secrets) ++ titles_items (lines_of sources.titles))
+    ++ flows_items (lines_of sources.flows)
     ++ drawing_items (lines_of sources.script) (lines_of sources.output) (lines_of sources.table)
 
 -- the head, with the title of the script, and then its users and groups
@@ -45,7 +48,7 @@ head_shown sources =
     head_items (title_of sources.name (lines_of sources.script)) sources.name sources.version (lines_of sources.output)
     ++ who_items (lines_of sources.script)
 
--- What a page shows: its head, the users and groups, the session, the files, the secrets, the flows and the drawing.
+-- What a page shows: its head, the users and groups, the session, the files, the secrets with their titles, the flows and the drawing.
 pub record IsReport (sources : Sources) (items : List Item) : Type 0 where
   pub session : List Item
   pub parts : items ≡ head_shown sources ++ session ++ rights_shown sources

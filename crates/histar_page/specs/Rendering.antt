@@ -10,13 +10,13 @@ use Rattle.histar_page.specs.declared.kind.Kind.TheVariants.{Process, JobProcess
 use Rattle.histar_page.specs.declared.kind.Kind.TheVariants.{DrawnHeight, ProcessBand, FileBand, ReadEdge, WriteEdge, BothEdge, EdgeEnd, EdgeProcess}
 use Rattle.histar_page.specs.declared.kind.Kind.TheVariants.{LoginBy, LoginAs, Reason, Prose, Heading, Mark, ClaimMet, ClaimMissed}
 use Rattle.histar_page.specs.declared.kind.Kind.TheVariants.{HiddenBytes, UserName, GroupName, MemberName}
-use Rattle.histar_page.specs.declared.kind.Kind.TheVariants.{EdgeFile, ProcessNode, FileNode, NodeName, Flow}
+use Rattle.histar_page.specs.declared.kind.Kind.TheVariants.{EdgeFile, ProcessNode, FileNode, NodeName, LeakPath, LeakTitle, Flow}
 use Rattle.histar_page.specs.declared.markup.Markup.{Markup}
 use Rattle.histar_page.specs.declared.markup.Markup.TheVariants.{Begin, Style, EndHead, BeginWho, EndWho, BeginSession, BeginBoot, BeginOther, BeginCall}
 use Rattle.histar_page.specs.declared.markup.Markup.TheVariants.{BeginBehind, EndCall, BeginBare, EndBare, EndSession, BeginFiles, EndUsers}
 use Rattle.histar_page.specs.declared.markup.Markup.TheVariants.{EndColumns, BeginRow, EndCell, EndRow, EndFiles, BeginSecrets, NoSecrets, OnSecrets}
 use Rattle.histar_page.specs.declared.markup.Markup.TheVariants.{BeginSecret, EndSecret, EndSecrets, BeginLabels, NotDrawn, BeginDrawing, Arrows}
-use Rattle.histar_page.specs.declared.markup.Markup.TheVariants.{BeginFlows, OnFlows, EndFlows, EndDrawing, End}
+use Rattle.histar_page.specs.declared.markup.Markup.TheVariants.{OnTitles, NoTitles, BeginFlows, OnFlows, EndFlows, EndDrawing, End}
 use Rattle.histar_page.specs.declared.piece.Piece.{Piece}
 use Rattle.histar_page.specs.declared.piece.Piece.TheVariants.{Fixed, Shown, Counted, Letter}
 
@@ -62,6 +62,8 @@ opening Secret = codes "<code>"
 opening Trusted = codes "<span class=\"trusted\">trusted <b>"
 opening Confined = codes "<span class=\"confined\">confined <b>"
 opening LoginReader = codes "<span class=\"login\">login <b>"
+opening LeakPath = codes "<p class=\"titled\"><code>"
+opening LeakTitle = codes "<p class=\"leak\"><code>"
 opening Flow = codes "<p class=\"flow\"><code>"
 opening DrawnHeight = codes "<svg viewBox=\"0 0 936 "
 opening ProcessBand = codes "<rect class=\"job\" width=\"216\" height=\"44\" y=\"-9\" transform=\"translate(0 "
@@ -118,6 +120,8 @@ closing Secret = codes "</code>\n"
 closing Trusted = codes "</b></span>\n"
 closing Confined = codes "</b></span>\n"
 closing LoginReader = codes "</b></span>\n"
+closing LeakPath = codes "</code></p>\n"
+closing LeakTitle = codes "</code></p>\n"
 closing Flow = codes "</code></p>\n"
 closing DrawnHeight = codes "\" role=\"img\" aria-label=\"Processes and files\">\n"
 closing ProcessBand = codes ")\"></rect>\n"
@@ -160,6 +164,8 @@ markup_text NoSecrets = codes "<p>Each file is for everyone to read at the end.<
 markup_text OnSecrets = codes "<p>On whom each file rests at the end that isn't for everyone to read: the trusted could pass it on, the confined can't, and who logs in as one of these users may read it.</p>\n"
 markup_text BeginSecret = codes "<p class=\"secret\">\n"
 markup_text EndSecret = codes "</p>\n"
+markup_text OnTitles = codes "<h3>How each is revealed or changed</h3>\n<p>Below each file: which processes reveal it and to whom, which users read it after a login, and who changes it. These are the titles of what <code>histar leak</code> prints of the file, with the calls.</p>\n"
+markup_text NoTitles = codes "<h3>How each is revealed or changed</h3>\n<p>This is left out, since there are too many files and processes. <code>histar leak</code> prints it of one file.</p>\n"
 markup_text EndSecrets = codes "</section>\n"
 markup_text BeginFlows = codes "<section id=\"flows\">\n<h2>Flows</h2>\n"
 markup_text OnFlows = codes "<p>To whom each process can pass on what it learns, at the end: a process in a job to those alone that know each of its jobs. An exclamation mark is behind one that holds such a job, and may pass on what the job made.</p>\n"

@@ -68,6 +68,10 @@ pub enum Kind {
     Confined,
     /// A user as whom a process that logs in may read a file.
     LoginReader,
+    /// The path of a file that the titles after it are on.
+    LeakPath,
+    /// The title of a way to reveal or to change a file.
+    LeakTitle,
     /// To whom a process can pass on what it learns.
     Flow,
     /// The height of a drawing.
@@ -138,6 +142,8 @@ impl Kind {
             Kind::Trusted => b"<span class=\"trusted\">trusted <b>",
             Kind::Confined => b"<span class=\"confined\">confined <b>",
             Kind::LoginReader => b"<span class=\"login\">login <b>",
+            Kind::LeakPath => b"<p class=\"titled\"><code>",
+            Kind::LeakTitle => b"<p class=\"leak\"><code>",
             Kind::Flow => b"<p class=\"flow\"><code>",
             Kind::DrawnHeight => b"<svg viewBox=\"0 0 936 ",
             Kind::ProcessBand =>
@@ -180,7 +186,12 @@ impl Kind {
             Kind::LoginAs => b" &bull;&bull;&bull;&bull;</code>\n",
             Kind::Prose => b"</p>\n",
             Kind::Heading => b"</h3>\n",
-            Kind::Mark | Kind::ClaimMet | Kind::ClaimMissed | Kind::Flow => b"</code></p>\n",
+            Kind::Mark
+            | Kind::ClaimMet
+            | Kind::ClaimMissed
+            | Kind::LeakPath
+            | Kind::LeakTitle
+            | Kind::Flow => b"</code></p>\n",
             Kind::HiddenBytes => b"x&bull;&bull;&bull;&bull; = ok</code>\n",
             Kind::OtherLine | Kind::Granted => b"</b>",
             Kind::Call

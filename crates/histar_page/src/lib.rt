@@ -20,6 +20,7 @@ mod places;
 mod secrets;
 mod session;
 mod story;
+mod titles;
 mod views;
 mod who;
 

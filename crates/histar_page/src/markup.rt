@@ -67,6 +67,9 @@ th.job, td.job { background: var(--job) }
 .trusted { background: var(--w) }
 .confined { background: var(--r) }
 .login { background: var(--s) }
+.titled, .leak { margin: 0 }
+.titled { padding-top: .3rem; border-top: 1px solid var(--line) }
+.leak { padding-left: 1.2rem; color: var(--dim) }
 svg { display: block; width: 58.5rem; font: 13px ui-monospace, monospace }
 .node rect { fill: var(--panel); stroke: var(--line) }
 .node text { fill: var(--ink) }
@@ -134,6 +137,8 @@ pub enum Markup {
     OnSecrets,
     BeginSecret,
     EndSecret,
+    OnTitles,
+    NoTitles,
     EndSecrets,
     BeginFlows,
     OnFlows,
@@ -195,6 +200,10 @@ impl Markup {
                 b"<p>On whom each file rests at the end that isn't for everyone to read: the trusted could pass it on, the confined can't, and who logs in as one of these users may read it.</p>\n",
             Markup::BeginSecret => b"<p class=\"secret\">\n",
             Markup::EndSecret => b"</p>\n",
+            Markup::OnTitles =>
+                b"<h3>How each is revealed or changed</h3>\n<p>Below each file: which processes reveal it and to whom, which users read it after a login, and who changes it. These are the titles of what <code>histar leak</code> prints of the file, with the calls.</p>\n",
+            Markup::NoTitles =>
+                b"<h3>How each is revealed or changed</h3>\n<p>This is left out, since there are too many files and processes. <code>histar leak</code> prints it of one file.</p>\n",
             Markup::BeginFlows => b"<section id=\"flows\">\n<h2>Flows</h2>\n",
             Markup::OnFlows =>
                 b"<p>To whom each process can pass on what it learns, at the end: a process in a job to those alone that know each of its jobs. An exclamation mark is behind one that holds such a job, and may pass on what the job made.</p>\n",

@@ -32,6 +32,9 @@ pub struct Texts<'a> {
     /// The lines on secrets: one of the processes with their users, and then one for each file that not
     /// everyone may read.
     pub secrets: &'a [u8],
+    /// The lines on how each of these files is revealed or changed: its path, and then the titles of what `leak`
+    /// writes of it.
+    pub titles: &'a [u8],
     /// What `flows` writes of the script.
     pub flows: &'a [u8],
 }
@@ -65,13 +68,13 @@ fn render_head(alloc: Global, page: &mut Vec<u8>, texts: &Texts) -> Result<(), A
     render_part(page, who_pieces(alloc, texts.script))
 }
 
-/// Adds the parts that show rights: the files, the secrets, the flows and the drawing.
+/// Adds the parts that show rights: the files, the secrets with their titles, the flows and the drawing.
 fn render_rights(alloc: Global, page: &mut Vec<u8>, texts: &Texts) -> Result<(), AllocError>
     ensures { OnOk result (AddsItems page.old.items page.new.items
         (rights_shown (sources_of texts.now))) }
 {
     render_part(page, files_of(alloc, texts))?;
-    render_part(page, secrets_pieces(alloc, texts.secrets))?;
+    render_part(page, secrets_pieces(alloc, texts.secrets, texts.titles))?;
     render_part(page, flows_pieces(alloc, texts.flows))?;
     render_part(
         page,

@@ -1,4 +1,5 @@
-//! The secrets on a page: each file that not everyone may read, and which processes it depends on.
+//! The secrets on a page: each file that not everyone may read, which processes it depends on, and how it is
+//! revealed or changed.
 ghost use Rattle.std.specs.Prelude.{◌≡◌, ◌++◌, IfOk, OnOk};
 ghost use Rattle.std.specs.List.{flat_map};
 ghost use Rattle.histar_script.specs.Lines.{lines_of};
@@ -6,11 +7,13 @@ ghost use Rattle.histar_page.specs.Texts.{texts};
 ghost use Rattle.histar_page.specs.Items.{items_of};
 ghost use Rattle.histar_page.specs.Lines.{words_of};
 ghost use Rattle.histar_page.specs.Secrets.{member_kind, secret_items, secret_line_items, secrets_items};
+ghost use Rattle.histar_page.specs.Titles.{titles_items};
 
 use crate::kind::Kind;
 use crate::lines::{lines_in, without_first, words_in};
 use crate::markup::Markup;
 use crate::piece::{Piece, add, begun, fix};
+use crate::titles::push_titles;
 use crate::views::{View, push_each};
 use std::alloc::{AllocError, Global};
 
@@ -20,18 +23,23 @@ const TRUSTED: &[u8] = b"trusted";
 /// The word before a process that is confined.
 const CONFINED: &[u8] = b"confined";
 
-/// Returns the pieces of the part of a page that shows secrets: each line after the first.
+/// Returns the pieces of the part of a page that shows secrets: each line of them after the first, and then each
+/// line of titles.
 pub(crate) fn secrets_pieces<'a>(
     alloc: Global,
     secrets: &'a [u8],
+    titles: &'a [u8],
 ) -> Result<Vec<Piece<'a>>, AllocError>
-    ensures { IfOk result (λ pieces.
-        items_of pieces.items ≡ secrets_items (lines_of secrets.entry.now)) }
+    ensures { IfOk result (λ pieces. items_of pieces.items
+        ≡ secrets_items (lines_of secrets.entry.now) ++ titles_items (lines_of titles.entry.now)) }
 {
     let lines = lines_in(alloc, secrets)?;
     let files = without_first(lines.as_slice());
+    let titles = lines_in(alloc, titles)?;
     let mut pieces = begun(alloc, Markup::BeginSecrets, note_on(files))?;
     push_secrets(alloc, &mut pieces, files)?;
+    note_titles(&mut pieces, files, titles.as_slice())?;
+    push_titles(&mut pieces, titles.as_slice())?;
     Ok(pieces)
 }
 
@@ -44,7 +52,21 @@ fn note_on(lines: &[&[u8]]) -> Markup {
     }
 }
 
-/// Adds the lines of the secrets, and their end.
+/// Adds the sentence before these titles, if there are secrets.
+fn note_titles(pieces: &mut Vec<Piece>, files: &[&[u8]], titles: &[&[u8]]) -> Result<(), AllocError>
+    ensures { OnOk result (items_of pieces.new.items ≡ items_of pieces.old.items) }
+{
+    if files.is_empty() {
+        return Ok(());
+    }
+    if titles.is_empty() {
+        fix(pieces, Markup::NoTitles)
+    } else {
+        fix(pieces, Markup::OnTitles)
+    }
+}
+
+/// Adds the lines of the secrets.
 fn push_secrets<'a>(
     alloc: Global,
     pieces: &mut Vec<Piece<'a>>,
@@ -58,7 +80,7 @@ fn push_secrets<'a>(
         push_secret(alloc, pieces, line)?;
         rest = more;
     }
-    fix(pieces, Markup::EndSecrets)
+    Ok(())
 }
 
 /// Adds a line of the secrets.

@@ -9,6 +9,7 @@ use Rattle.histar_shell.specs.declared.session.Options.{Options}
 use Rattle.histar_run_explain.specs.Output.{IsExplainedOutput}
 use Rattle.histar_access.specs.Session.{AccessText}
 use Rattle.histar_trust.specs.Session.{FlowsText, SecretsText}
+use Rattle.histar_leak.specs.Titles.{TitlesText}
 use Rattle.histar_why.specs.Run.{RunsWithReasons}
 use Rattle.histar_page.specs.Page.{IsPage}
 
@@ -32,12 +33,16 @@ IsTable text table = AccessText None text (Some []) (Some table) (Ok tt)
 abbrev pub AreSecrets : List ℕ → List ℕ → Type 0
 AreSecrets text secrets = SecretsText text (Some []) (Some secrets) (Ok tt)
 
+-- these are the lines on how the secret files are revealed or changed after the script in a text
+abbrev pub AreTitles : List ℕ → List ℕ → Type 0
+AreTitles text titles = TitlesText text (Some []) (Some titles) (Ok tt)
+
 -- these are the lines on the flows after the script in a text
 abbrev pub AreFlows : List ℕ → List ℕ → Type 0
 AreFlows text flows = FlowsText None text (Some []) (Some flows) (Ok tt)
 
 -- A page was written as far as `Writes` says: one that shows the output of the run of the script in a text, why calls were refused, its table of rights, which
--- processes have to be trusted with its secret files, and to whom each process can pass on what it learns.
+-- processes have to be trusted with its secret files, how each of these is revealed or changed, and to whom each process can pass on what it learns.
 pub record WritesPageAs (Writes : List ℕ → Type 0) (name version text : List ℕ) : Type 0 where
   pub output : List ℕ
   pub is_output : IsExplainedOutput with_trace text output
@@ -47,11 +52,13 @@ pub record WritesPageAs (Writes : List ℕ → Type 0) (name version text : List
   pub is_table : IsTable text table
   pub secrets : List ℕ
   pub are_secrets : AreSecrets text secrets
+  pub titles : List ℕ
+  pub are_titles : AreTitles text titles
   pub flows : List ℕ
   pub are_flows : AreFlows text flows
   pub page : List ℕ
   pub is_page : IsPage
-      (record { name = name; version = version; script = text; output = output; reasons = reasons; table = table; secrets = secrets; flows = flows }) page
+      (record { name = name; version = version; script = text; output = output; reasons = reasons; table = table; secrets = secrets; titles = titles; flows = flows }) page
   pub written : Writes page
 
 -- A page of the run was written; or the fault of the script is returned, and nothing was written. At a failed write a beginning was

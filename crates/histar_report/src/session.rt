@@ -2,12 +2,13 @@
 ghost use Rattle.std.specs.Prelude.{◌≡◌, false, None, IfErr, IfSome};
 ghost use Rattle.histar_io.specs.Device.{CountsFailure};
 ghost use Rattle.histar_script.specs.Runs.{LeavesSink, RunsInput, is_read_failed, is_write_failed};
-ghost use Rattle.histar_report.specs.Session.{AreFlows, AreReasons, AreSecrets, IsTable, WritesPage};
+ghost use Rattle.histar_report.specs.Session.{AreFlows, AreReasons, AreSecrets, AreTitles, IsTable, WritesPage};
 ghost use Rattle.histar_run_explain.specs.Output.{GivesText};
 
 use histar_access::access;
 use histar_command::{Command, run_command};
 use histar_io::{Sink, Source, write_bytes};
+use histar_leak::secret_titles;
 use histar_page::{Texts, page_text};
 use histar_run_explain::{explained_output, in_memory};
 use histar_script::Fault;
@@ -29,8 +30,8 @@ const REPLIES: Options = Options {
 };
 
 /// Reads a script, runs it with reasons and explanations, and writes one page that shows the session, who may do what at
-/// its end, which processes have to be trusted with its secret files, and to whom each process can pass on
-/// what it learns. The name is that of the script's file.
+/// its end, which processes have to be trusted with its secret files, how each of these is revealed or changed, and
+/// to whom each process can pass on what it learns. The name is that of the script's file.
 ///
 /// It writes once the script has run. It doesn't flush the sink.
 pub fn report<R: Source, W: Sink>(
@@ -100,6 +101,7 @@ fn report_text<W: Sink>(
     let reasons = reasons_of(alloc, text)?;
     let table = table_of(alloc, text)?;
     let secret_lines = secrets_of(alloc, text)?;
+    let title_lines = titles_of(alloc, text)?;
     let flow_lines = flows_of(alloc, text)?;
     let page = page_text(
         alloc,
@@ -111,6 +113,7 @@ fn report_text<W: Sink>(
             reasons: reasons.as_slice(),
             table: table.as_slice(),
             secrets: secret_lines.as_slice(),
+            titles: title_lines.as_slice(),
             flows: flow_lines.as_slice(),
         },
     )?;
@@ -149,6 +152,18 @@ fn secrets_of(alloc: Global, text: &[u8]) -> Result<Vec<u8>, Fault>
     let mut reader = Counted::new(text);
     let mut writer = Counted::new(Vec::new(alloc));
     match secrets(alloc, &mut reader, &mut writer) {
+        Ok(()) => Ok(writer.into_inner()),
+        Err(fault) => Err(in_memory(fault)),
+    }
+}
+
+/// Returns the lines on how these files are revealed or changed after the script in a text.
+fn titles_of(alloc: Global, text: &[u8]) -> Result<Vec<u8>, Fault>
+    ensures { GivesText AreTitles text.now result }
+{
+    let mut reader = Counted::new(text);
+    let mut writer = Counted::new(Vec::new(alloc));
+    match secret_titles(alloc, &mut reader, &mut writer) {
         Ok(()) => Ok(writer.into_inner()),
         Err(fault) => Err(in_memory(fault)),
     }

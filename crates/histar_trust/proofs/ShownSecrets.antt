@@ -40,9 +40,10 @@ use Rattle.histar_readout.specs.TreeEntries.{TreeEntry, flat_entry, tree_entry}
 use Rattle.histar_readout.specs.TreeLines.{TreeLine, flat_line, line_at}
 use Rattle.histar_shell.specs.Ending.{IsTreeIn}
 use Rattle.histar_shell.specs.Machine.{MachineModel}
-use Rattle.histar_trust.specs.Findings.{AreMembers, ShowsReached, names_of, next_way, shown_members, shown_runners, shown_secret}
-use Rattle.histar_trust.specs.Findings.{shown_secrets, those_of}
-use Rattle.histar_trust.specs.Secrets.{is_secret, members_text, process_mark, runners_line, secret_text, secrets_text, user_mark}
+use Rattle.histar_trust.specs.Findings.{AreMembers, ShowsReached, names_of, next_way, on_ways, shown_members, shown_runners, shown_secret}
+use Rattle.histar_trust.specs.Findings.{shown_secret_path, shown_secret_paths, shown_secrets, those_of}
+use Rattle.histar_trust.specs.Secrets.{is_secret, is_secret_file, members_text, process_mark, runners_line, secret_paths, secret_text, secrets_text}
+use Rattle.histar_trust.specs.Secrets.{user_mark}
 use Rattle.histar_trust.specs.TrustText.{is_for_everyone}
 use Rattle.histar_trust.proofs.Descent.{AreNext, IsNext, rooted}
 use Rattle.histar_trust.proofs.Places.{IsAt, class_is, first_of_list, number_of, open_by_number, rest_of_list}
@@ -125,15 +126,14 @@ module _ (users : Accounts) (members : List Member) where
       end ∙ ap (λ t. t ++ codes "\n") (shown ∙ ap (λ t. t ++ all) path) ∙ behind_three old (path_text node.path) all (codes "\n")
       ∙ ap (λ b. old ++ (if b then path_text node.path ++ all ++ codes "\n" else [])) (sym is_one)
 
-  -- the text of one more node was added
-  pub one_more : (way : List Class) (text : List ℕ) {later : List Class} {nodes rest : List TreeNode} {node : TreeNode} {whole new : List ℕ}
-      → nodes ≡ node ∷ rest → later ≡ next_way way node → new ≡ text ++ shown_secret users members node later
-      → whole ≡ text ++ shown_secrets users members way nodes → whole ≡ new ++ shown_secrets users members later rest
-  one_more way text {later} {nodes} {rest} {node} turn go added before =
-      before ∙ ap (λ (left : List TreeNode). text ++ shown_secrets users members way left) turn
-      ∙ ap (λ (w : List Class). text ++ (shown_secret users members node w ++ shown_secrets users members w rest)) (sym go)
-      ∙ sym (append_assoc text (shown_secret users members node later) (shown_secrets users members later rest))
-      ∙ ap (λ t. t ++ shown_secrets users members later rest) (sym added)
+-- what is made of one more node was added
+pub made_more : {A : Type 0} (made : TreeNode → List Class → List A) (way : List Class) (old : List A) {later : List Class}
+    {nodes rest : List TreeNode} {node : TreeNode} {whole new : List A} → nodes ≡ node ∷ rest → later ≡ next_way way node
+    → new ≡ old ++ made node later → whole ≡ old ++ on_ways made way nodes → whole ≡ new ++ on_ways made later rest
+made_more {A} made way old {later} {nodes} {rest} {node} {whole} {new} turn go added before =
+    before ∙ ap (λ (left : List TreeNode). old ++ on_ways made way left) turn
+    ∙ ap (λ (w : List Class). old ++ (made node w ++ on_ways made w rest)) (sym go)
+    ∙ sym (append_assoc old (made node later) (on_ways made later rest)) ∙ ap (λ (t : List A). t ++ on_ways made later rest) (sym added)
 
 -- ---- the way of a path
 
@@ -174,10 +174,28 @@ module _ (number : ProcName → ℕ) (f : Flat) where
   one_class None h = absurd (true≢false (sym h))
   one_class (Some n) h = refl
 
+-- ---- the paths
+
+-- the path of an entry, if it is secret
+abbrev path_of : Flat → Path × Node → List Path
+path_of f e = if is_secret_file f e then e.0 ∷ [] else []
+
+-- the paths of entries that are secret are those of the secret ones
+listed_paths : (f : Flat) (es : List (Path × Node))
+    → flat_map (path_of f) es ≡ map (λ (e : Path × Node). e.0) (filter (is_secret_file f) es)
+listed_paths f [] = refl
+listed_paths f (e ∷ es) = by (is_secret_file f e) (listed_paths f es)
+  where
+    by : (b : Bool) → flat_map (path_of f) es ≡ map (λ (x : Path × Node). x.0) (filter (is_secret_file f) es)
+        → (let l : List Path = if b then e.0 ∷ [] else [] in l) ++ flat_map (path_of f) es
+        ≡ map (λ (x : Path × Node). x.0)
+        (let l : List (Path × Node) = if b then e ∷ filter (is_secret_file f) es else filter (is_secret_file f) es in l)
+    by true h = ap (λ (paths : List Path). e.0 ∷ paths) h
+    by false h = h
+
 -- ---- a machine
 
-module _ {accounts : Accounts} {m : MachineModel} {f : Flat} (r : ShowsReached accounts m f) (members : List Member)
-    (found : AreMembers m members) where
+module _ {accounts : Accounts} {m : MachineModel} {f : Flat} (r : ShowsReached accounts m f) where
   abbrev s : State
   s = state m.kernel
 
@@ -186,25 +204,6 @@ module _ {accounts : Accounts} {m : MachineModel} {f : Flat} (r : ShowsReached a
 
   abbrev number : ProcName → ℕ
   number = number_of l.category
-
-  -- the members with their roles towards a file, and the login readers, are those of the flat state
-  members_are : (path : Path)
-      → shown_members (without_passwords accounts) members (classes_on number f path) ≡ members_text accounts f (way_to f path)
-  members_are path = λ i.
-      flat_map (process_mark (codes "trusted")) (chosen r members found
-      (has_role accounts.groups (classes_on number f path) Trusted) (is_trusted accounts (way_to f path) f)
-      (λ member c same runs. trusted_same r members found member c same runs path) i)
-      ++ flat_map (process_mark (codes "confined")) (chosen r members found
-      (has_role accounts.groups (classes_on number f path) Confined) (is_confined accounts (way_to f path) f)
-      (λ member c same runs. confined_same r members found member c same runs path) i)
-      ++ flat_map (user_mark (codes "login")) (filter (λ user. (is_so r).reader_login path user i) (same_names accounts.users i))
-
-  -- a file's line, by the way from `/` on, is that of the flat state
-  one_secret : (node : TreeNode) (e : Path × Node) → IsAt s l.category e.0 node e.1
-      → shown_secret (without_passwords accounts) members node (down number f e.0) ≡ secret_text accounts f e
-  one_secret node e is =
-      secret_same (without_passwords accounts) members (down number f e.0) (classes_on number f e.0) (down_alike number f e.0) node
-      ∙ (λ i. if (not (is.kind i) && not (open_by_number number f e.0 i)) then path_text (is.path i) ++ members_are e.0 i ++ codes "\n" else [])
 
   -- of what is there the directories above are there, so each has a class
   length_above : (q : Path) (there : Node) → get f.files q ≡ Some there → length (above number f q) ≡ length q
@@ -243,49 +242,89 @@ module _ {accounts : Accounts} {m : MachineModel} {f : Flat} (r : ShowsReached a
     bytes = ap (λ (x : TreeLine). x.bytes) line;
   }
 
-  -- the lines of files are those of the flat state, where the way to a path is known, and the first node is next to it
-  lines_are : (p : Path) (before : List Class) → before ≡ down number f p → (nodes : List TreeNode) (es : List (Path × Node)) → AreNext p nodes
-      → map (tree_entry s) nodes ≡ map (flat_entry l.category) es → map (line_at s) nodes ≡ map flat_line es → AllOf (IsIn f.files.entries) es
-      → shown_secrets (without_passwords accounts) members before nodes ≡ flat_map (secret_text accounts f) es
-  unfolding first_of_list rest_of_list
-  lines_are p before known [] [] next entries lines all = refl
-  lines_are p before known [] (e ∷ es) next entries lines all = absurd (cc)
-  lines_are p before known (node ∷ nodes) [] next entries lines all = absurd (cc)
-  lines_are p before known (node ∷ nodes) (e ∷ es) next entries lines all =
-      let is = matches node e (ap (first_of_list (tree_entry s node)) entries) (ap (first_of_list (line_at s node)) lines) in
-      let front = ap (take (length e.0)) known ∙ front_is p e.0 e.1 all.0 (subst (IsNext p) is.path next.0) in
-      let way : next_way before node ≡ down number f e.0 = way_is before node e is all.0 front in
-      ap₂ (λ (a b : List ℕ). a ++ b) (ap (shown_secret (without_passwords accounts) members node) way ∙ one_secret node e is)
-      (lines_are node.path (next_way before node) (way ∙ ap (down number f) (sym is.path)) nodes es next.1
-      (ap rest_of_list entries) (ap rest_of_list lines) all.1)
+  module _ {A : Type 0} (made : TreeNode → List Class → List A) (of : Path × Node → List A)
+      (agree : (node : TreeNode) (e : Path × Node) → IsAt s l.category e.0 node e.1 → made node (down number f e.0) ≡ of e) where
+    -- what is made of nodes is made of the entries, where the way to a path is known, and the first node is next to it
+    made_same : (p : Path) (before : List Class) → before ≡ down number f p → (nodes : List TreeNode) (es : List (Path × Node)) → AreNext p nodes
+        → map (tree_entry s) nodes ≡ map (flat_entry l.category) es → map (line_at s) nodes ≡ map flat_line es → AllOf (IsIn f.files.entries) es
+        → on_ways made before nodes ≡ flat_map of es
+    unfolding first_of_list rest_of_list
+    made_same p before known [] [] next entries lines all = refl
+    made_same p before known [] (e ∷ es) next entries lines all = absurd (cc)
+    made_same p before known (node ∷ nodes) [] next entries lines all = absurd (cc)
+    made_same p before known (node ∷ nodes) (e ∷ es) next entries lines all =
+        let is = matches node e (ap (first_of_list (tree_entry s node)) entries) (ap (first_of_list (line_at s node)) lines) in
+        let front = ap (take (length e.0)) known ∙ front_is p e.0 e.1 all.0 (subst (IsNext p) is.path next.0) in
+        let way : next_way before node ≡ down number f e.0 = way_is before node e is all.0 front in
+        ap₂ (λ (a b : List A). a ++ b) (ap (made node) way ∙ agree node e is)
+        (made_same node.path (next_way before node) (way ∙ ap (down number f) (sym is.path)) nodes es next.1
+        (ap rest_of_list entries) (ap rest_of_list lines) all.1)
 
-  -- the lines of all files are those of the flat state
-  all_lines_are : (slash : TreeNode) (nodes : List TreeNode) (es : List (Path × Node)) → slash.path ≡ [] → AreNext [] nodes
-      → map (tree_entry s) (slash ∷ nodes) ≡ map (flat_entry l.category) es → map (line_at s) (slash ∷ nodes) ≡ map flat_line es
-      → AllOf (IsIn f.files.entries) es
-      → shown_secrets (without_passwords accounts) members [] (slash ∷ nodes) ≡ flat_map (secret_text accounts f) es
-  unfolding first_of_list rest_of_list
-  all_lines_are slash nodes [] root next entries lines all = absurd (cc)
-  all_lines_are slash nodes (e ∷ es) root next entries lines all =
-      let is = matches slash e (ap (first_of_list (tree_entry s slash)) entries) (ap (first_of_list (line_at s slash)) lines) in
-      let here : e.0 ≡ [] = sym is.path ∙ root in
-      let way : next_way [] slash ≡ down number f e.0 = way_is [] slash e is all.0
-      (subst (λ (q : Path). take (length q) [] ≡ above number f q) (sym here) refl) in
-      ap₂ (λ (a b : List ℕ). a ++ b) (ap (shown_secret (without_passwords accounts) members slash) way ∙ one_secret slash e is)
-      (lines_are [] (next_way [] slash) (way ∙ ap (down number f) here) nodes es next (ap rest_of_list entries) (ap rest_of_list lines) all.1)
+    -- what is made of all nodes, from `/` on, is made of the entries
+    all_made : (slash : TreeNode) (nodes : List TreeNode) (es : List (Path × Node)) → slash.path ≡ [] → AreNext [] nodes
+        → map (tree_entry s) (slash ∷ nodes) ≡ map (flat_entry l.category) es → map (line_at s) (slash ∷ nodes) ≡ map flat_line es
+        → AllOf (IsIn f.files.entries) es → on_ways made [] (slash ∷ nodes) ≡ flat_map of es
+    unfolding first_of_list rest_of_list
+    all_made slash nodes [] root next entries lines all = absurd (cc)
+    all_made slash nodes (e ∷ es) root next entries lines all =
+        let is = matches slash e (ap (first_of_list (tree_entry s slash)) entries) (ap (first_of_list (line_at s slash)) lines) in
+        let here : e.0 ≡ [] = sym is.path ∙ root in
+        let way : next_way [] slash ≡ down number f e.0 = way_is [] slash e is all.0
+        (subst (λ (q : Path). take (length q) [] ≡ above number f q) (sym here) refl) in
+        ap₂ (λ (a b : List A). a ++ b) (ap (made slash) way ∙ agree slash e is)
+        (made_same [] (next_way [] slash) (way ∙ ap (down number f) here) nodes es next (ap rest_of_list entries) (ap rest_of_list lines) all.1)
 
-  -- the line of the processes is that of the flat state
-  runners_are : shown_runners members ≡ runners_line f
-  runners_are = λ i. codes "running" ++ runners_shown f l.category members (running_in f) (all_members r members found) i ++ codes "\n"
+    -- what is made of the nodes of a tree is made of the entries of the flat state
+    on_ways_are : (tree : List TreeNode) → IsTreeIn m tree → on_ways made [] tree ≡ flat_map of f.files.entries
+    on_ways_are tree is =
+        let same : tree ≡ (own_tree r tree is).tree = sym (same_tree r tree is) in
+        let root = rooted m.users s m.roots tree is in
+        let parts : root.slash ∷ root.below ≡ (own_tree r tree is).tree = sym root.parts ∙ same in
+        ap (on_ways made []) root.parts
+        ∙ all_made root.slash root.below f.files.entries root.at_root root.next
+        (ap (map (tree_entry s)) parts ∙ (own_tree r tree is).same) (ap (map (line_at s)) parts ∙ (own_tree r tree is).lines)
+        (each_found f.files.entries (holds (is_sorted path_cmp f.files.entries) f.files.sorted))
 
-  -- what is printed of a tree is the text of the flat state
-  pub secrets_there : (tree : List TreeNode) → IsTreeIn m tree
-      → shown_runners members ++ shown_secrets m.users members [] tree ≡ secrets_text accounts f
-  secrets_there tree is =
-      let same : tree ≡ (own_tree r tree is).tree = sym (same_tree r tree is) in
-      let root = rooted m.users s m.roots tree is in
-      let parts : root.slash ∷ root.below ≡ (own_tree r tree is).tree = sym root.parts ∙ same in
-      (λ i. runners_are i ++ shown_secrets (r.shows.users i) members [] (root.parts i))
-      ∙ ap (λ t. runners_line f ++ t) (all_lines_are root.slash root.below f.files.entries root.at_root root.next
-      (ap (map (tree_entry s)) parts ∙ (own_tree r tree is).same) (ap (map (line_at s)) parts ∙ (own_tree r tree is).lines)
-      (each_found f.files.entries (holds (is_sorted path_cmp f.files.entries) f.files.sorted)))
+  -- a node is secret by the way from `/` on if its entry is
+  path_same : (node : TreeNode) (e : Path × Node) → IsAt s l.category e.0 node e.1
+      → shown_secret_path node (down number f e.0) ≡ path_of f e
+  path_same node e is =
+      let reached = down_alike number f e.0 is_for_everyone ∙ open_by_number number f e.0 in
+      λ i. if (not (is.kind i) && not (reached i)) then is.path i ∷ [] else []
+
+  -- the paths of the secret files of a tree are those of the flat state
+  pub secret_paths_there : (tree : List TreeNode) → IsTreeIn m tree → shown_secret_paths [] tree ≡ secret_paths f
+  secret_paths_there tree is =
+      on_ways_are shown_secret_path (path_of f) path_same tree is ∙ listed_paths f f.files.entries
+
+  module _ (members : List Member) (found : AreMembers m members) where
+    -- the members with their roles towards a file, and the login readers, are those of the flat state
+    members_are : (path : Path)
+        → shown_members (without_passwords accounts) members (classes_on number f path) ≡ members_text accounts f (way_to f path)
+    members_are path = λ i.
+        flat_map (process_mark (codes "trusted")) (chosen r members found
+        (has_role accounts.groups (classes_on number f path) Trusted) (is_trusted accounts (way_to f path) f)
+        (λ member c same runs. trusted_same r members found member c same runs path) i)
+        ++ flat_map (process_mark (codes "confined")) (chosen r members found
+        (has_role accounts.groups (classes_on number f path) Confined) (is_confined accounts (way_to f path) f)
+        (λ member c same runs. confined_same r members found member c same runs path) i)
+        ++ flat_map (user_mark (codes "login")) (filter (λ user. (is_so r).reader_login path user i) (same_names accounts.users i))
+
+    -- a file's line, by the way from `/` on, is that of the flat state
+    one_secret : (node : TreeNode) (e : Path × Node) → IsAt s l.category e.0 node e.1
+        → shown_secret (without_passwords accounts) members node (down number f e.0) ≡ secret_text accounts f e
+    one_secret node e is =
+        secret_same (without_passwords accounts) members (down number f e.0) (classes_on number f e.0) (down_alike number f e.0) node
+        ∙ (λ i. if (not (is.kind i) && not (open_by_number number f e.0 i)) then path_text (is.path i) ++ members_are e.0 i ++ codes "\n" else [])
+
+    -- the line of the processes is that of the flat state
+    runners_are : shown_runners members ≡ runners_line f
+    runners_are = λ i. codes "running" ++ runners_shown f l.category members (running_in f) (all_members r members found) i ++ codes "\n"
+
+    -- what is printed of a tree is the text of the flat state
+    pub secrets_there : (tree : List TreeNode) → IsTreeIn m tree
+        → shown_runners members ++ shown_secrets m.users members [] tree ≡ secrets_text accounts f
+    secrets_there tree is =
+        (λ i. runners_are i ++ shown_secrets (r.shows.users i) members [] tree)
+        ∙ ap (λ t. runners_line f ++ t)
+        (on_ways_are (shown_secret (without_passwords accounts) members) (secret_text accounts f) one_secret tree is)

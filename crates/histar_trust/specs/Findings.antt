@@ -98,6 +98,19 @@ classes_to tree (n ∷ d) = class_there (node_at (n ∷ d) tree) ++ classes_to t
 abbrev pub next_way : List FlatClass → TreeNode → List FlatClass
 next_way before node = take (length node.path) before ++ class_flat node.class ∷ []
 
+-- what is made of nodes, one after another, each by the way to it that the way to the node before leads to
+abbrev pub on_ways : {A : Type 0} → (TreeNode → List FlatClass → List A) → List FlatClass → List TreeNode → List A
+on_ways made before [] = []
+on_ways made before (node ∷ nodes) = made node (next_way before node) ++ on_ways made (next_way before node) nodes
+
+-- the path of a node, if it is a file that not every process reaches by this way
+abbrev pub shown_secret_path : TreeNode → List FlatClass → List Path
+shown_secret_path node way = if is_secret (is_directory node.target) way then node.path ∷ [] else []
+
+-- the paths of these files among nodes, where this is the way to the node before them
+abbrev pub shown_secret_paths : List FlatClass → List TreeNode → List Path
+shown_secret_paths before nodes = on_ways shown_secret_path before nodes
+
 -- every process may read each of these classes
 abbrev pub are_for_everyone : List FileClass → Bool
 are_for_everyone classes = list_all (λ class. is_for_everyone (flat_class class)) classes
@@ -125,8 +138,7 @@ module _ (accounts : Accounts) (members : List Member) where
 
   -- the texts of nodes among the secrets, one after another, each by the way to it that the way to the node before leads to
   abbrev pub shown_secrets : List FlatClass → List TreeNode → List ℕ
-  shown_secrets before [] = []
-  shown_secrets before (node ∷ nodes) = shown_secret node (next_way before node) ++ shown_secrets (next_way before node) nodes
+  shown_secrets before nodes = on_ways shown_secret before nodes
 
 -- the line of a file or a directory, without processes
 abbrev pub head_text : TreeNode → List ℕ

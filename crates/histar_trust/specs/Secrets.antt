@@ -1,5 +1,5 @@
 -- The running processes, and which processes have to be trusted with each file that not everyone may read: the text of a flat state.
-use Rattle.std.specs.Prelude.{ℕ, Bool, not, ◌&&◌, List, [], ◌++◌, codes, None, if◌then◌else◌}
+use Rattle.std.specs.Prelude.{ℕ, Bool, not, ◌&&◌, List, [], ◌++◌, codes, filter, map, None, if◌then◌else◌}
 use Rattle.std.specs.List.{flat_map}
 use Rattle.histar_flat.specs.Words.{Name, Path, ProcName}
 use Rattle.histar_flat.specs.Accounts.{Accounts}
@@ -15,6 +15,14 @@ use Rattle.histar_trust.specs.TrustText.{confined_by, is_open_way, login_readers
 -- it is no directory, and not every process reaches it
 abbrev pub is_secret : Bool → List Class → Bool
 is_secret is_directory way = not is_directory && not (is_open_way way)
+
+-- the entry is a file that not every process reaches
+abbrev pub is_secret_file : Flat → Path × Node → Bool
+is_secret_file f e = is_secret (is_dir e.1) (way_to f e.0)
+
+-- the paths of these files, in their order
+abbrev pub secret_paths : Flat → List Path
+secret_paths f = map (λ (e : Path × Node). e.0) (filter (is_secret_file f) f.files.entries)
 
 -- a process after a space, a word and a colon
 abbrev pub process_mark : List ℕ → ProcName × Name → List ℕ
@@ -46,7 +54,7 @@ module _ (accounts : Accounts) (f : Flat) where
 
   -- the path and these members of a file that not every process reaches, and nothing for all else
   abbrev pub secret_text : Path × Node → List ℕ
-  secret_text e = if is_secret (is_dir e.1) (way_to f e.0) then path_text e.0 ++ members_text (way_to f e.0) ++ codes "\n" else []
+  secret_text e = if is_secret_file f e then path_text e.0 ++ members_text (way_to f e.0) ++ codes "\n" else []
 
   -- the line of the processes, and then these lines, in the order of paths
   abbrev pub secrets_text : List ℕ

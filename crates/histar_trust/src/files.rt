@@ -5,13 +5,14 @@ ghost use Rattle.histar_layout.specs.Listing.{is_directory};
 ghost use Rattle.histar_shell.specs.Ending.{IsTreeIn};
 ghost use Rattle.histar_secrecy.specs.ShownRoles.{flat_class};
 ghost use Rattle.histar_trust.specs.Findings.{HasState, ShowsSecrets, shown_members, shown_runner, shown_runners};
+ghost use Rattle.histar_trust.specs.Findings.{shown_secret_path, shown_secret_paths};
 ghost use Rattle.histar_trust.specs.Findings.{shown_secret, shown_secrets};
 ghost use Rattle.histar_trust.specs.Secrets.{is_secret, process_mark, user_mark};
 
 use crate::members::{members_among, user_names};
 use crate::output::is_open_way;
 use crate::way::go_on;
-use histar_flat::{Name, ProcName};
+use histar_flat::{Name, Path, ProcName};
 use histar_label::LabelStore;
 use histar_layout::UserTable;
 use histar_prefix::processes;
@@ -136,6 +137,36 @@ fn push_secret(
     push_path(text, &node.path)?;
     push_members(alloc, text, users, members, classes)?;
     text.extend_from_slice(b"\n")
+}
+
+/// Returns the paths of the files of a tree that not every process reaches, in one pass of the same kind.
+pub fn secret_paths(alloc: Global, tree: &[TreeNode]) -> Result<Vec<Path>, AllocError>
+    ensures { IfOk result (λ paths. paths.items ≡ shown_secret_paths [] tree.now) }
+{
+    let mut paths = Vec::new(alloc);
+    let mut way = Vec::new(alloc);
+    'nodes: for node in tree {
+        go_on(alloc, &mut way, node)?;
+        push_secret_path(&mut paths, node, way.as_slice())?;
+    }
+    Ok(paths)
+}
+
+/// Adds the path of a file of a tree, unless every process reaches it. It adds nothing for a directory. The
+/// classes are those on the way to it.
+fn push_secret_path(
+    paths: &mut Vec<Path>,
+    node: &TreeNode,
+    classes: &[FileClass],
+) -> Result<(), AllocError>
+    ensures { OnOk result (paths.new.items
+        ≡ paths.old.items ++ shown_secret_path node.now (map flat_class classes.now)) }
+{
+    let secret = is_secret(node, classes);
+    if !secret {
+        return Ok(());
+    }
+    Ok(paths.push(node.path)?)
 }
 
 /// Checks whether a node is a file that not every process reaches.

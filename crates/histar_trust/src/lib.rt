@@ -13,6 +13,7 @@ mod session;
 pub mod trust_laws;
 mod way;
 
+pub use files::secret_paths;
 pub use members::members_among;
 pub use output::{is_open_way, push_head};
 pub use session::{TrustOptions, flows, secrets, trust};

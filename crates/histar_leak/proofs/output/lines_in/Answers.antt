@@ -1,39 +1,11 @@
 -- Proves the goals of `lines_in` of src/output.rt that the search leaves open.
-use Rattle.std.proofs.Common.{◌≡◌, ◌++◌, ap, ◌∙◌}
-use Rattle.std.specs.List.{filter_map}
-use Rattle.std.specs.Prelude.{map, option_copied}
-use Rattle.histar_flat.proofs.NamedPaths.{path_is_short}
-use Rattle.histar_syscall.specs.KernelModel.{state}
-use Rattle.histar_secrecy.specs.ShownRoles.{flat_class}
-use Rattle.histar_trust.specs.Findings.{AreMembers, classes_to, node_at, running_node}
-use Rattle.histar_trust.proofs.Pieces.{made_so}
 use Rattle.histar_trust.proofs.ShownTrust.{has_processes}
-use Rattle.histar_leak.specs.Findings.{bytes_there, shown_leak}
-use Rattle.histar_leak.proofs.ShownLeak.{text_there}
+use Rattle.histar_leak.proofs.ShownLeak.{members_found}
 use Rattle.histar_leak.proofs.output.lines_in.Goals as goal
 
 pub processes-requires : goal.processes-requires
 processes-requires g c = has_processes c.requires.shows.1
 
-pub returns : goal.returns
-returns g c =
-    let m = c.args.machine.now in
-    let path = c.args.path.now in
-    let tree = c.args.tree.now in
-    let members = c.in_ok-members.members.items in
-    let found : AreMembers m members = record {
-      processes = c.in_ok-processes.processes.items;
-      are = c.in_ok-processes.ensures;
-      runners = c.in_ok-members.ensures ∙ ap (filter_map running_node) c.as_slice.ensures.value;
-    } in
-    let classes = c.push_classes.new.classes.items in
-    let are : map flat_class classes ≡ classes_to tree path =
-    c.in_ok-push_classes.ensures ∙ (λ i. map flat_class (c.new-classes.ensures.items i) ++ classes_to tree (c.names.ensures.names i)) in
-    let there : option_copied c.node_at.result ≡ node_at path tree =
-    c.node_at.ensures ∙ ap (λ names. node_at names tree) c.names-2.ensures.names in
-    let bytes = c.bytes_there.ensures ∙ ap (bytes_there (state m.kernel)) there in
-    made_so c.scene_lines.result
-    (λ text is f r. is
-    ∙ (λ i. shown_leak c.args.accounts.now (c.as_slice-2.ensures.value i) (c.as_slice-3.ensures.value i) path (bytes i) tree)
-    ∙ text_there r path tree c.requires.tree members found classes are (path_is_short path c.names.ensures.right))
-    c.scene_lines.ensures
+pub path_lines-requires-clause-members : goal.path_lines-requires-clause-members
+path_lines-requires-clause-members g c =
+    members_found c.in_ok-processes.ensures c.in_ok-members.ensures c.as_slice.ensures.value c.as_slice-2.ensures.value

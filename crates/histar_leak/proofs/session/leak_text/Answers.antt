@@ -8,7 +8,7 @@ use Rattle.histar_leak.proofs.session.leak_text.Goals as goal
 
 pub returns-in_err-lines-clause-runs : goal.returns-in_err-lines-clause-runs
 returns-in_err-lines-clause-runs g c =
-    rw (passed_on _ _ c.from_residual-in_err-lines.ensures.1) (unmade_text c.args.at c.args.path.now c.args.text.now _ _
+    rw (passed_on _ _ c.from_residual-in_err-lines.ensures.1) (unmade_text (leak_before c.args.at c.args.path.now) c.args.text.now _ _
     (rw c.in_err-lines.was at c.script_lines-shown.ensures))
 
 pub returns-in_err-write_bytes-clause-runs : goal.returns-in_err-write_bytes-clause-runs

@@ -13,9 +13,11 @@ returns-in_err-write_bytes-clause-runs g c =
       is_table = rw c.as_slice-3.ensures.value c.in_ok-table.ensures;
       secrets = c.as_slice-4.result.now;
       are_secrets = rw c.as_slice-4.ensures.value c.in_ok-secret_lines.ensures;
-      flows = c.as_slice-5.result.now;
-      are_flows = rw c.as_slice-5.ensures.value c.in_ok-flow_lines.ensures;
-      page = c.as_slice-6.result.now;
-      is_page = rw c.as_slice-6.ensures.value c.in_ok-page.ensures;
+      titles = c.as_slice-5.result.now;
+      are_titles = rw c.as_slice-5.ensures.value c.in_ok-title_lines.ensures;
+      flows = c.as_slice-6.result.now;
+      are_flows = rw c.as_slice-6.ensures.value c.in_ok-flow_lines.ensures;
+      page = c.as_slice-7.result.now;
+      is_page = rw c.as_slice-7.ensures.value c.in_ok-page.ensures;
       written = c.in_err-write_bytes.ensures.err;
     })

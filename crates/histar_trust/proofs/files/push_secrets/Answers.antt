@@ -6,7 +6,7 @@ use Rattle.histar_readout.specs.declared.tree.TreeNode.{TreeNode}
 use Rattle.histar_secrecy.specs.declared.file_class.FileClass.{FileClass}
 use Rattle.histar_secrecy.specs.ShownRoles.{flat_class}
 use Rattle.histar_trust.specs.Findings.{shown_secret, shown_secrets}
-use Rattle.histar_trust.proofs.ShownSecrets.{one_more}
+use Rattle.histar_trust.proofs.ShownSecrets.{made_more}
 use Rattle.histar_trust.proofs.files.push_secrets.Goals as goal
 
 pub nodes-init : goal.nodes-init
@@ -21,7 +21,7 @@ nodes-preserved c =
     let turn = drop_more tree i c.node-item.result c.nodes-test.true
     ∙ ap (λ (node : TreeNode). node ∷ drop (i + 1) tree) (sym c.node-item.is) in
     let ways = c.as_slice.ensures.value in
-    one_more c.args.users.now c.args.members.now (map flat_class c.nodes.way.items) c.nodes.text.items turn c.in_ok-go_on.ensures
+    made_more (shown_secret c.args.users.now c.args.members.now) (map flat_class c.nodes.way.items) c.nodes.text.items turn c.in_ok-go_on.ensures
     (c.in_ok-push_secret.ensures
     ∙ ap (λ (way : List FileClass). c.nodes.text.items ++ shown_secret c.args.users.now c.args.members.now c.node-item.result
     (map flat_class way)) ways) c.nodes.invariant
