@@ -227,7 +227,8 @@ too_long old line text said is reads said_is right = (answered_by old old line t
 -- ---- the first session, and each line
 
 -- a session of no lines is right
-pub new_right : (s : Session) → s.text.items ≡ [] → s.undone.items ≡ [] → s.count ≡ 0 → s.running ≡ None → s.speaker ≡ None → IsNew s
+pub new_right : (s : Session) → s.text.items ≡ [] → s.undone.items ≡ [] → s.count ≡ 0 → s.running ≡ None
+    → s.speaker ≡ None → IsNew s
 new_right s text undone count running speaker = (
   (λ i. record { text = text i; undone = undone i; speaker = speaker i }),
   record {

@@ -94,7 +94,9 @@ begun_of text short reads = by reads
 
     by : ReadsOn nothing_read 0 (lines_of text) → IsBegun text
     by (inl is) = inl (subst IsOk (sym (read ∙ is.1)) refl)
-    by (inr is) = let same : is.0 ≡ length (lines_of text) + 1 = omega (arith, is.1) in inr (read ∙ is.2 ∙ ap (λ (k : ℕ). Err (BadScript k)) same)
+    by (inr is) =
+        let same : is.0 ≡ length (lines_of text) + 1 = omega (arith, is.1) in
+        inr (read ∙ is.2 ∙ ap (λ (k : ℕ). Err (BadScript k)) same)
 
 -- the first lines of a session are a session
 pub front_begun : (front back : List ℕ) → EndsItsLines front → IsBegun (front ++ back) → IsBegun front

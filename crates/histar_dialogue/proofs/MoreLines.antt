@@ -128,7 +128,8 @@ pub numbered_by : (text : List ℕ) (s : ScriptModel) → script_of text ≡ Ok 
 numbered_by text s is = (numbered text s (found_from text s (read_of text s is))).within
 
 -- a bad text is not too long
-pub bad_of : (text : List ℕ) (n : ℕ) → script_of text ≡ Err (BadScript n) → (is_too_long text ≡ false) × (reading text ≡ Err (BadScript n))
+pub bad_of : (text : List ℕ) (n : ℕ) → script_of text ≡ Err (BadScript n)
+    → (is_too_long text ≡ false) × (reading text ≡ Err (BadScript n))
 bad_of text n is = by (is_too_long text) refl is
   where
     by : (t : Bool) → is_too_long text ≡ t → (if t then Err TooLong else reading text) ≡ Err (BadScript n)

@@ -23,7 +23,8 @@ lacks_so Is text ReadFailed said gives said_so = absurd gives
 lacks_so Is text WriteFailed said gives said_so = absurd gives
 
 -- what was found is shown
-pub shown_so : (Is : List ℕ → List ℕ → Type 0) (text : List ℕ) (found : Result (Vec ℕ) Fault) (said : List ℕ) → GivesText Is text found
+pub shown_so : (Is : List ℕ → List ℕ → Type 0) (text : List ℕ) (found : Result (Vec ℕ) Fault) (said : List ℕ)
+    → GivesText Is text found
     → OrNoUser found said → Shows Is text said
 shown_so Is text (Ok found) said gives said_so = inl (subst (Is text) (sym said_so) gives)
 shown_so Is text (Err fault) said gives said_so = inr (lacks_so Is text fault said gives said_so)

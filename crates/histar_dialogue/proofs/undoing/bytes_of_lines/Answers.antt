@@ -8,7 +8,8 @@ use Rattle.histar_dialogue.proofs.undoing.bytes_of_lines.Goals as goal
 
 pub returns-then-left-eq0-clause-count : goal.returns-then-left-eq0-clause-count
 returns-then-left-eq0-clause-count c =
-    let none = ap (λ (n : ℕ). bytes_of_lines n (drop c.bytes.at c.args.text.now)) c.if-left-eq0.true ∙ no_lines (drop c.bytes.at c.args.text.now) in
+    let rest = drop c.bytes.at c.args.text.now in
+    let none = ap (λ (n : ℕ). bytes_of_lines n rest) c.if-left-eq0.true ∙ no_lines rest in
     omega (arith, c.bytes.invariant, none)
 
 pub bytes-preserved : goal.bytes-preserved
