@@ -15,11 +15,13 @@ loop-path-preserved g c =
     let old = c.args.text.now.items in
     let more = take_more paths i path c.loop-path-test.true ∙ ap (λ (p : Path). take i paths ++ p ∷ []) (sym c.path-item.is) in
     λ f r. c.in_ok-push_file.ensures f r ∙ ap (λ t. t ++ file_titles accounts f path) (c.loop-path.invariant f r)
-    ∙ flat_map_more (file_titles accounts f) old (take i paths) path ∙ ap (λ (ps : List Path). old ++ flat_map (file_titles accounts f) ps) (sym more)
+    ∙ flat_map_more (file_titles accounts f) old (take i paths) path
+    ∙ ap (λ (ps : List Path). old ++ flat_map (file_titles accounts f) ps) (sym more)
 
 pub returns : goal.returns
 returns g c =
     let accounts = c.args.snapshot.now.accounts.now in
     let paths = c.args.paths.now in
+    let all = take_all c.loop-path.path-index paths c.loop-path-test.false in
     λ f r. c.loop-path.invariant f r
-    ∙ ap (λ (ps : List Path). c.args.text.now.items ++ flat_map (file_titles accounts f) ps) (take_all c.loop-path.path-index paths c.loop-path-test.false)
+    ∙ ap (λ (ps : List Path). c.args.text.now.items ++ flat_map (file_titles accounts f) ps) all
