@@ -19,8 +19,8 @@ one_script : (text : List ℕ) (a b : ScriptModel) → script_of text ≡ Ok a �
 one_script text a b e h = let same : Ok a ≡ Ok b = sym e ∙ h in cc
 
 -- the contract if memory ran out before the text was made
-pub unmade_text : (text_of : ScriptModel → List ℕ) (text : List ℕ) (w : Option (List ℕ)) (fault : Fault) → MakesText text_of text (Err fault)
-    → WritesOf text_of text w w (Err fault)
+pub unmade_text : (text_of : ScriptModel → List ℕ) (text : List ℕ) (w : Option (List ℕ)) (fault : Fault)
+    → MakesText text_of text (Err fault) → WritesOf text_of text w w (Err fault)
 unmade_text text_of text w OutOfMemory h = unwritten_text text_of text w
 unmade_text text_of text w (BadScript n) h = absurd h
 unmade_text text_of text w TooLong h = absurd h

@@ -1,7 +1,6 @@
 -- The titles of the secret files of a machine are those of the flat state that it represents.
-use Rattle.std.specs.Prelude.{◌≡◌, ℕ, zero, suc, ◌+◌, ◌*◌, ◌<◌, ◌≤◌}
-use Rattle.std.specs.Prelude.{min, nat_lt, Bool, true, false, List, [], ◌++◌, length}
-use Rattle.std.specs.Prelude.{if◌then◌else◌, refl}
+use Rattle.std.specs.Prelude.{◌≡◌, ℕ, zero, suc, ◌+◌, ◌*◌, ◌<◌, ◌≤◌, min, nat_lt, Bool, true, false, List, [], ◌++◌}
+use Rattle.std.specs.Prelude.{if◌then◌else◌, length, refl}
 use Rattle.std.specs.List.{flat_map}
 use Rattle.std.proofs.Common.{ap, sym, ◌∙◌, arith}
 use Rattle.std.proofs.Math.Nat.{suc-mul}
@@ -82,7 +81,8 @@ module _ {accounts : Accounts} {m : MachineModel} {f : Flat} (r : ShowsReached a
   work_same = λ i. nat_lt MOST_TITLE_WORK (length (paths_are i) * (entries_same i + members_same i * members_same i))
 
   module _ {test : Bool} (tested : test ≡ nat_lt MOST_TITLE_WORK (length paths * (length tree + length members * length members))) where
-    text_of : (b : Bool) → b ≡ test → titles_text accounts f ≡ (let l : List ℕ = if b then [] else flat_map (file_titles accounts f) paths in l)
+    text_of : (b : Bool) → b ≡ test
+        → titles_text accounts f ≡ (let l : List ℕ = if b then [] else flat_map (file_titles accounts f) paths in l)
     text_of b same = λ i. if (sym work_same ∙ sym tested ∙ sym same) i then [] else flat_map (file_titles accounts f) (sym paths_are i)
 
     -- too much work makes no text

@@ -1,6 +1,6 @@
 -- How each secret file is revealed or changed: the titles of what `leak` prints of it.
-use Rattle.std.specs.Prelude.{ℕ, ◌+◌, ◌*◌, nat_eq, nat_lt, Bool, List, []}
-use Rattle.std.specs.Prelude.{◌++◌, codes, drop, filter, length, None, Option, Result, if◌then◌else◌}
+use Rattle.std.specs.Prelude.{ℕ, ◌+◌, ◌*◌, nat_eq, nat_lt, Bool, List, [], ◌++◌, codes, drop, filter, length, None, Option, Result}
+use Rattle.std.specs.Prelude.{if◌then◌else◌}
 use Rattle.std.specs.List.{flat_map, starts_with}
 use Rattle.histar_flat.specs.Words.{Path}
 use Rattle.histar_flat.specs.Accounts.{Accounts}

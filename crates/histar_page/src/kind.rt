@@ -186,12 +186,8 @@ impl Kind {
             Kind::LoginAs => b" &bull;&bull;&bull;&bull;</code>\n",
             Kind::Prose => b"</p>\n",
             Kind::Heading => b"</h3>\n",
-            Kind::Mark
-            | Kind::ClaimMet
-            | Kind::ClaimMissed
-            | Kind::LeakPath
-            | Kind::LeakTitle
-            | Kind::Flow => b"</code></p>\n",
+            Kind::Mark | Kind::ClaimMet | Kind::ClaimMissed | Kind::Flow => b"</code></p>\n",
+            Kind::LeakPath | Kind::LeakTitle => b"</code></p>\n",
             Kind::HiddenBytes => b"x&bull;&bull;&bull;&bull; = ok</code>\n",
             Kind::OtherLine | Kind::Granted => b"</b>",
             Kind::Call

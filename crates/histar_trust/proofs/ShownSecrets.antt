@@ -246,9 +246,9 @@ module _ {accounts : Accounts} {m : MachineModel} {f : Flat} (r : ShowsReached a
   module _ {A : Type 0} (made : TreeNode → List Class → List A) (of : Path × Node → List A)
       (agree : (node : TreeNode) (e : Path × Node) → IsAt s l.category e.0 node e.1 → made node (down number f e.0) ≡ of e) where
     -- what is made of nodes is made of the entries, where the way to a path is known, and the first node is next to it
-    made_same : (p : Path) (before : List Class) → before ≡ down number f p → (nodes : List TreeNode) (es : List (Path × Node)) → AreNext p nodes
-        → map (tree_entry s) nodes ≡ map (flat_entry l.category) es → map (line_at s) nodes ≡ map flat_line es → AllOf (IsIn f.files.entries) es
-        → on_ways made before nodes ≡ flat_map of es
+    made_same : (p : Path) (before : List Class) → before ≡ down number f p → (nodes : List TreeNode) (es : List (Path × Node))
+        → AreNext p nodes → map (tree_entry s) nodes ≡ map (flat_entry l.category) es → map (line_at s) nodes ≡ map flat_line es
+        → AllOf (IsIn f.files.entries) es → on_ways made before nodes ≡ flat_map of es
     unfolding first_of_list rest_of_list
     made_same p before known [] [] next entries lines all = refl
     made_same p before known [] (e ∷ es) next entries lines all = absurd (cc)

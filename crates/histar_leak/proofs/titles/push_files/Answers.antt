@@ -8,20 +8,18 @@ use Rattle.histar_leak.proofs.titles.push_files.Goals as goal
 
 pub loop-path-preserved : goal.loop-path-preserved
 loop-path-preserved g c =
-    let accounts = c.args.snapshot.now.accounts.now in
+    let titles = file_titles c.args.snapshot.now.accounts.now in
     let paths = c.args.paths.now in
     let i = c.loop-path.path-index in
     let path = c.path-item.result in
     let old = c.args.text.now.items in
     let more = take_more paths i path c.loop-path-test.true ∙ ap (λ (p : Path). take i paths ++ p ∷ []) (sym c.path-item.is) in
-    λ f r. c.in_ok-push_file.ensures f r ∙ ap (λ t. t ++ file_titles accounts f path) (c.loop-path.invariant f r)
-    ∙ flat_map_more (file_titles accounts f) old (take i paths) path
-    ∙ ap (λ (ps : List Path). old ++ flat_map (file_titles accounts f) ps) (sym more)
+    λ f r. c.in_ok-push_file.ensures f r ∙ ap (λ t. t ++ titles f path) (c.loop-path.invariant f r)
+    ∙ flat_map_more (titles f) old (take i paths) path ∙ ap (λ (ps : List Path). old ++ flat_map (titles f) ps) (sym more)
 
 pub returns : goal.returns
 returns g c =
-    let accounts = c.args.snapshot.now.accounts.now in
-    let paths = c.args.paths.now in
-    let all = take_all c.loop-path.path-index paths c.loop-path-test.false in
-    λ f r. c.loop-path.invariant f r
-    ∙ ap (λ (ps : List Path). c.args.text.now.items ++ flat_map (file_titles accounts f) ps) all
+    let titles = file_titles c.args.snapshot.now.accounts.now in
+    let old = c.args.text.now.items in
+    let whole = take_all c.loop-path.path-index c.args.paths.now c.loop-path-test.false in
+    λ f r. c.loop-path.invariant f r ∙ ap (λ (ps : List Path). old ++ flat_map (titles f) ps) whole

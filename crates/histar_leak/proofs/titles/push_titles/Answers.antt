@@ -8,4 +8,4 @@ pub returns : goal.returns
 returns c =
     let text = c.lines.text.items in
     let none : length c.lines.rest.now ≡ 0 = search rules in
-    sym (append-nil text) ∙ ap (λ (lines : List (List ℕ)). text ++ title_lines lines) (sym (no_lines c.lines.rest.now none)) ∙ c.lines.invariant
+    sym (append-nil text) ∙ ap (λ (ls : List (List ℕ)). text ++ title_lines ls) (sym (no_lines c.lines.rest.now none)) ∙ c.lines.invariant
