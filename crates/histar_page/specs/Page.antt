@@ -28,7 +28,17 @@ pub record Sources : Type 0 where
 
 -- the texts behind the references
 abbrev pub sources_of : Texts → Sources
-sources_of texts = record { name = texts.name.now; version = texts.version.now; script = texts.script.now; output = texts.output.now; reasons = texts.reasons.now; table = texts.table.now; secrets = texts.secrets.now; titles = texts.titles.now; flows = texts.flows.now }
+sources_of texts = record {
+  name = texts.name.now;
+  version = texts.version.now;
+  script = texts.script.now;
+  output = texts.output.now;
+  reasons = texts.reasons.now;
+  table = texts.table.now;
+  secrets = texts.secrets.now;
+  titles = texts.titles.now;
+  flows = texts.flows.now;
+}
 
 -- the files, with the jobs of the session and the users of its processes
 abbrev pub files_shown : Sources → List Item
