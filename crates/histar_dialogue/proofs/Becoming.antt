@@ -1,6 +1,6 @@
 -- A session that takes lines back, or enters them again.
 use Rattle.std.proofs.Common.{◌≡◌, ℕ, ◌-◌, List, [], ◌++◌, length, take, drop, Option, None, Some}
-use Rattle.std.proofs.Common.{Ok, Err, refl, sym, ap, subst, ◌∙◌, append_assoc}
+use Rattle.std.proofs.Common.{Err, refl, sym, ap, subst, ◌∙◌, append_assoc}
 use Rattle.std.proofs.lemmas.List.{take-append-drop}
 use Rattle.std.specs.Global.{Vec}
 use Rattle.histar_script.specs.declared.fault.Fault.TheVariants.{BadScript}
@@ -13,7 +13,7 @@ use Rattle.histar_dialogue.specs.declared.session.Session.{Session}
 use Rattle.histar_dialogue.specs.Running.{Ran}
 use Rattle.histar_dialogue.specs.Session.{Becomes, FollowsSo, IsBegun, IsRight, IsRunning, ObeysCommand, answers_of, talk_of}
 use Rattle.histar_dialogue.specs.Steps.{IsRestarted}
-use Rattle.histar_dialogue.specs.Talk.{bytes_of_lines, cut_at, entered_again, grown_by, taken_back}
+use Rattle.histar_dialogue.specs.Talk.{bytes_of_lines, cut_at, entered_again, grown_by}
 use Rattle.histar_dialogue.proofs.Fronts.{cut_ends, front_begun, joined_ends, lacks_one}
 
 module _ (first : ℕ) (old mid : Session) (text undone : Vec ℕ) (found : Option Running) where

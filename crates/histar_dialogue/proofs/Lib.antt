@@ -2,8 +2,10 @@
 pub mod InputLines
 pub mod MoreLines
 pub mod Fronts
+pub mod ByteCounts
 pub mod Following
 pub mod Becoming
 pub mod Showing
+pub mod Obeying
 pub mod Talking
 pub mod Runs

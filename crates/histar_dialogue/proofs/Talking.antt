@@ -17,7 +17,8 @@ use Rattle.histar_script.specs.Runs.{IsOutputFault, is_write_failed}
 use Rattle.histar_script.specs.Script.{ScriptModel}
 use Rattle.histar_dialogue.specs.declared.input.Input.{Input}
 use Rattle.histar_dialogue.specs.declared.session.Session.{Session}
-use Rattle.histar_dialogue.specs.Dialogue.{BeginsLines, Converses, EndsAt, Greets, StopsAt, Talks, TalksFrom, TalksOn, is_quit, prompt_text}
+use Rattle.histar_dialogue.specs.Dialogue.{Begins, BeginsLines, Converses, EndsAt, Greets, StopsAt, Talks, TalksFrom, TalksOn, is_quit}
+use Rattle.histar_dialogue.specs.Dialogue.{prompt_text}
 use Rattle.histar_dialogue.specs.Exchange.{AnswersLines, AnswersTo, BeginsAnswer, BeginsFile, BeginsFirst, BeginsWith}
 use Rattle.histar_dialogue.specs.Input.{FailsReading, IsEmptyInput, Pulls, TakesNext, WaitsBehind}
 use Rattle.histar_dialogue.specs.Session.{Answers, IsNew, IsRight, talk_of}
@@ -418,3 +419,13 @@ module _ (first : Option (List ℕ)) (prompt : Bool) (left rest old mid new : Op
   talks_on (Err ReadFailed) on = greets (λ begun mid. TalksOn prompt begun left rest mid new (Err ReadFailed)) on
   talks_on (Err (BadScript n)) on = absurd on
   talks_on (Err TooLong) on = absurd on
+
+-- without a script to begin with the session is new
+pub begins_none : (first : Option (List ℕ)) (session : Session) (w : Option (List ℕ)) → first ≡ None → IsNew session
+    → BeginsWith first session w w
+begins_none first session w none new = record {
+  greeting = [];
+  begins = subst (λ (f : Option (List ℕ)). Begins f (talk_of session) []) (sym none) (new.0, refl);
+  right = new.1;
+  written = Appends-nil w;
+}

@@ -1,5 +1,5 @@
 -- Proves the goals of `bytes_of_lines` of src/undoing.rt that the search leaves open.
-use Rattle.std.proofs.Common.{ℕ, List, ◌≡◌, ◌+◌, ◌-◌, [], length, drop, rules, arith, subst, sym, ap, ◌∙◌}
+use Rattle.std.proofs.Common.{ℕ, ◌≡◌, ◌+◌, [], length, drop, rules, arith, ap, ◌∙◌}
 use Rattle.std.proofs.lemmas.List.{drop_all}
 use Rattle.histar_dialogue.specs.Talk.{bytes_of_lines}
 use Rattle.histar_dialogue.proofs.ByteCounts.{after_byte, after_feed, no_lines, no_text}
