@@ -9,7 +9,7 @@ use Rattle.std.proofs.lemmas.List.{length-map}
 use Rattle.histar_flat.specs.Words.{Path}
 use Rattle.histar_flat.specs.Accounts.{Accounts}
 use Rattle.histar_flat.specs.FlatState.{Flat}
-use Rattle.histar_rights.specs.Running.{Named, running_in}
+use Rattle.histar_rights.specs.Running.{running_in}
 use Rattle.histar_readout.specs.declared.tree.TreeNode.{TreeNode}
 use Rattle.histar_readout.specs.TreeEntries.{flat_entry, tree_entry}
 use Rattle.histar_secrecy.specs.declared.role.Member.{Member}

@@ -5,7 +5,7 @@ ghost use Rattle.histar_script.specs.Lines.{lines_of};
 ghost use Rattle.histar_trust.specs.Findings.{AreMembers};
 ghost use Rattle.histar_leak.specs.Findings.{AddsFile, AddsFiles, HasStateOf, ShowsTitles};
 ghost use Rattle.histar_leak.specs.Findings.{shown_title};
-ghost use Rattle.histar_leak.specs.Titles.{is_title, title_lines, titles_in};
+ghost use Rattle.histar_leak.specs.Titles.{title_lines};
 
 use crate::output::{Snapshot, path_lines};
 use histar_flat::{Accounts, Path};
@@ -72,11 +72,12 @@ fn snapshot_titles<S: LabelStore + Drop>(
         ShowsTitles snapshot.now.accounts.now machine.now text.items) }
 {
     let paths = secret_paths(alloc, snapshot.tree)?;
+    let files = paths.as_slice();
     let mut text = Vec::new(alloc);
-    if is_too_much(paths.len(), snapshot.tree.len(), snapshot.members.len()) {
+    if is_too_much(files.len(), snapshot.tree.len(), snapshot.members.len()) {
         return Ok(text);
     }
-    push_files(alloc, &mut text, machine, snapshot, paths.as_slice())?;
+    push_files(alloc, &mut text, machine, snapshot, files)?;
     Ok(text)
 }
 

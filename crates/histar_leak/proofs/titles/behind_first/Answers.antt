@@ -1,6 +1,5 @@
 -- Proves the goals of `behind_first` of src/titles.rt that the search leaves open.
 use Rattle.std.proofs.Common.{◌≡◌, ◌∙◌, ap, drop, length, rules, sym}
-use Rattle.histar_script.specs.Lines.{lines_of}
 use Rattle.histar_script.proofs.LineLemmas.{no_lines}
 use Rattle.histar_leak.proofs.titles.behind_first.Goals as goal
 

@@ -1,5 +1,5 @@
 -- Proves the goals of `is_too_much` of src/titles.rt that the search leaves open.
-use Rattle.std.proofs.Common.{ℕ, ◌+◌, ◌*◌, ◌∙◌, ap, arith}
+use Rattle.std.proofs.Common.{◌+◌, ◌*◌, ◌∙◌, ap, arith}
 use Rattle.std.specs.Prelude.{min, nat_lt}
 use Rattle.histar_leak.specs.declared.titles.TheConstants.{MOST_TITLE_WORK}
 use Rattle.histar_leak.proofs.ShownTitles.{work_cut_off}

@@ -1,5 +1,5 @@
 -- Proves the goals of `push_files` of src/titles.rt that the search leaves open.
-use Rattle.std.proofs.Common.{◌≡◌, ◌+◌, ◌∷◌, List, [], ◌++◌, ◌∙◌, ap, sym, take}
+use Rattle.std.proofs.Common.{◌∷◌, List, [], ◌++◌, ◌∙◌, ap, sym, take}
 use Rattle.std.specs.List.{flat_map}
 use Rattle.std.proofs.lemmas.List.{flat_map_more, take_all, take_more}
 use Rattle.histar_flat.specs.Words.{Path}
