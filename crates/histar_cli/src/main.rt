@@ -73,16 +73,24 @@ fn check_job<R: Files + Input + Print>(
     alloc: Global,
     job: &str,
     path: &str,
-    options: CheckOptions,
+    flags: CheckFlags,
+    line: Option<&str>,
 ) -> Performed {
+    let at = read_line(line)?;
     let job = read_job(job)?;
-    Ok(check_file(rt, alloc, &job, path, options))
+    Ok(check_file(rt, alloc, &job, path, CheckOptions { flags, at }))
 }
 
-/// Returns what a comparison prints, and up to which line it runs.
-fn check_options(flags: CheckFlags, line: Option<&str>) -> Result<CheckOptions, BadWord> {
+/// Compares the script in a file, or its calls before a line, with the ones without each job.
+fn check_all<R: Files + Input + Print>(
+    rt: &R,
+    alloc: Global,
+    path: &str,
+    flags: CheckFlags,
+    line: Option<&str>,
+) -> Performed {
     let at = read_line(line)?;
-    Ok(CheckOptions { flags, at })
+    Ok(check_each_job(rt, alloc, path, CheckOptions { flags, at }))
 }
 
 /// Prints the session of the script in a file as a page, or that of its calls before this line.
@@ -133,22 +141,19 @@ fn diff_at<R: Files + Input + Print>(
     Ok(diff_files(rt, alloc, old, new, DiffOptions { at, more }))
 }
 
-/// Prints who has to be trusted with this path after the script in a file, or before a line.
+/// Prints who has to be trusted with this path after the script in a file, or before a line, perhaps with the
+/// reasons.
 fn trust_at<R: Files + Input + Print>(
     rt: &R,
     alloc: Global,
     path: &str,
     file: &str,
-    options: TrustOptions,
+    line: Option<&str>,
+    why: bool,
 ) -> Performed {
-    let path = read_path(path.as_bytes()).ok_or(BadWord::Path)?;
-    Ok(trust_file(rt, alloc, &path, file, options))
-}
-
-/// Returns before which line trust is asked for, and whether with reasons.
-fn trust_options(line: Option<&str>, why: bool) -> Result<TrustOptions, BadWord> {
     let at = read_line(line)?;
-    Ok(TrustOptions { at, why })
+    let path = read_path(path.as_bytes()).ok_or(BadWord::Path)?;
+    Ok(trust_file(rt, alloc, &path, file, TrustOptions { at, why }))
 }
 
 /// Prints the calls by which processes leak or change what is at this path after the script in a file, or before
@@ -211,17 +216,11 @@ fn perform<R: Files + Input + Print>(
         Task::Run(path, flags, line) => run_at(rt, alloc, path, *flags, *line),
         Task::Try(path, calls, line) => try_at(rt, alloc, path, calls.as_slice(), *line),
         Task::Raw(path, explain) => Ok(run_raw_file(rt, alloc, path, *explain)),
-        Task::Check(job, path, flags, line) => {
-            check_job(rt, alloc, job, path, check_options(*flags, *line)?)
-        }
-        Task::CheckAll(path, flags, line) => {
-            Ok(check_each_job(rt, alloc, path, check_options(*flags, *line)?))
-        }
+        Task::Check(job, path, flags, line) => check_job(rt, alloc, job, path, *flags, *line),
+        Task::CheckAll(path, flags, line) => check_all(rt, alloc, path, *flags, *line),
         Task::Access(path, line, users) => access_at(rt, alloc, path, *line, *users),
         Task::Diff(old, new, line, more) => diff_at(rt, alloc, old, new, *line, *more),
-        Task::Trust(path, file, line, why) => {
-            trust_at(rt, alloc, path, file, trust_options(*line, *why)?)
-        }
+        Task::Trust(path, file, line, why) => trust_at(rt, alloc, path, file, *line, *why),
         Task::Leak(path, file, line) => leak_at(rt, alloc, path, file, *line),
         Task::Flows(path, line) => flows_at(rt, alloc, path, *line),
         Task::Attack(job, path, flags) => attack_by(rt, alloc, job, path, *flags),
