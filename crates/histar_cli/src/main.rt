@@ -1,23 +1,28 @@
 //! The program: `histar run FILE` runs a script and prints the replies; `histar --help` lists subcommands.
 #![tactic(auto)]
 
+mod dress;
 mod hints;
+mod output;
 mod tasks;
 
+use crate::dress::dress_of;
 use crate::hints::say_why;
+use crate::output::Host;
 use crate::tasks::{
     CheckOptions, access_file, attack_file, check_each_job, check_file, diff_files, flows_file,
     leak_file, lint_files, report_file, run_file, run_raw_file, shell_file, test_files, trust_file,
     try_file,
 };
 use histar_access::DiffOptions;
-use histar_command_line::{AttackFlags, CheckFlags, RunFlags, Task, read_words};
+use histar_command_line::{AttackFlags, CheckFlags, Request, RunFlags, Task, read_words};
 use histar_console::{Outcome, REFUSED, command_line, outcome_status, refuse, report};
 use histar_flat::{ProcName, read_path, read_process};
 use histar_script::Fault;
 use histar_transcript::Tried;
 use histar_trust::TrustOptions;
 use std::alloc::Global;
+use std::env;
 use std::io::{self, IsTerminal};
 use std::process::ExitCode;
 use std::rt::{Env, Files};
@@ -32,6 +37,8 @@ enum BadWord {
     Line,
     /// The path is not a path.
     Path,
+    /// It is not said when refusals are in colour.
+    Color,
     /// The call of this number, which counts from 1, is bad. The sentence says what is wrong.
     Call(usize, Vec<u8>),
 }
@@ -57,19 +64,19 @@ type Performed = Result<Result<Outcome, Fault>, BadWord>;
 
 /// Runs the script in a file, or its calls before this line.
 fn run_at<R: Files + Input + Print>(
-    rt: &R,
+    host: &Host<'_, R>,
     alloc: Global,
     path: &str,
     flags: RunFlags,
     line: Option<&str>,
 ) -> Performed {
     let at = read_line(line)?;
-    Ok(run_file(rt, alloc, path, flags, at))
+    Ok(run_file(host, alloc, path, flags, at))
 }
 
 /// Compares the script in a file, or its calls before a line, with the ones without this job.
 fn check_job<R: Files + Input + Print>(
-    rt: &R,
+    host: &Host<'_, R>,
     alloc: Global,
     job: &str,
     path: &str,
@@ -78,59 +85,59 @@ fn check_job<R: Files + Input + Print>(
 ) -> Performed {
     let at = read_line(line)?;
     let job = read_job(job)?;
-    Ok(check_file(rt, alloc, &job, path, CheckOptions { flags, at }))
+    Ok(check_file(host, alloc, &job, path, CheckOptions { flags, at }))
 }
 
 /// Compares the script in a file, or its calls before a line, with the ones without each job.
 fn check_all<R: Files + Input + Print>(
-    rt: &R,
+    host: &Host<'_, R>,
     alloc: Global,
     path: &str,
     flags: CheckFlags,
     line: Option<&str>,
 ) -> Performed {
     let at = read_line(line)?;
-    Ok(check_each_job(rt, alloc, path, CheckOptions { flags, at }))
+    Ok(check_each_job(host, alloc, path, CheckOptions { flags, at }))
 }
 
 /// Prints the session of the script in a file as a page, or that of its calls before this line.
 fn report_at<R: Files + Input + Print>(
-    rt: &R,
+    host: &Host<'_, R>,
     alloc: Global,
     path: &str,
     line: Option<&str>,
 ) -> Performed {
     let at = read_line(line)?;
-    Ok(report_file(rt, alloc, path, at))
+    Ok(report_file(host, alloc, path, at))
 }
 
 /// Runs a script in a file in which threads of this job make raw calls.
 fn attack_by<R: Files + Input + Print>(
-    rt: &R,
+    host: &Host<'_, R>,
     alloc: Global,
     job: &str,
     path: &str,
     flags: AttackFlags,
 ) -> Performed {
     let job = read_job(job)?;
-    Ok(attack_file(rt, alloc, &job, path, flags))
+    Ok(attack_file(host, alloc, &job, path, flags))
 }
 
 /// Prints which process may do what after the script in a file, or before this line, or which user.
 fn access_at<R: Files + Input + Print>(
-    rt: &R,
+    host: &Host<'_, R>,
     alloc: Global,
     path: &str,
     line: Option<&str>,
     users: bool,
 ) -> Performed {
     let line = read_line(line)?;
-    Ok(access_file(rt, alloc, path, line, users))
+    Ok(access_file(host, alloc, path, line, users))
 }
 
 /// Prints whose rights differ after two scripts, or before this line of both; or only where the new one gives more.
 fn diff_at<R: Files + Input + Print>(
-    rt: &R,
+    host: &Host<'_, R>,
     alloc: Global,
     old: &str,
     new: &str,
@@ -138,13 +145,13 @@ fn diff_at<R: Files + Input + Print>(
     more: bool,
 ) -> Performed {
     let at = read_line(line)?;
-    Ok(diff_files(rt, alloc, old, new, DiffOptions { at, more }))
+    Ok(diff_files(host, alloc, old, new, DiffOptions { at, more }))
 }
 
 /// Prints who has to be trusted with this path after the script in a file, or before a line, perhaps with the
 /// reasons.
 fn trust_at<R: Files + Input + Print>(
-    rt: &R,
+    host: &Host<'_, R>,
     alloc: Global,
     path: &str,
     file: &str,
@@ -153,13 +160,13 @@ fn trust_at<R: Files + Input + Print>(
 ) -> Performed {
     let at = read_line(line)?;
     let path = read_path(path.as_bytes()).ok_or(BadWord::Path)?;
-    Ok(trust_file(rt, alloc, &path, file, TrustOptions { at, why }))
+    Ok(trust_file(host, alloc, &path, file, TrustOptions { at, why }))
 }
 
 /// Prints the calls by which processes leak or change what is at this path after the script in a file, or before
 /// this line.
 fn leak_at<R: Files + Input + Print>(
-    rt: &R,
+    host: &Host<'_, R>,
     alloc: Global,
     path: &str,
     file: &str,
@@ -167,30 +174,30 @@ fn leak_at<R: Files + Input + Print>(
 ) -> Performed {
     let path = read_path(path.as_bytes()).ok_or(BadWord::Path)?;
     let line = read_line(line)?;
-    Ok(leak_file(rt, alloc, &path, file, line))
+    Ok(leak_file(host, alloc, &path, file, line))
 }
 
 /// Prints which process can pass on what it knows to which after the script in a file, or before this line.
 fn flows_at<R: Files + Input + Print>(
-    rt: &R,
+    host: &Host<'_, R>,
     alloc: Global,
     path: &str,
     line: Option<&str>,
 ) -> Performed {
     let line = read_line(line)?;
-    Ok(flows_file(rt, alloc, path, line))
+    Ok(flows_file(host, alloc, path, line))
 }
 
 /// Makes calls behind the script in a file, or before this line of it, and prints their replies.
 fn try_at<R: Files + Input + Print>(
-    rt: &R,
+    host: &Host<'_, R>,
     alloc: Global,
     path: &str,
     calls: &[&str],
     line: Option<&str>,
 ) -> Performed {
     let line = read_line(line)?;
-    match try_file(rt, alloc, path, calls, line) {
+    match try_file(host, alloc, path, calls, line) {
         Ok(Tried::Made) => Ok(Ok(Outcome::Done)),
         Ok(Tried::BadCall(number, sentence)) => Err(BadWord::Call(number, sentence)),
         Err(fault) => Ok(Err(fault)),
@@ -201,34 +208,35 @@ fn try_at<R: Files + Input + Print>(
 #[derive(Clone, Copy)]
 struct Terminals {
     input: bool,
+    output: bool,
     errors: bool,
 }
 
 /// Does a task. It prints nothing if a word of the task can't be read.
 fn perform<R: Files + Input + Print>(
-    rt: &R,
+    host: &Host<'_, R>,
     alloc: Global,
     task: &Task<'_>,
     terminals: Terminals,
 ) -> Performed {
     match task {
-        Task::Shell(path) => Ok(shell_file(rt, alloc, *path, terminals.input)),
-        Task::Run(path, flags, line) => run_at(rt, alloc, path, *flags, *line),
-        Task::Try(path, calls, line) => try_at(rt, alloc, path, calls.as_slice(), *line),
-        Task::Raw(path, explain) => Ok(run_raw_file(rt, alloc, path, *explain)),
-        Task::Check(job, path, flags, line) => check_job(rt, alloc, job, path, *flags, *line),
-        Task::CheckAll(path, flags, line) => check_all(rt, alloc, path, *flags, *line),
-        Task::Access(path, line, users) => access_at(rt, alloc, path, *line, *users),
-        Task::Diff(old, new, line, more) => diff_at(rt, alloc, old, new, *line, *more),
-        Task::Trust(path, file, line, why) => trust_at(rt, alloc, path, file, *line, *why),
-        Task::Leak(path, file, line) => leak_at(rt, alloc, path, file, *line),
-        Task::Flows(path, line) => flows_at(rt, alloc, path, *line),
-        Task::Attack(job, path, flags) => attack_by(rt, alloc, job, path, *flags),
+        Task::Shell(path) => Ok(shell_file(host, alloc, *path, terminals.input)),
+        Task::Run(path, flags, line) => run_at(host, alloc, path, *flags, *line),
+        Task::Try(path, calls, line) => try_at(host, alloc, path, calls.as_slice(), *line),
+        Task::Raw(path, explain) => Ok(run_raw_file(host, alloc, path, *explain)),
+        Task::Check(job, path, flags, line) => check_job(host, alloc, job, path, *flags, *line),
+        Task::CheckAll(path, flags, line) => check_all(host, alloc, path, *flags, *line),
+        Task::Access(path, line, users) => access_at(host, alloc, path, *line, *users),
+        Task::Diff(old, new, line, more) => diff_at(host, alloc, old, new, *line, *more),
+        Task::Trust(path, file, line, why) => trust_at(host, alloc, path, file, *line, *why),
+        Task::Leak(path, file, line) => leak_at(host, alloc, path, file, *line),
+        Task::Flows(path, line) => flows_at(host, alloc, path, *line),
+        Task::Attack(job, path, flags) => attack_by(host, alloc, job, path, *flags),
         Task::Lint(files, kind, exit_code) => {
-            Ok(lint_files(rt, alloc, files.as_slice(), *kind, *exit_code))
+            Ok(lint_files(host, alloc, files.as_slice(), *kind, *exit_code))
         }
-        Task::Report(path, line) => report_at(rt, alloc, path, *line),
-        Task::Test(files, strict) => Ok(test_files(rt, alloc, files.as_slice(), *strict)),
+        Task::Report(path, line) => report_at(host, alloc, path, *line),
+        Task::Test(files, strict) => Ok(test_files(host, alloc, files.as_slice(), *strict)),
     }
 }
 
@@ -238,6 +246,7 @@ fn refuse_word<R: Eprint>(rt: &R, word: &BadWord) -> u8 {
         BadWord::Job => eprintln!(rt; "histar: bad job"),
         BadWord::Line => eprintln!(rt; "histar: bad line"),
         BadWord::Path => eprintln!(rt; "histar: bad path"),
+        BadWord::Color => eprintln!(rt; "histar: bad color: it is auto, always or never"),
         BadWord::Call(number, sentence) => refuse_call(rt, *number, sentence.as_slice()),
     };
     REFUSED
@@ -278,8 +287,29 @@ fn report_fault<R: Files + Input + Eprint>(
     status
 }
 
+/// Does a task, and writes in the form that is asked for. It prints nothing if a word can't be read.
+fn answer<R: Env + Files + Input + Print + AllocGlobal>(
+    rt: &R,
+    alloc: Global,
+    request: &Request<'_>,
+    terminals: Terminals,
+) -> Performed {
+    let dress = dress_of(request, is_coloured(rt, terminals)).ok_or(BadWord::Color)?;
+    perform(&Host { rt, dress }, alloc, &request.task, terminals)
+}
+
+/// Checks whether refusals are in colour where the command line doesn't say: at a terminal, unless NO_COLOR has a
+/// value.
+fn is_coloured<R: Env + AllocGlobal>(rt: &R, terminals: Terminals) -> bool {
+    let is_refused = match env::var(rt, "NO_COLOR") {
+        Ok(value) => !value.is_empty(),
+        Err(_) => false,
+    };
+    terminals.output && !is_refused
+}
+
 /// Does what the words ask for, and returns the status.
-fn obey<R: Files + Input + Print + Eprint>(
+fn obey<R: Env + Files + Input + Print + Eprint + AllocGlobal>(
     rt: &R,
     alloc: Global,
     words: &[&str],
@@ -287,10 +317,10 @@ fn obey<R: Files + Input + Print + Eprint>(
 ) -> u8 {
     match read_words(alloc, words) {
         Err(error) => explain(rt, &error),
-        Ok(task) => match perform(rt, alloc, &task, terminals) {
+        Ok(request) => match answer(rt, alloc, &request, terminals) {
             Err(word) => refuse_word(rt, &word),
             Ok(Ok(outcome)) => outcome_status(outcome),
-            Ok(Err(fault)) => report_fault(rt, alloc, &task, &fault, terminals.errors),
+            Ok(Err(fault)) => report_fault(rt, alloc, &request.task, &fault, terminals.errors),
         },
     }
 }
@@ -315,6 +345,7 @@ fn start<R: Env + Files + Input + Print + Eprint + AllocGlobal>(
 fn main(rt: HostRuntime) -> ExitCode {
     let terminals = Terminals {
         input: rt.stdin().is_terminal(),
+        output: rt.stdout().is_terminal(),
         errors: rt.stderr().is_terminal(),
     };
     ExitCode::from(start(&rt, terminals))

@@ -9,7 +9,8 @@ use histar_attack::{AttackOptions, attack};
 use histar_attack_lint::lint_attack;
 use histar_command_line::{AttackFlags, CheckFlags, LintKind, RunFlags, VERSION};
 use histar_comparison::{JobVerdict, Verdict, compare, compare_all, explain_comparison};
-use histar_console::{Outcome, finish, open, output, run_plain};
+use crate::output::{Dress, Host};
+use histar_console::{Outcome, open, run_plain};
 use histar_dialogue::converse;
 use histar_flat::{Path, ProcName};
 use histar_io::read_input;
@@ -34,18 +35,20 @@ use std::rt::Files;
 
 /// Runs the script in a file, or its calls before a line, and prints the replies and what else is asked for.
 pub fn run_file<R: Files + Input + Print>(
-    rt: &R,
+    host: &Host<'_, R>,
     alloc: Global,
     path: &str,
     flags: RunFlags,
     at: Option<u32>,
 ) -> Result<Outcome, Fault> {
     match at {
-        None if is_plain(flags) => run_plain(rt, alloc, path, options_of(flags)),
-        None => run_source(rt, alloc, &mut open(rt, path)?, flags),
+        None if is_plain(flags) && matches!(host.dress, Dress::Plain) => {
+            run_plain(host.rt, alloc, path, options_of(flags))
+        }
+        None => run_source(host, alloc, &mut open(host.rt, path)?, flags),
         Some(_) => {
-            let front = read_until(rt, alloc, path, at)?;
-            run_source(rt, alloc, &mut Counted::new(front.as_slice()), flags)
+            let front = read_until(host, alloc, path, at)?;
+            run_source(host, alloc, &mut Counted::new(front.as_slice()), flags)
         }
     }
 }
@@ -65,13 +68,13 @@ fn is_plain(flags: RunFlags) -> bool {
 
 /// Runs the script of a source, and prints the replies and what else is asked for.
 fn run_source<R: Print, S: Source>(
-    rt: &R,
+    host: &Host<'_, R>,
     alloc: Global,
     reader: &mut S,
     flags: RunFlags,
 ) -> Result<Outcome, Fault> {
     let options = options_of(flags);
-    let mut writer = output(rt, alloc)?;
+    let mut writer = host.page(alloc)?;
     let done = if flags.calls && flags.why {
         transcribe_with_reasons(alloc, reader, &mut writer, options)
     } else if flags.calls {
@@ -83,25 +86,25 @@ fn run_source<R: Print, S: Source>(
     } else {
         run(alloc, reader, &mut writer, options).map(|trace| forget(trace))
     };
-    finish(done.map(|_| Outcome::Done), writer)
+    host.end(alloc, done.map(|_| Outcome::Done), writer)
 }
 
 /// Runs the raw session in a file, and prints the replies to its calls, and the reasons of denials if asked
 /// for.
 pub fn run_raw_file<R: Files + Input + Print>(
-    rt: &R,
+    host: &Host<'_, R>,
     alloc: Global,
     path: &str,
     explain: bool,
 ) -> Result<Outcome, Fault> {
-    let mut reader = open(rt, path)?;
-    let mut writer = output(rt, alloc)?;
+    let mut reader = open(host.rt, path)?;
+    let mut writer = host.page(alloc)?;
     let done = if explain {
         explain_raw_script(alloc, &mut reader, &mut writer)
     } else {
         run_raw_script(alloc, &mut reader, &mut writer)
     };
-    finish(done.map(|_| Outcome::Done), writer)
+    host.end(alloc, done.map(|_| Outcome::Done), writer)
 }
 
 /// What a comparison prints, and up to which line it runs.
@@ -113,16 +116,16 @@ pub struct CheckOptions {
 
 /// Prints what differs for outsiders when the script in a file, or its calls before a line, are run without a job.
 pub fn check_file<R: Files + Input + Print>(
-    rt: &R,
+    host: &Host<'_, R>,
     alloc: Global,
     job: &ProcName,
     path: &str,
     options: CheckOptions,
 ) -> Result<Outcome, Fault> {
     let CheckOptions { flags, at } = options;
-    let input = read_until(rt, alloc, path, at)?;
+    let input = read_until(host, alloc, path, at)?;
     let (line, verdict) = compared(alloc, input.as_slice(), job, flags.why)?;
-    print_text(rt, line.as_slice())?;
+    host.print(alloc, line.as_slice())?;
     Ok(is_so(!flags.exit_code || matches!(verdict, Verdict::Same)))
 }
 
@@ -144,16 +147,16 @@ fn compared(
 
 /// Prints what differs for outsiders when the script in a file is run without each job that it starts.
 pub fn check_each_job<R: Files + Input + Print>(
-    rt: &R,
+    host: &Host<'_, R>,
     alloc: Global,
     path: &str,
     options: CheckOptions,
 ) -> Result<Outcome, Fault> {
     let CheckOptions { flags, at } = options;
-    let input = read_until(rt, alloc, path, at)?;
+    let input = read_until(host, alloc, path, at)?;
     let verdicts = compare_all(alloc, input.as_slice())?;
     let text = verdict_lines(alloc, verdicts.as_slice(), flags.why)?;
-    print_text(rt, text.as_slice())?;
+    host.print(alloc, text.as_slice())?;
     Ok(is_so(!flags.exit_code || are_same(verdicts.as_slice())))
 }
 
@@ -185,13 +188,6 @@ fn are_same(verdicts: &[JobVerdict]) -> bool
     true
 }
 
-/// Writes a text to standard output, and flushes it.
-fn print_text<R: Print>(rt: &R, text: &[u8]) -> Result<(), Fault> {
-    let mut output = io::writer(rt);
-    output.write_all(text).map_err(|_| Fault::WriteFailed)?;
-    output.flush().map_err(|_| Fault::WriteFailed)
-}
-
 /// Returns the outcome of a task that answers a question.
 fn is_so(holds: bool) -> Outcome {
     if holds { Outcome::Done } else { Outcome::NotSo }
@@ -199,34 +195,34 @@ fn is_so(holds: bool) -> Outcome {
 
 /// Prints which process may do what after the calls of the script in a file, or before a line, or which user.
 pub fn access_file<R: Files + Input + Print>(
-    rt: &R,
+    host: &Host<'_, R>,
     alloc: Global,
     path: &str,
     at: Option<u32>,
     users: bool,
 ) -> Result<Outcome, Fault> {
-    let mut reader = open(rt, path)?;
-    let mut writer = output(rt, alloc)?;
+    let mut reader = open(host.rt, path)?;
+    let mut writer = host.page(alloc)?;
     let done = if users {
         access_users(alloc, &mut reader, &mut writer, at)
     } else {
         access(alloc, &mut reader, &mut writer, at)
     };
-    finish(done.map(|_| Outcome::Done), writer)
+    host.end(alloc, done.map(|_| Outcome::Done), writer)
 }
 
 /// Prints whose rights differ after the calls of two scripts, or before a line of both; or only where the new one
 /// gives more.
 pub fn diff_files<R: Files + Input + Print>(
-    rt: &R,
+    host: &Host<'_, R>,
     alloc: Global,
     old: &str,
     new: &str,
     options: DiffOptions,
 ) -> Result<Outcome, Fault> {
-    let mut old_reader = open(rt, old)?;
-    let mut new_reader = open(rt, new)?;
-    let mut writer = output(rt, alloc)?;
+    let mut old_reader = open(host.rt, old)?;
+    let mut new_reader = open(host.rt, new)?;
+    let mut writer = host.page(alloc)?;
     let done = diff(
         alloc,
         &mut old_reader,
@@ -234,56 +230,56 @@ pub fn diff_files<R: Files + Input + Print>(
         &mut writer,
         options,
     );
-    finish(done.map(|holds| is_so(holds)), writer)
+    host.end(alloc, done.map(|holds| is_so(holds)), writer)
 }
 
 /// Prints which processes have to be trusted with a path after the calls of the script in a file, or before a
 /// line, and why, if that is asked for.
 pub fn trust_file<R: Files + Input + Print>(
-    rt: &R,
+    host: &Host<'_, R>,
     alloc: Global,
     path: &Path,
     file: &str,
     options: TrustOptions,
 ) -> Result<Outcome, Fault> {
-    let mut reader = open(rt, file)?;
-    let mut writer = output(rt, alloc)?;
+    let mut reader = open(host.rt, file)?;
+    let mut writer = host.page(alloc)?;
     let done = trust(alloc, path, &mut reader, &mut writer, options);
-    finish(done.map(|_| Outcome::Done), writer)
+    host.end(alloc, done.map(|_| Outcome::Done), writer)
 }
 
 /// Prints the calls by which processes leak or change what is at a path after the calls of the script in a file,
 /// or before a line.
 pub fn leak_file<R: Files + Input + Print>(
-    rt: &R,
+    host: &Host<'_, R>,
     alloc: Global,
     path: &Path,
     file: &str,
     at: Option<u32>,
 ) -> Result<Outcome, Fault> {
-    let mut reader = open(rt, file)?;
-    let mut writer = output(rt, alloc)?;
+    let mut reader = open(host.rt, file)?;
+    let mut writer = host.page(alloc)?;
     let done = leak(alloc, path, &mut reader, &mut writer, at);
-    finish(done.map(|_| Outcome::Done), writer)
+    host.end(alloc, done.map(|_| Outcome::Done), writer)
 }
 
 /// Prints which process can pass on what it knows to which after the calls of the script in a file, or before a
 /// line.
 pub fn flows_file<R: Files + Input + Print>(
-    rt: &R,
+    host: &Host<'_, R>,
     alloc: Global,
     path: &str,
     at: Option<u32>,
 ) -> Result<Outcome, Fault> {
-    let mut reader = open(rt, path)?;
-    let mut writer = output(rt, alloc)?;
+    let mut reader = open(host.rt, path)?;
+    let mut writer = host.page(alloc)?;
     let done = flows(alloc, &mut reader, &mut writer, at);
-    finish(done.map(|_| Outcome::Done), writer)
+    host.end(alloc, done.map(|_| Outcome::Done), writer)
 }
 
 /// Runs a script in a file in which threads of a job make raw calls, and prints what became of each call.
 pub fn attack_file<R: Files + Input + Print>(
-    rt: &R,
+    host: &Host<'_, R>,
     alloc: Global,
     job: &ProcName,
     path: &str,
@@ -293,45 +289,45 @@ pub fn attack_file<R: Files + Input + Print>(
         trace: flags.trace,
         follow: flags.follow,
     };
-    let mut reader = open(rt, path)?;
-    let mut writer = output(rt, alloc)?;
+    let mut reader = open(host.rt, path)?;
+    let mut writer = host.page(alloc)?;
     let done = attack(alloc, job, &mut reader, &mut writer, options);
-    finish(done.map(|_| Outcome::Done), writer)
+    host.end(alloc, done.map(|_| Outcome::Done), writer)
 }
 
 /// Makes calls behind the script in a file, or before a line of it, and prints their replies.
 pub fn try_file<R: Files + Input + Print>(
-    rt: &R,
+    host: &Host<'_, R>,
     alloc: Global,
     path: &str,
     calls: &[&str],
     at: Option<u32>,
 ) -> Result<Tried, Fault> {
-    let mut reader = open(rt, path)?;
-    let mut writer = output(rt, alloc)?;
+    let mut reader = open(host.rt, path)?;
+    let mut writer = host.page(alloc)?;
     let mut texts = Vec::with_capacity(alloc, calls.len())?;
     for call in calls {
         texts.push(call.as_bytes())?;
     }
     let done = try_calls(alloc, texts.as_slice(), &mut reader, &mut writer, at);
-    finish(done, writer)
+    host.end(alloc, done, writer)
 }
 
 /// Answers lines of standard input, one after another, behind those of the script in a file, if there is one. Each
 /// answer is written at once.
 pub fn shell_file<R: Files + Input + Print>(
-    rt: &R,
+    host: &Host<'_, R>,
     alloc: Global,
     path: Option<&str>,
     prompt: bool,
 ) -> Result<Outcome, Fault> {
     let first = match path {
         None => None,
-        Some(path) => Some(read_file(rt, alloc, path)?),
+        Some(path) => Some(read_file(host, alloc, path)?),
     };
     let text = first.as_ref().map(|text| text.as_slice());
-    let mut reader = Counted::new(rt.reader());
-    let mut writer = Counted::new(io::writer(rt));
+    let mut reader = Counted::new(host.rt.reader());
+    let mut writer = Counted::new(io::writer(host.rt));
     converse(alloc, text, &mut reader, &mut writer, prompt)?;
     Ok(Outcome::Done)
 }
@@ -339,7 +335,7 @@ pub fn shell_file<R: Files + Input + Print>(
 /// Prints why files of this kind are bad, if they are, and the warnings on right ones, if they are asked for. Whether the
 /// status says that there was a warning is the last argument.
 pub fn lint_files<R: Files + Input + Print>(
-    rt: &R,
+    host: &Host<'_, R>,
     alloc: Global,
     paths: &[&str],
     kind: LintKind,
@@ -347,7 +343,7 @@ pub fn lint_files<R: Files + Input + Print>(
 ) -> Result<Outcome, Fault> {
     let mut outcome = Outcome::Done;
     for path in paths {
-        match (lint_file(rt, alloc, path, kind)?, outcome) {
+        match (lint_file(host, alloc, path, kind)?, outcome) {
             (Found::BadLine, _) => outcome = Outcome::BadScript,
             (Found::Warnings, Outcome::Done) if exit_code => outcome = Outcome::NotSo,
             _ => {}
@@ -358,13 +354,13 @@ pub fn lint_files<R: Files + Input + Print>(
 
 /// Prints what is found in a file of this kind, and returns whether that is a bad line, or warnings.
 fn lint_file<R: Files + Input + Print>(
-    rt: &R,
+    host: &Host<'_, R>,
     alloc: Global,
     path: &str,
     kind: LintKind,
 ) -> Result<Found, Fault> {
-    let mut reader = open(rt, path)?;
-    let mut writer = output(rt, alloc)?;
+    let mut reader = open(host.rt, path)?;
+    let mut writer = host.page(alloc)?;
     let name = path.as_bytes();
     let done = match kind {
         LintKind::Script => lint(alloc, name, &mut reader, &mut writer).map(|is_right| found(
@@ -378,7 +374,7 @@ fn lint_file<R: Files + Input + Print>(
         }
         LintKind::Policy => lint_policy(alloc, name, &mut reader, &mut writer),
     };
-    finish(done, writer)
+    host.end(alloc, done, writer)
 }
 
 /// Returns what was found in a file that is right or has a bad line.
@@ -392,14 +388,14 @@ fn found(is_right: bool) -> Found {
 
 /// Prints the session of the script in a file as a page, or that of its calls before a line.
 pub fn report_file<R: Files + Input + Print>(
-    rt: &R,
+    host: &Host<'_, R>,
     alloc: Global,
     path: &str,
     at: Option<u32>,
 ) -> Result<Outcome, Fault> {
-    let input = read_until(rt, alloc, path, at)?;
+    let input = read_until(host, alloc, path, at)?;
     let mut reader = Counted::new(input.as_slice());
-    let mut writer = output(rt, alloc)?;
+    let mut writer = host.page(alloc)?;
     let name = match path.rsplit_once('/') {
         Some((_, name)) => name,
         None => path,
@@ -411,37 +407,37 @@ pub fn report_file<R: Files + Input + Print>(
         name.as_bytes(),
         VERSION.as_bytes(),
     );
-    finish(done.map(|_| Outcome::Done), writer)
+    host.end(alloc, done.map(|_| Outcome::Done), writer)
 }
 
 /// Compares the replies to the scripts in files with those that they expect, and prints the results.
 pub fn test_files<R: Files + Input + Print>(
-    rt: &R,
+    host: &Host<'_, R>,
     alloc: Global,
     paths: &[&str],
     strict: bool,
 ) -> Result<Outcome, Fault> {
-    let files = read_files(rt, alloc, paths)?;
-    let mut writer = output(rt, alloc)?;
+    let files = read_files(host, alloc, paths)?;
+    let mut writer = host.page(alloc)?;
     let done = test(alloc, files.as_slice(), strict, &mut writer);
-    finish(done.map(|holds| is_so(holds)), writer)
+    host.end(alloc, done.map(|holds| is_so(holds)), writer)
 }
 
 /// Reads the whole of a file.
-fn read_file<R: Files + Input>(rt: &R, alloc: Global, path: &str) -> Result<Vec<u8>, Fault> {
-    let mut reader = open(rt, path)?;
+fn read_file<R: Files + Input>(host: &Host<'_, R>, alloc: Global, path: &str) -> Result<Vec<u8>, Fault> {
+    let mut reader = open(host.rt, path)?;
     let input = read_input(alloc, &mut reader)?;
     Ok(input)
 }
 
 /// Reads the whole of a file, or the front of the script in it up to a line.
 fn read_until<R: Files + Input>(
-    rt: &R,
+    host: &Host<'_, R>,
     alloc: Global,
     path: &str,
     at: Option<u32>,
 ) -> Result<Vec<u8>, Fault> {
-    let input = read_file(rt, alloc, path)?;
+    let input = read_file(host, alloc, path)?;
     match at {
         None => Ok(input),
         Some(line) => front_before(alloc, input.as_slice(), line),
@@ -450,13 +446,13 @@ fn read_until<R: Files + Input>(
 
 /// Reads files, each with its name.
 fn read_files<R: Files + Input>(
-    rt: &R,
+    host: &Host<'_, R>,
     alloc: Global,
     paths: &[&str],
 ) -> Result<Vec<TestFile>, Fault> {
     let mut files = Vec::with_capacity(alloc, paths.len())?;
     for path in paths {
-        let text = read_file(rt, alloc, path)?;
+        let text = read_file(host, alloc, path)?;
         let name = Vec::from_slice(alloc, path.as_bytes())?;
         files.push(TestFile { name, text })?;
     }

@@ -56,15 +56,18 @@ named_app = let app = new_app (codes "histar") in record app { top = record app.
 abbrev pub subcommand_app : Text → List Rule → App
 subcommand_app name arguments = fold with_rule (new_app name) arguments
 
--- `run [--tree] [--trace] [--why] [--explain] [--calls] [--at LINE] FILE`
+-- `run [--tree] [--trace] [--why] [--explain] [--calls] [--json] [--color WHEN] [--at LINE] FILE`
 abbrev pub run_app : App
 run_app = subcommand_app (codes "run")
     (flag_rule (codes "tree") ∷ flag_rule (codes "trace") ∷ flag_rule (codes "why") ∷ flag_rule (codes "explain")
-    ∷ flag_rule (codes "calls") ∷ option_rule (codes "LINE") (codes "at") ∷ word_rule (codes "FILE") ∷ [])
+    ∷ flag_rule (codes "calls") ∷ flag_rule (codes "json") ∷ option_rule (codes "WHEN") (codes "color")
+    ∷ option_rule (codes "LINE") (codes "at") ∷ word_rule (codes "FILE") ∷ [])
 
--- `try [--at LINE] FILE CALL..`
+-- `try [--color WHEN] [--at LINE] FILE CALL..`
 abbrev pub try_app : App
-try_app = subcommand_app (codes "try") (option_rule (codes "LINE") (codes "at") ∷ word_rule (codes "FILE") ∷ words_rule (codes "CALL") ∷ [])
+try_app = subcommand_app (codes "try")
+    (option_rule (codes "WHEN") (codes "color") ∷ option_rule (codes "LINE") (codes "at") ∷ word_rule (codes "FILE")
+    ∷ words_rule (codes "CALL") ∷ [])
 
 -- `shell [FILE]`
 abbrev pub shell_app : App
@@ -74,49 +77,52 @@ shell_app = subcommand_app (codes "shell") (optional_rule (codes "FILE") ∷ [])
 abbrev pub raw_app : App
 raw_app = subcommand_app (codes "raw") (flag_rule (codes "explain") ∷ word_rule (codes "FILE") ∷ [])
 
--- `check [--why] [--all] [--exit-code] [--at LINE] JOB [FILE]`
+-- `check [--why] [--all] [--exit-code] [--json] [--at LINE] JOB [FILE]`
 abbrev pub check_app : App
 check_app = subcommand_app (codes "check")
-    (flag_rule (codes "why") ∷ flag_rule (codes "all") ∷ flag_rule (codes "exit-code") ∷ option_rule (codes "LINE") (codes "at")
-    ∷ word_rule (codes "JOB") ∷ unless_rule (codes "FILE") ∷ [])
+    (flag_rule (codes "why") ∷ flag_rule (codes "all") ∷ flag_rule (codes "exit-code") ∷ flag_rule (codes "json")
+    ∷ option_rule (codes "LINE") (codes "at") ∷ word_rule (codes "JOB") ∷ unless_rule (codes "FILE") ∷ [])
 
--- `access [--users] [--at LINE] FILE`
+-- `access [--users] [--json] [--at LINE] FILE`
 abbrev pub access_app : App
-access_app = subcommand_app (codes "access") (flag_rule (codes "users") ∷ option_rule (codes "LINE") (codes "at") ∷ word_rule (codes "FILE")
-    ∷ [])
+access_app = subcommand_app (codes "access")
+    (flag_rule (codes "users") ∷ flag_rule (codes "json") ∷ option_rule (codes "LINE") (codes "at") ∷ word_rule (codes "FILE") ∷ [])
 
--- `diff [--more] [--at LINE] OLD NEW`
+-- `diff [--more] [--json] [--at LINE] OLD NEW`
 abbrev pub diff_app : App
 diff_app = subcommand_app (codes "diff")
-    (flag_rule (codes "more") ∷ option_rule (codes "LINE") (codes "at") ∷ word_rule (codes "OLD") ∷ word_rule (codes "NEW") ∷ [])
+    (flag_rule (codes "more") ∷ flag_rule (codes "json") ∷ option_rule (codes "LINE") (codes "at") ∷ word_rule (codes "OLD")
+    ∷ word_rule (codes "NEW") ∷ [])
 
--- `trust [--why] [--at LINE] PATH FILE`
+-- `trust [--why] [--json] [--at LINE] PATH FILE`
 abbrev pub trust_app : App
 trust_app = subcommand_app (codes "trust")
-    (flag_rule (codes "why") ∷ option_rule (codes "LINE") (codes "at") ∷ word_rule (codes "PATH") ∷ word_rule (codes "FILE") ∷ [])
+    (flag_rule (codes "why") ∷ flag_rule (codes "json") ∷ option_rule (codes "LINE") (codes "at") ∷ word_rule (codes "PATH")
+    ∷ word_rule (codes "FILE") ∷ [])
 
 -- `leak [--at LINE] PATH FILE`
 abbrev pub leak_app : App
 leak_app = subcommand_app (codes "leak") (option_rule (codes "LINE") (codes "at") ∷ word_rule (codes "PATH") ∷ word_rule (codes "FILE") ∷ [])
 
--- `flows [--at LINE] FILE`
+-- `flows [--json] [--at LINE] FILE`
 abbrev pub flows_app : App
-flows_app = subcommand_app (codes "flows") (option_rule (codes "LINE") (codes "at") ∷ word_rule (codes "FILE") ∷ [])
+flows_app = subcommand_app (codes "flows")
+    (flag_rule (codes "json") ∷ option_rule (codes "LINE") (codes "at") ∷ word_rule (codes "FILE") ∷ [])
 
 -- `attack [--trace] [--follow] JOB FILE`
 abbrev pub attack_app : App
 attack_app = subcommand_app (codes "attack")
     (flag_rule (codes "trace") ∷ flag_rule (codes "follow") ∷ word_rule (codes "JOB") ∷ word_rule (codes "FILE") ∷ [])
 
--- `lint [--raw] [--attack] [--policy] [--exit-code] FILE..`
+-- `lint [--raw] [--attack] [--policy] [--exit-code] [--json] FILE..`
 abbrev pub lint_app : App
 lint_app = subcommand_app (codes "lint")
     (flag_rule (codes "raw") ∷ flag_rule (codes "attack") ∷ flag_rule (codes "policy") ∷ flag_rule (codes "exit-code")
-    ∷ words_rule (codes "FILE") ∷ [])
+    ∷ flag_rule (codes "json") ∷ words_rule (codes "FILE") ∷ [])
 
--- `test [--strict] FILE..`
+-- `test [--strict] [--json] FILE..`
 abbrev pub test_app : App
-test_app = subcommand_app (codes "test") (flag_rule (codes "strict") ∷ words_rule (codes "FILE") ∷ [])
+test_app = subcommand_app (codes "test") (flag_rule (codes "strict") ∷ flag_rule (codes "json") ∷ words_rule (codes "FILE") ∷ [])
 
 -- `report [--at LINE] FILE`
 abbrev pub report_app : App

@@ -4,6 +4,8 @@ use Rattle.std.specs.Str.{bytes_eq}
 use Rattle.clap.specs.Words.{Row, Text, all_of, first_of}
 use Rattle.histar_command_line.specs.declared.task.CheckFlags.{CheckFlags}
 use Rattle.histar_command_line.specs.declared.task.LintKind.{LintKind}
+use Rattle.histar_command_line.specs.declared.task.Request.{Request}
+use Rattle.histar_command_line.specs.declared.task.Shape.{Shape}
 use Rattle.histar_command_line.specs.declared.task.LintKind.TheVariants as kinds
 use Rattle.histar_command_line.specs.declared.task.Task.{Task}
 use Rattle.histar_command_line.specs.declared.task.Task.TheVariants.{Run, Try, Shell, Raw, Check, CheckAll, Access}
@@ -122,3 +124,14 @@ IsTaskOf task matched = (rows : List Row) × (matched ≡ Some (subcommand task,
 -- this is a task of `check` with its words and its flags
 abbrev pub IsCheckOf : Task → List Row → Type 0
 IsCheckOf task rows = (subcommand task ≡ codes "check") × HasArguments task rows
+
+-- the output has the shape that the flags of the subcommand ask for, and the plain one where there is none
+abbrev pub IsShapeOf : Shape → Option (Text × List Row) → Type 0
+IsShapeOf shape None = (shape.json ≡ false) × (option_map (λ color. color.now) shape.color ≡ None)
+IsShapeOf shape (Some matched) =
+    (shape.json ≡ is_set (codes "json") matched.1)
+    × (option_map (λ color. color.now) shape.color ≡ first_of (codes "WHEN") matched.1)
+
+-- this is the task of the subcommand that was matched, and the shape of its output
+abbrev pub IsRequestOf : Request → Option (Text × List Row) → Type 0
+IsRequestOf request matched = IsTaskOf request.task matched × IsShapeOf request.shape matched

@@ -37,7 +37,14 @@ const SCRIPT: &str = "The script: users, groups, and calls of processes";
 /// The help of the flag that stops a run before a line.
 const AT: &str = "Stop before the call on this line";
 
-/// Returns `run [--tree] [--trace] [--why] [--explain] [--calls] [--at LINE] FILE`.
+/// The help of the flag that asks for JSON.
+const JSON: &str = "Print each line as a JSON object";
+
+/// The help of the flag that asks for colour.
+const COLOR: &str =
+    "Print refusals in red: always, never, or auto, which is at a terminal without NO_COLOR";
+
+/// Returns `run [--tree] [--trace] [--why] [--explain] [--calls] [--json] [--color WHEN] [--at LINE] FILE`.
 pub(crate) fn run<'a>() -> Form<'a>
     ensures { form_app result ≡ run_app }
 {
@@ -52,19 +59,18 @@ pub(crate) fn run<'a>() -> Form<'a>
                 "trace",
                 "Print each raw call of the kernel, and why it was denied",
             ),
-            Argument::Flag(
-                "why",
-                "Print why each call was refused, by the rules; not with --explain",
-            ),
+            Argument::Flag("why", "Print why each call was refused, by the rules"),
             Argument::Flag("explain", "Print why each denied raw call was denied"),
-            Argument::Flag("calls", "Print each reply behind its call"),
+            Argument::Flag("calls", "Print each reply behind its call; not with --json"),
+            Argument::Flag("json", JSON),
+            Argument::Valued("WHEN", "color", COLOR),
             Argument::Valued("LINE", "at", AT),
             Argument::Word("FILE", SCRIPT),
         ],
     }
 }
 
-/// Returns `try [--at LINE] FILE CALL..`.
+/// Returns `try [--color WHEN] [--at LINE] FILE CALL..`.
 pub(crate) fn try_calls<'a>() -> Form<'a>
     ensures { form_app result ≡ try_app }
 {
@@ -79,6 +85,7 @@ prints
   21  0.2 read /tmp/letters  EACCES
   22  0.2 stat /tmp/letters  ok file alice private",
         arguments: &[
+            Argument::Valued("WHEN", "color", COLOR),
             Argument::Valued(
                 "LINE",
                 "at",
@@ -129,7 +136,7 @@ pub(crate) fn raw<'a>() -> Form<'a>
     }
 }
 
-/// Returns `check [--why] [--all] [--exit-code] [--at LINE] JOB [FILE]`.
+/// Returns `check [--why] [--all] [--exit-code] [--json] [--at LINE] JOB [FILE]`.
 pub(crate) fn check<'a>() -> Form<'a>
     ensures { form_app result ≡ check_app }
 {
@@ -162,6 +169,7 @@ Exit status: 0; with --exit-code it is 5 for anything but same",
                 "Leave out each job that the script starts, one after another",
             ),
             Argument::Flag("exit-code", "End with status 5 unless the answer is `same`"),
+            Argument::Flag("json", JSON),
             Argument::Valued("LINE", "at", AT),
             Argument::Word(
                 "JOB",
@@ -172,7 +180,7 @@ Exit status: 0; with --exit-code it is 5 for anything but same",
     }
 }
 
-/// Returns `access [--users] [--at LINE] FILE`.
+/// Returns `access [--users] [--json] [--at LINE] FILE`.
 pub(crate) fn access<'a>() -> Form<'a>
     ensures { form_app result ≡ access_app }
 {
@@ -198,13 +206,14 @@ prints, among others, the line
                 "users",
                 "Print the rights of each user, and not of each process",
             ),
+            Argument::Flag("json", JSON),
             Argument::Valued("LINE", "at", AT),
             Argument::Word("FILE", SCRIPT),
         ],
     }
 }
 
-/// Returns `diff [--more] [--at LINE] OLD NEW`.
+/// Returns `diff [--more] [--json] [--at LINE] OLD NEW`.
 pub(crate) fn diff<'a>() -> Form<'a>
     ensures { form_app result ≡ diff_app }
 {
@@ -226,6 +235,7 @@ With --more nothing is printed where the new script permits no more than the old
                 "more",
                 "Print only the lines where the new script gives a letter that the old one doesn't",
             ),
+            Argument::Flag("json", JSON),
             Argument::Valued("LINE", "at", AT),
             Argument::Word("OLD", "The old script"),
             Argument::Word("NEW", "The new script"),
@@ -233,7 +243,7 @@ With --more nothing is printed where the new script permits no more than the old
     }
 }
 
-/// Returns `trust [--why] [--at LINE] PATH FILE`.
+/// Returns `trust [--why] [--json] [--at LINE] PATH FILE`.
 pub(crate) fn trust<'a>() -> Form<'a>
     ensures { form_app result ≡ trust_app }
 {
@@ -264,6 +274,7 @@ of a confined process with ` by job` and the job that confines it.",
                 "why",
                 "Print by which path each changes, and by which job each is confined",
             ),
+            Argument::Flag("json", JSON),
             Argument::Valued("LINE", "at", AT),
             Argument::Word("PATH", "The path of a file or a directory"),
             Argument::Word("FILE", SCRIPT),
@@ -295,7 +306,7 @@ prints, among others, the lines
     }
 }
 
-/// Returns `flows [--at LINE] FILE`.
+/// Returns `flows [--json] [--at LINE] FILE`.
 pub(crate) fn flows<'a>() -> Form<'a>
     ensures { form_app result ≡ flows_app }
 {
@@ -312,6 +323,7 @@ prints
   free 0 0.1 0.2 tell everyone
   0.1.1 alice tells 0.1!",
         arguments: &[
+            Argument::Flag("json", JSON),
             Argument::Valued("LINE", "at", AT),
             Argument::Word("FILE", SCRIPT),
         ],
@@ -350,7 +362,7 @@ prints, among others, the lines
     }
 }
 
-/// Returns `lint [--raw] [--attack] [--policy] [--exit-code] FILE..`.
+/// Returns `lint [--raw] [--attack] [--policy] [--exit-code] [--json] FILE..`.
 pub(crate) fn lint<'a>() -> Form<'a>
     ensures { form_app result ≡ lint_app }
 {
@@ -382,6 +394,7 @@ prints
                 "exit-code",
                 "End with status 5 where --policy prints something",
             ),
+            Argument::Flag("json", JSON),
             Argument::Words("FILE", "The scripts, or the sessions of raw calls"),
         ],
     }
@@ -403,7 +416,7 @@ pub(crate) fn report<'a>() -> Form<'a>
     }
 }
 
-/// Returns `test [--strict] FILE..`.
+/// Returns `test [--strict] [--json] FILE..`.
 pub(crate) fn test<'a>() -> Form<'a>
     ensures { form_app result ≡ test_app }
 {
@@ -432,6 +445,7 @@ Example:
                 "strict",
                 "Miss each call that is refused and of which nothing is expected",
             ),
+            Argument::Flag("json", JSON),
             Argument::Words("FILE", "The scripts, with what they expect"),
         ],
     }

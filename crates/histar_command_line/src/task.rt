@@ -2,7 +2,7 @@
 ghost use Rattle.std.specs.Prelude.{◌≡◌, IfOk, IfSome, map};
 ghost use Rattle.clap.specs.Words.{app_of, first_value, found_of, rows_of, subcommand_of, subcommand_rows_of};
 ghost use Rattle.histar_command_line.specs.Forms.{histar_app};
-ghost use Rattle.histar_command_line.specs.Tasks.{IsCheckOf, IsTaskOf, is_given, lint_kind};
+ghost use Rattle.histar_command_line.specs.Tasks.{IsCheckOf, IsRequestOf, IsShapeOf, IsTaskOf, is_given, lint_kind};
 
 use crate::command::command;
 use clap::error::ErrorKind;
@@ -97,6 +97,22 @@ pub enum Task<'a> {
     Test(Vec<&'a str>, bool),
 }
 
+/// How the output of a task is written.
+#[derive(Clone, Copy)]
+pub struct Shape<'a> {
+    /// Whether each line is written as a JSON object.
+    pub json: bool,
+    /// When refusals are in colour, if that is said.
+    pub color: Option<&'a str>,
+}
+
+/// What the command line asks for: a task, and how its output is written.
+#[derive(Drop)]
+pub struct Request<'a> {
+    pub task: Task<'a>,
+    pub shape: Shape<'a>,
+}
+
 /// Checks whether a flag was given: its value is `true` then.
 fn is_set(matches: &ArgMatches, name: &str) -> bool
     ensures { result ≡ is_given (first_value (found_of matches.now) name.now) }
@@ -107,7 +123,7 @@ fn is_set(matches: &ArgMatches, name: &str) -> bool
     }
 }
 
-/// Returns the task of the subcommand that was matched. `run` has either reasons or explanations.
+/// Returns the task of the subcommand that was matched. `run` has either calls or JSON.
 fn task_of<'a>(matches: &ArgMatches<'a>) -> Option<Task<'a>>
     ensures { IfSome result (λ task. IsTaskOf task (subcommand_rows_of matches.now)) }
 {
@@ -119,7 +135,7 @@ fn task_of<'a>(matches: &ArgMatches<'a>) -> Option<Task<'a>>
         let explain = is_set(run, "explain");
         let calls = is_set(run, "calls");
         let at = run.get_str("LINE");
-        if why && explain {
+        if calls && is_set(run, "json") {
             return None;
         }
         let flags = RunFlags {
@@ -303,14 +319,30 @@ fn matched_task<'a>(alloc: Global, matches: &ArgMatches<'a>) -> Result<Option<Ta
     Ok(task_of(matches))
 }
 
-/// Returns the task that the words name, as this command reads them.
-fn task_by<'a>(
+/// Returns the shape of the output that the flags of the subcommand ask for.
+fn shape_of<'a>(matches: &ArgMatches<'a>) -> Shape<'a>
+    ensures { IsShapeOf result (subcommand_rows_of matches.now) }
+{
+    match matches.subcommand() {
+        None => Shape {
+            json: false,
+            color: None,
+        },
+        Some((_, found)) => Shape {
+            json: is_set(found, "json"),
+            color: found.get_str("WHEN"),
+        },
+    }
+}
+
+/// Returns the task that the words name and the shape of its output, as this command reads them.
+fn request_by<'a>(
     alloc: Global,
     command: &mut Command<'a>,
     words: &'a [&'a str],
-) -> Result<Task<'a>, Error>
+) -> Result<Request<'a>, Error>
     requires { app_of command.old ≡ histar_app }
-    ensures { IfOk result (λ task. IsTaskOf task
+    ensures { IfOk result (λ request. IsRequestOf request
         (subcommand_of histar_app (map (λ word. word.now) words.entry.now))) }
 {
     let matches = command.try_get_matches_from_mut(words)?;
@@ -320,17 +352,20 @@ fn task_by<'a>(
             "words that don't fit together",
         )?);
     };
-    Ok(task)
+    Ok(Request {
+        task,
+        shape: shape_of(&matches),
+    })
 }
 
-/// Returns the task that the words name, the program's own name first.
+/// Returns the task that the words name and the shape of its output, the program's own name first.
 ///
 /// An error is `clap`'s own: help or the version, if the words ask for it, a refused command line, or out of
 /// memory.
-pub fn read_words<'a>(alloc: Global, words: &'a [&'a str]) -> Result<Task<'a>, Error>
-    ensures { IfOk result (λ task. IsTaskOf task
+pub fn read_words<'a>(alloc: Global, words: &'a [&'a str]) -> Result<Request<'a>, Error>
+    ensures { IfOk result (λ request. IsRequestOf request
         (subcommand_of histar_app (map (λ word. word.now) words.entry.now))) }
 {
     let mut command = command(alloc)?;
-    task_by(alloc, &mut command, words)
+    request_by(alloc, &mut command, words)
 }
