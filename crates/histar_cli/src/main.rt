@@ -5,6 +5,7 @@ mod dress;
 mod hints;
 mod output;
 mod tasks;
+mod version;
 
 use crate::dress::dress_of;
 use crate::hints::say_why;
@@ -14,6 +15,8 @@ use crate::tasks::{
     leak_file, lint_files, report_file, run_file, run_raw_file, shell_file, test_files, trust_file,
     try_file,
 };
+use crate::version::installed_version;
+use clap::error::ErrorKind;
 use histar_access::DiffOptions;
 use histar_command_line::{AttackFlags, CheckFlags, Request, RunFlags, Task, read_words};
 use histar_console::{Outcome, REFUSED, command_line, outcome_status, refuse, report};
@@ -262,9 +265,15 @@ fn refuse_call<R: Eprint>(rt: &R, number: usize, sentence: &[u8]) -> io::Result<
 
 /// Writes `clap`'s answer in place of a task, and returns the status.
 ///
-/// Help and the version go to standard output, with status 0, or with the fault of a failed write. A refusal
-/// goes to standard error, with the status of a refused command line.
-fn explain<R: Print + Eprint>(rt: &R, error: &clap::Error) -> u8 {
+/// Help and the version go to standard output, with status 0, or with the fault of a failed write. An installed program
+/// has its version in a file. A refusal goes to standard error, with the status of a refused command line.
+fn explain<R: Files + Print + Eprint + AllocGlobal>(rt: &R, error: &clap::Error) -> u8 {
+    if let (ErrorKind::DisplayVersion, Some(version)) = (error.kind(), installed_version(rt)) {
+        return match print!(rt; "{version}") {
+            Ok(()) => 0,
+            Err(_) => report(rt, &Fault::WriteFailed),
+        };
+    }
     if error.print(rt).is_err() && !error.use_stderr() {
         return report(rt, &Fault::WriteFailed);
     }
