@@ -54,18 +54,18 @@ module _ (options : DiffOptions) where
   pub record AreCompared (a b : List ℕ) (ds : List Difference) : Type 0 where
     pub before : Table
     pub after : Table
-    pub is_before : IsTableOf options.at a before
-    pub is_after : IsTableOf options.at b after
+    pub is_before : IsTableOf options.old_at a before
+    pub is_after : IsTableOf options.new_at b after
     pub exact : AreDifferences before after ds
 
   both_are : {a b : List ℕ} {ds : List Difference} → (c : AreCompared a b ds) → scripts_of a b ≡ Ok (c.is_before.script, c.is_after.script)
   both_are c = λ i. both_read (c.is_before.is_read i) (c.is_after.is_read i)
 
-  are_changes : {a b : List ℕ} {ds : List Difference} → (c : AreCompared a b ds) → AreChangesOf options.at (c.is_before.script, c.is_after.script) ds
+  are_changes : {a b : List ℕ} {ds : List Difference} → (c : AreCompared a b ds) → AreChangesOf options (c.is_before.script, c.is_after.script) ds
   are_changes {ds = ds} c =
       let old = c.is_before.script in
       let new = c.is_after.script in
-      differences_are_changes old.accounts new.accounts (calls_before options.at old.calls) (calls_before options.at new.calls) c.before c.after ds
+      differences_are_changes old.accounts new.accounts (calls_before options.old_at old.calls) (calls_before options.new_at new.calls) c.before c.after ds
       c.is_before.shows c.is_after.shows c.exact
 
   -- the lines of the differences to be shown were written

@@ -34,9 +34,11 @@ both_read (Err fault) new = Err fault
 abbrev pub scripts_of : List ℕ → List ℕ → Result Scripts Fault
 scripts_of old new = both_read (script_of old) (script_of new)
 
--- these are exactly the changes between the flat states of two scripts, each after its calls before this line
-abbrev pub AreChangesOf : Option ℕ → Scripts → List Difference → Type 0
-AreChangesOf at scripts cs = AreChanges scripts.0.accounts (state_before at scripts.0) scripts.1.accounts (state_before at scripts.1) cs
+-- these are exactly the changes between the flat states of two scripts, each after its calls before the line that is given for it
+abbrev pub AreChangesOf : DiffOptions → Scripts → List Difference → Type 0
+AreChangesOf options scripts cs =
+    AreChanges scripts.0.accounts (state_before options.old_at scripts.0)
+    scripts.1.accounts (state_before options.new_at scripts.1) cs
 
 -- the changes that are written: all, or only those that give a letter that wasn't there
 abbrev pub shown : Bool → List Difference → List Difference
@@ -49,7 +51,7 @@ pub record WritesChanges (options : DiffOptions) (old new : Option (List ℕ)) (
   pub scripts : Scripts
   pub are_read : read ≡ Ok scripts
   pub changes : List Difference
-  pub are_changes : AreChangesOf options.at scripts changes
+  pub are_changes : AreChangesOf options scripts changes
   pub written : Appends old new (differences_text (shown options.more changes))
   pub answered : (none ≡ true) ↔ (shown options.more changes ≡ [])
 
@@ -58,7 +60,7 @@ pub record BeginsChanges (options : DiffOptions) (old new : Option (List ℕ)) (
   pub scripts : Scripts
   pub are_read : read ≡ Ok scripts
   pub changes : List Difference
-  pub are_changes : AreChangesOf options.at scripts changes
+  pub are_changes : AreChangesOf options scripts changes
   pub written : AppendsFront old new (differences_text (shown options.more changes))
 
 -- At a failed write a beginning of the lines was written, if memory runs out that or nothing, at other faults nothing.

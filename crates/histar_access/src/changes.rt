@@ -18,8 +18,10 @@ use std::alloc::Global;
 /// What `diff` compares and writes.
 #[derive(Clone, Copy)]
 pub struct DiffOptions {
-    /// The line before which the calls of each script are run, or `None` for all.
-    pub at: Option<u32>,
+    /// The line before which the calls of the old script are run, or `None` for all.
+    pub old_at: Option<u32>,
+    /// The same of the new script.
+    pub new_at: Option<u32>,
     /// Whether it writes only the lines where the new script gives a letter that the old one doesn't.
     pub more: bool,
 }
@@ -75,8 +77,8 @@ fn compare_texts<W: Sink>(
     ensures runs { ComparesTexts options old.now new.now
         (W.written writer.old) (W.written writer.new) result }
 {
-    let before = table_before(alloc, old, options.at)?;
-    let after = table_before(alloc, new, options.at)?;
+    let before = table_before(alloc, old, options.old_at)?;
+    let after = table_before(alloc, new, options.new_at)?;
     let differences = differences_between(alloc, &before, &after)?;
     let differences = shown(differences, options.more);
     let lines = differences.as_slice();

@@ -3,12 +3,13 @@
 
 mod dress;
 mod hints;
+mod names;
 mod output;
 mod tasks;
 mod version;
 
 use crate::dress::dress_of;
-use crate::hints::say_why;
+use crate::hints::{say_why, say_word};
 use crate::output::Host;
 use crate::tasks::{
     CheckOptions, access_file, attack_file, check_each_job, check_file, diff_files, flows_file,
@@ -25,11 +26,10 @@ use histar_script::Fault;
 use histar_transcript::Tried;
 use histar_trust::TrustOptions;
 use std::alloc::Global;
-use std::env;
 use std::io::{self, IsTerminal};
 use std::process::ExitCode;
 use std::rt::{Env, Files};
-use std::str;
+use std::{env, str};
 
 /// A word of the command line that can't be read.
 #[derive(Drop)]
@@ -54,6 +54,17 @@ fn read_line(word: Option<&str>) -> Result<Option<u32>, BadWord> {
             Ok(line) => Ok(Some(line)),
             Err(_) => Err(BadWord::Line),
         },
+    }
+}
+
+/// Reads the number of a line of two scripts, or those of the old one and of the new one with a colon between them.
+fn read_sides(word: Option<&str>) -> Result<(Option<u32>, Option<u32>), BadWord> {
+    match word.and_then(|word| word.split_once(':')) {
+        None => {
+            let at = read_line(word)?;
+            Ok((at, at))
+        }
+        Some((old, new)) => Ok((read_line(Some(old))?, read_line(Some(new))?)),
     }
 }
 
@@ -138,7 +149,8 @@ fn access_at<R: Files + Input + Print>(
     Ok(access_file(host, alloc, path, line, users))
 }
 
-/// Prints whose rights differ after two scripts, or before this line of both; or only where the new one gives more.
+/// Prints whose rights differ after two scripts, or before this line of both, or these of each; or only where the new one
+/// gives more.
 fn diff_at<R: Files + Input + Print>(
     host: &Host<'_, R>,
     alloc: Global,
@@ -147,8 +159,13 @@ fn diff_at<R: Files + Input + Print>(
     line: Option<&str>,
     more: bool,
 ) -> Performed {
-    let at = read_line(line)?;
-    Ok(diff_files(host, alloc, old, new, DiffOptions { at, more }))
+    let (old_at, new_at) = read_sides(line)?;
+    let options = DiffOptions {
+        old_at,
+        new_at,
+        more,
+    };
+    Ok(diff_files(host, alloc, old, new, options))
 }
 
 /// Prints who has to be trusted with this path after the script in a file, or before a line, perhaps with the
@@ -243,15 +260,18 @@ fn perform<R: Files + Input + Print>(
     }
 }
 
-/// Reports a word that can't be read, and returns the status.
-fn refuse_word<R: Eprint>(rt: &R, word: &BadWord) -> u8 {
-    let _ = match word {
+/// Reports a word that can't be read, to a person at a terminal with the word, and returns the status.
+fn refuse_word<R: Eprint>(rt: &R, request: &Request<'_>, bad: &BadWord, is_terminal: bool) -> u8 {
+    let _ = match bad {
         BadWord::Job => eprintln!(rt; "histar: bad job"),
         BadWord::Line => eprintln!(rt; "histar: bad line"),
         BadWord::Path => eprintln!(rt; "histar: bad path"),
         BadWord::Color => eprintln!(rt; "histar: bad color: it is auto, always or never"),
         BadWord::Call(number, sentence) => refuse_call(rt, *number, sentence.as_slice()),
     };
+    if is_terminal {
+        say_word(rt, request, bad);
+    }
     REFUSED
 }
 
@@ -280,8 +300,8 @@ fn explain<R: Files + Print + Eprint + AllocGlobal>(rt: &R, error: &clap::Error)
     error.exit_code() as u8
 }
 
-/// Reports a fault of a task, to a person at a terminal with the reason why a script is bad, and returns the
-/// status.
+/// Reports a fault of a task, to a person at a terminal with the reason why a file is bad or can't be read, and returns
+/// the status.
 fn report_fault<R: Files + Input + Eprint>(
     rt: &R,
     alloc: Global,
@@ -290,8 +310,8 @@ fn report_fault<R: Files + Input + Eprint>(
     is_terminal: bool,
 ) -> u8 {
     let status = report(rt, fault);
-    if is_terminal && matches!(fault, Fault::BadScript(_)) {
-        say_why(rt, alloc, task);
+    if is_terminal {
+        say_why(rt, alloc, task, fault);
     }
     status
 }
@@ -327,7 +347,7 @@ fn obey<R: Env + Files + Input + Print + Eprint + AllocGlobal>(
     match read_words(alloc, words) {
         Err(error) => explain(rt, &error),
         Ok(request) => match answer(rt, alloc, &request, terminals) {
-            Err(word) => refuse_word(rt, &word),
+            Err(bad) => refuse_word(rt, &request, &bad, terminals.errors),
             Ok(Ok(outcome)) => outcome_status(outcome),
             Ok(Err(fault)) => report_fault(rt, alloc, &request.task, &fault, terminals.errors),
         },

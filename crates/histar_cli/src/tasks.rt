@@ -4,12 +4,13 @@ ghost use Rattle.std.specs.List.{flat_map, list_all};
 ghost use Rattle.histar_comparison.specs.Jobs.{job_text};
 ghost use Rattle.histar_cli.specs.Checks.{is_same_without};
 
+use crate::names::shown_name;
+use crate::output::{Dress, Host};
 use histar_access::{DiffOptions, access, access_users, diff};
 use histar_attack::{AttackOptions, attack};
 use histar_attack_lint::lint_attack;
 use histar_command_line::{AttackFlags, CheckFlags, LintKind, RunFlags, VERSION};
 use histar_comparison::{JobVerdict, Verdict, compare, compare_all, explain_comparison};
-use crate::output::{Dress, Host};
 use histar_console::{Outcome, open, run_plain};
 use histar_dialogue::converse;
 use histar_flat::{Path, ProcName};
@@ -361,7 +362,8 @@ fn lint_file<R: Files + Input + Print>(
 ) -> Result<Found, Fault> {
     let mut reader = open(host.rt, path)?;
     let mut writer = host.page(alloc)?;
-    let name = path.as_bytes();
+    let name = shown_name(alloc, path.as_bytes())?;
+    let name = name.as_slice();
     let done = match kind {
         LintKind::Script => lint(alloc, name, &mut reader, &mut writer).map(|is_right| found(
             is_right,
@@ -400,11 +402,12 @@ pub fn report_file<R: Files + Input + Print>(
         Some((_, name)) => name,
         None => path,
     };
+    let name = shown_name(alloc, name.as_bytes())?;
     let done = report(
         alloc,
         &mut reader,
         &mut writer,
-        name.as_bytes(),
+        name.as_slice(),
         VERSION.as_bytes(),
     );
     host.end(alloc, done.map(|_| Outcome::Done), writer)
@@ -424,7 +427,11 @@ pub fn test_files<R: Files + Input + Print>(
 }
 
 /// Reads the whole of a file.
-fn read_file<R: Files + Input>(host: &Host<'_, R>, alloc: Global, path: &str) -> Result<Vec<u8>, Fault> {
+fn read_file<R: Files + Input>(
+    host: &Host<'_, R>,
+    alloc: Global,
+    path: &str,
+) -> Result<Vec<u8>, Fault> {
     let mut reader = open(host.rt, path)?;
     let input = read_input(alloc, &mut reader)?;
     Ok(input)
@@ -453,7 +460,7 @@ fn read_files<R: Files + Input>(
     let mut files = Vec::with_capacity(alloc, paths.len())?;
     for path in paths {
         let text = read_file(host, alloc, path)?;
-        let name = Vec::from_slice(alloc, path.as_bytes())?;
+        let name = shown_name(alloc, path.as_bytes())?;
         files.push(TestFile { name, text })?;
     }
     Ok(files)

@@ -153,7 +153,8 @@ differ; the run with the job comes first:
   released by line 13
   line 14: ok j/ | ok
 
-With --all the one word is FILE, and each job that the script starts has a line:
+Usage with --all: histar check --all [OPTIONS] <FILE>
+Each job that the script starts has a line:
   histar check --all examples/scan.histar
 prints
   0.1.1 same
@@ -236,7 +237,11 @@ With --more nothing is printed where the new script permits no more than the old
                 "Print only the lines where the new script gives a letter that the old one doesn't",
             ),
             Argument::Flag("json", JSON),
-            Argument::Valued("LINE", "at", AT),
+            Argument::Valued(
+                "LINE",
+                "at",
+                "Stop before the calls on this line of both; OLD:NEW gives a line of each",
+            ),
             Argument::Word("OLD", "The old script"),
             Argument::Word("NEW", "The new script"),
         ],

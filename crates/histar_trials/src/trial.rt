@@ -116,7 +116,11 @@ fn read_line(word: Option<&[u8]>) -> Option<Option<u32>> {
 /// Reads before which line two scripts are compared, if it is before one.
 fn differences(line: Option<&[u8]>, more: bool) -> Option<DiffOptions> {
     let at = read_line(line)?;
-    Some(DiffOptions { at, more })
+    Some(DiffOptions {
+        old_at: at,
+        new_at: at,
+        more,
+    })
 }
 
 /// Reads a path, and behind it the number of a line, if there is one.

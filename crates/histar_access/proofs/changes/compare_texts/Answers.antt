@@ -5,10 +5,10 @@ use Rattle.histar_access.proofs.Comparing.{AreCompared, changes_begun, changes_w
 use Rattle.histar_access.proofs.changes.compare_texts.Goals as goal
 
 pub differences_between-requires-clause-old_rises : goal.differences_between-requires-clause-old_rises
-differences_between-requires-clause-old_rises g c = table_rises c.args.options.at c.args.old.now c.in_ok-before.before c.in_ok-before.ensures
+differences_between-requires-clause-old_rises g c = table_rises c.args.options.old_at c.args.old.now c.in_ok-before.before c.in_ok-before.ensures
 
 pub differences_between-requires-clause-new_rises : goal.differences_between-requires-clause-new_rises
-differences_between-requires-clause-new_rises g c = table_rises c.args.options.at c.args.new.now c.in_ok-after.after c.in_ok-after.ensures
+differences_between-requires-clause-new_rises g c = table_rises c.args.options.new_at c.args.new.now c.in_ok-after.after c.in_ok-after.ensures
 
 pub returns-in_err-write_differences-clause-runs : goal.returns-in_err-write_differences-clause-runs
 returns-in_err-write_differences-clause-runs g c =
