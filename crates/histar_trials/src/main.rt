@@ -14,6 +14,7 @@ mod trial;
 
 use crate::trial::{Kind, Trial, next_trial};
 use histar_io::read_input;
+use histar_output::{coloured, json_lines};
 use histar_script::Fault;
 use histar_shell::Counted;
 use std::alloc::Global;
@@ -45,6 +46,8 @@ fn run_trial(alloc: Global, trial: &Trial<'_>) -> Result<Vec<u8>, Fault> {
         Kind::Shell => questions::conversation(alloc, trial.body),
         Kind::Raw => raw::answers(alloc, trial.body),
         Kind::ExplainRaw => raw::explained(alloc, trial.body),
+        Kind::Json(form) => Ok(json_lines(alloc, form, trial.body)?),
+        Kind::Coloured => Ok(coloured(alloc, trial.body)?),
     }
 }
 

@@ -2,6 +2,7 @@
 use histar_access::DiffOptions;
 use histar_attack::AttackOptions;
 use histar_flat::{Path, ProcName, read_number, read_path, read_process, split_at_first};
+use histar_output::Form;
 use histar_shell::Options;
 use histar_trust::TrustOptions;
 use memchr::memmem;
@@ -51,6 +52,10 @@ pub enum Kind {
     Raw,
     /// The same, with the explanations of denials.
     ExplainRaw,
+    /// Lines that a subcommand writes, as JSON objects.
+    Json(Form),
+    /// Lines of a run, with refusals in red.
+    Coloured,
 }
 
 /// What is made of a script or a raw session that has a name.
@@ -209,13 +214,39 @@ fn read_session(word: &[u8]) -> Option<Kind> {
     }
 }
 
-/// Reads what a title asks for: the first that it is of a run, a comparison, a question and a session.
+/// Reads what a title asks for of lines of an output, by its first word and the subcommand behind it.
+fn read_lines(word: &[u8], rest: Option<&[u8]>) -> Option<Kind> {
+    match word {
+        b"json" => Some(Kind::Json(read_form(rest?)?)),
+        b"coloured" => Some(Kind::Coloured),
+        _ => None,
+    }
+}
+
+/// Reads the subcommand whose lines are meant.
+fn read_form(word: &[u8]) -> Option<Form> {
+    match word {
+        b"run" => Some(Form::Run),
+        b"access" => Some(Form::Access),
+        b"trust" => Some(Form::Trust),
+        b"flows" => Some(Form::Flows),
+        b"check" => Some(Form::Check),
+        b"check_all" => Some(Form::CheckAll),
+        b"diff" => Some(Form::Diff),
+        b"test" => Some(Form::Test),
+        b"lint" => Some(Form::Lint),
+        _ => None,
+    }
+}
+
+/// Reads what a title asks for: the first that it is of a run, a comparison, a question, a session and lines.
 fn read_kind(title: &[u8]) -> Option<Kind> {
     let (word, rest) = split_at_first(title, b' ');
     read_run(word, rest)
         .or(read_check(word, rest))
         .or(read_question(word, rest))
         .or(read_session(word))
+        .or(read_lines(word, rest))
 }
 
 /// Splits a text into the lines before the next title and the rest.
