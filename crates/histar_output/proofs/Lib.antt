@@ -1,0 +1,6 @@
+-- The lemmas of this crate.
+pub mod CutLemmas
+pub mod ColourLemmas
+pub mod MemberLemmas
+pub mod NumberBytes
+pub mod PrintLemmas

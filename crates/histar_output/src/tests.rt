@@ -1,0 +1,8 @@
+//! Lines of examples.
+use std::test::Fail;
+
+#[test]
+fn nothing(rt: HostRuntime) -> Result<(), Fail> {
+    assert!(rt; true);
+    Ok(())
+}
