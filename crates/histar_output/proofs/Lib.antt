@@ -4,3 +4,4 @@ pub mod ColourLemmas
 pub mod MemberLemmas
 pub mod NumberBytes
 pub mod PrintLemmas
+pub mod FactLemmas
