@@ -52,7 +52,7 @@ cut mark (b ∷ bs) (suc i) fits lacks is =
     rw (not_begun mark (b ∷ bs) (lacks 0 (omega arith)), further, next) refl
 
 -- a text begins with one space where its first byte is one
-spaced : (b : ℕ) (bs : List ℕ) → begins (codes " ") (b ∷ bs) ≡ (b == 32)
+pub spaced : (b : ℕ) (bs : List ℕ) → begins (codes " ") (b ∷ bs) ≡ (b == 32)
 spaced b bs =
     elim (eqb_tells b 32) [
       | inl is ↦ rw is.1 refl

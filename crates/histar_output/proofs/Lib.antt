@@ -5,3 +5,5 @@ pub mod MemberLemmas
 pub mod NumberBytes
 pub mod PrintLemmas
 pub mod FactLemmas
+pub mod ShownLemmas
+pub mod RefusalLemmas

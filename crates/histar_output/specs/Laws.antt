@@ -1,5 +1,5 @@
 -- What colouring guarantees.
-use Rattle.std.specs.Prelude.{◌≡◌, ℕ, Bool, true, false, not, List, [], ◌∷◌, ◌++◌, codes, decimal, ◌==◌, if◌then◌else◌}
+use Rattle.std.specs.Prelude.{◌≡◌, ℕ, ◌<◌, ◌^◌, Bool, true, false, not, List, [], ◌∷◌, ◌++◌, codes, decimal, ◌==◌, if◌then◌else◌}
 use Rattle.std.specs.List.{list_all}
 use Rattle.histar_flat.specs.declared.replies.Reply.{Reply}
 use Rattle.histar_flat.specs.declared.replies.Reply.TheVariants.{Done, Data, Entries, Stats, Child, Running, Exited, User, Refused, Gone}
@@ -37,6 +37,6 @@ is_refused (User name confined) = false
 is_refused (Refused e) = true
 is_refused Gone = true
 
--- of the lines with a number and a reply, those of refusals are in red
+-- of the lines with a number of 64 bits and a reply, those of refusals are in red, and no others
 abbrev pub RefusalsAreRed : Type 0
-RefusalsAreRed = (n : ℕ) (reply : Reply) → is_refusal (decimal n ++ codes " " ++ reply_text reply) ≡ is_refused reply
+RefusalsAreRed = (n : ℕ) (reply : Reply) → n < 2 ^ 64 → is_refusal (decimal n ++ codes " " ++ reply_text reply) ≡ is_refused reply
