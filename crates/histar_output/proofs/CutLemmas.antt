@@ -1,5 +1,6 @@
 -- Where a text is cut at a mark, and the first words of a text.
-use Rattle.std.proofs.Common.{◌≡◌, ◌≢◌, ℕ, zero, suc, ◌+◌, ◌<◌, ◌≤◌, Bool, true, false, eqb, List, [], ◌∷◌, ◌++◌, length, take, drop, refl, sym, ap, ap₂, ◌∙◌, inl, inr, arith, codes}
+use Rattle.std.proofs.Common.{◌≡◌, ◌≢◌, ℕ, zero, suc, ◌+◌, ◌<◌, ◌≤◌, Bool, true, false, eqb, List, [], ◌∷◌}
+use Rattle.std.proofs.Common.{◌++◌, length, take, drop, refl, sym, ap, ap₂, ◌∙◌, inl, inr, arith, codes}
 use Rattle.std.proofs.Math.Seq.{drop-nil}
 use Rattle.std.specs.Prelude.{◌==◌, ◌||◌, Option, None, Some, unwrap_or}
 use Rattle.std.specs.Option.{option_copied}
@@ -9,8 +10,8 @@ use Rattle.std.proofs.lemmas.Bool.{cases_Bool, false≢true, true≢false}
 use Rattle.std.proofs.lemmas.Bool.Decides.{Decides-eqb, eqb_tells}
 use Rattle.std.proofs.lemmas.Slice.Eq.{starts_is}
 use Rattle.histar_script.specs.Lines.{onto_line}
-use Rattle.histar_output.specs.Colours.{after_mark, behind, ends_refused, is_last_refusal}
-use Rattle.histar_output.specs.Cuts.{begins, cut_at, is_marked, unmarked, words_of}
+use Rattle.histar_output.specs.Colours.{after_mark, ends_refused, is_last_refusal}
+use Rattle.histar_output.specs.Cuts.{begins, behind, cut_at, cut_last, is_marked, unmarked, words_of}
 
 -- a text that begins with a mark is the mark and the rest
 begun : (mark text : List ℕ) → begins mark text ≡ true → text ≡ mark ++ drop (length mark) text
@@ -51,6 +52,30 @@ cut mark (b ∷ bs) (suc i) fits lacks is =
     let further = cut mark bs i (omega arith) (λ k low. lacks (suc k) (omega arith)) is' in
     rw (not_begun mark (b ∷ bs) (lacks 0 (omega arith)), further, next) refl
 
+-- a text without the mark is not cut at its last place
+pub uncut_last : (mark text : List ℕ) → ((i : ℕ) → i ≤ length text → LacksTextAt mark text i) → cut_last mark text ≡ (text, None)
+unfolding cut_last
+uncut_last mark [] lacks = rw (not_begun mark [] (lacks 0 (omega arith))) refl
+uncut_last mark (b ∷ bs) lacks =
+    let further = uncut_last mark bs (λ i fits. lacks (suc i) (omega arith)) in
+    rw (further, not_begun mark (b ∷ bs) (lacks 0 (omega arith))) refl
+
+-- a text is cut at the last place of the mark
+pub last_cut : (mark text : List ℕ) (i : ℕ) → i ≤ length text → ((k : ℕ) → i < k → k ≤ length text → LacksTextAt mark text k)
+    → drop i text ≡ mark ++ drop (i + length mark) text → cut_last mark text ≡ (take i text, Some (drop (i + length mark) text))
+unfolding cut_last
+last_cut mark [] zero fits lacks is = rw (begins_so mark [] _ is) (ap (λ (rest : List ℕ). ([], Some rest)) (sym (drop-nil (0 + length mark))))
+last_cut mark (b ∷ bs) zero fits lacks is =
+    let none : 0 + length mark ≡ length mark = omega arith in
+    let further = uncut_last mark bs (λ k fits'. lacks (suc k) (omega arith) (omega arith)) in
+    rw (further, begins_so mark (b ∷ bs) _ is, none) refl
+last_cut mark [] (suc i) fits lacks is = absurd (omega arith)
+last_cut mark (b ∷ bs) (suc i) fits lacks is =
+    let next : suc i + length mark ≡ suc (i + length mark) = omega arith in
+    let is' : drop i bs ≡ mark ++ drop (i + length mark) bs = is ∙ ap (λ k. mark ++ drop k (b ∷ bs)) next in
+    let further = last_cut mark bs i (omega arith) (λ k high fits'. lacks (suc k) (omega arith) (omega arith)) is' in
+    rw (further, next) refl
+
 -- a text begins with one space where its first byte is one
 pub spaced : (b : ℕ) (bs : List ℕ) → begins (codes " ") (b ∷ bs) ≡ (b == 32)
 spaced b bs =
@@ -59,19 +84,16 @@ spaced b bs =
       | inr is ↦ not_begun (codes " ") (b ∷ bs) (λ rest same. is.1 (cc)) ∙ sym is.0
     ]
 
--- what follows the first word of a text
-abbrev behind_word : List ℕ → List ℕ
-behind_word text = unwrap_or (cut_at (codes " ") text).1 []
-
 -- the words of a text behind a byte are its first word and those behind that
-after_byte : (b : ℕ) (text : List ℕ) (test : Bool) → (b == 32) ≡ test → words_of text ≡ (cut_at (codes " ") text).0 ∷ words_of (behind_word text)
-    → words_of (b ∷ text) ≡ (cut_at (codes " ") (b ∷ text)).0 ∷ words_of (behind_word (b ∷ text))
+after_byte : (b : ℕ) (text : List ℕ) (test : Bool) → (b == 32) ≡ test → words_of text ≡ (cut_at (codes " ") text).0
+    ∷ words_of (behind (codes " ") text)
+    → words_of (b ∷ text) ≡ (cut_at (codes " ") (b ∷ text)).0 ∷ words_of (behind (codes " ") (b ∷ text))
 unfolding cut_at words_of
 after_byte b text true e h = rw (spaced b text, e) refl
 after_byte b text false e h = rw (spaced b text, e) (ap (onto_line b) h)
 
 -- the words of a text that is not empty are its first word and those behind that
-pub first_of : (text : List ℕ) → 0 < length text → words_of text ≡ (cut_at (codes " ") text).0 ∷ words_of (behind_word text)
+pub first_of : (text : List ℕ) → 0 < length text → words_of text ≡ (cut_at (codes " ") text).0 ∷ words_of (behind (codes " ") text)
 unfolding cut_at words_of
 first_of [] h = absurd (omega arith)
 first_of (b ∷ []) h = elim (eqb_tells b 32) [ inl e ↦ rw (spaced b [], e.0) refl | inr e ↦ rw (spaced b [], e.0) refl ]
@@ -84,7 +106,7 @@ no_words [] none = refl
 no_words (b ∷ bs) none = absurd (omega arith)
 
 -- what follows the first word is shorter than a text that is not empty
-pub behind_shorter : (text : List ℕ) → 0 < length text → length (behind_word text) < length text
+pub behind_shorter : (text : List ℕ) → 0 < length text → length (behind (codes " ") text) < length text
 unfolding cut_at
 behind_shorter [] h = absurd (omega arith)
 behind_shorter (b ∷ []) h = elim (eqb_tells b 32) [ inl e ↦ rw (spaced b [], e.0) (omega arith) | inr e ↦ rw (spaced b [], e.0) (omega arith) ]
@@ -101,7 +123,8 @@ unmarked_end (b ∷ []) = (refl, refl)
 unmarked_end (b ∷ c ∷ bs) = (ap (λ l. b ∷ l) (unmarked_end (c ∷ bs)).0, (unmarked_end (c ∷ bs)).1)
 
 -- a word that doesn't end with `!` stays
-pub unmarked_stays : (word : List ℕ) → ((front : List ℕ) → word ≢ front ++ 33 ∷ []) → (unmarked word ≡ word) × (is_marked word ≡ false)
+pub unmarked_stays : (word : List ℕ) → ((front : List ℕ) → word ≢ front ++ 33 ∷ []) → (unmarked word ≡ word)
+    × (is_marked word ≡ false)
 unmarked_stays [] other = (refl, refl)
 unmarked_stays (b ∷ []) other =
     elim (eqb_tells b 33) [
@@ -113,12 +136,15 @@ unmarked_stays (b ∷ c ∷ bs) other =
     (ap (λ l. b ∷ l) rest.0, rest.1)
 
 -- behind the first mark in a text: what follows it here, or what is behind the first mark in the rest
-pub behind_found : (mark text after : List ℕ) (x : ℕ) (o : Option (List ℕ)) → text ≡ x ∷ after → o ≡ after_mark mark text → behind mark text ≡ unwrap_or o (behind mark after)
+pub behind_found : (mark text after : List ℕ) (x : ℕ) (o : Option (List ℕ)) → text ≡ x ∷ after → o ≡ after_mark mark text
+    → behind mark text ≡ unwrap_or o (behind mark after)
 unfolding cut_at
 behind_found mark text after x o is found =
-    ap (behind mark) is ∙ here (begins mark (x ∷ after)) refl ∙ sym (ap (λ p. unwrap_or p (behind mark after)) (found ∙ ap (after_mark mark) is))
+    ap (behind mark) is ∙ here (begins mark (x ∷ after)) refl
+    ∙ sym (ap (λ p. unwrap_or p (behind mark after)) (found ∙ ap (after_mark mark) is))
   where
-    here : (r : Bool) → begins mark (x ∷ after) ≡ r → behind mark (x ∷ after) ≡ unwrap_or (after_mark mark (x ∷ after)) (behind mark after)
+    here : (r : Bool) → begins mark (x ∷ after) ≡ r → behind mark (x ∷ after)
+        ≡ unwrap_or (after_mark mark (x ∷ after)) (behind mark after)
     here true so = rw so refl
     here false so = rw so refl
 

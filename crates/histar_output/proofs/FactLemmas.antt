@@ -1,5 +1,6 @@
 -- Each line that is written is the fact of its line.
-use Rattle.std.proofs.Common.{◌≡◌, ℕ, suc, ◌≤◌, Bool, true, false, List, [], ◌∷◌, ◌++◌, refl, sym, ap, ◌∙◌, subst, inl, inr, arith, append_assoc, append-nil, Some, None, length}
+use Rattle.std.proofs.Common.{◌≡◌, ℕ, suc, ◌≤◌, Bool, true, false, List, [], ◌∷◌, ◌++◌, refl, sym, ap, ◌∙◌, subst}
+use Rattle.std.proofs.Common.{inl, inr, arith, append_assoc, append-nil, Some, None, length}
 use Rattle.std.specs.Prelude.{Option, max, if◌then◌else◌, ◌==◌}
 use Rattle.std.specs.Option.{option_map_or}
 use Rattle.std.specs.List.{flat_map}
@@ -16,8 +17,8 @@ use Rattle.histar_script.proofs.Beginnings.{line_back}
 use Rattle.histar_output.specs.declared.forms.Form.{Form}
 use Rattle.histar_output.specs.declared.parts.Kind.{Kind}
 use Rattle.histar_output.specs.declared.parts.Kind.TheVariants as kinds
-use Rattle.histar_output.specs.Cuts.{cut_at, holders_in, names_in, words_of}
-use Rattle.histar_output.specs.Parts.{Part, upto, rest, past, is, is_number, left_by, member_of, members_of, rights_of, strings, value_of}
+use Rattle.histar_output.specs.Cuts.{cut_at, cut_last, holders_in, names_in, words_of}
+use Rattle.histar_output.specs.Parts.{Part, upto, upto_last, rest, past, is, is_number, left_by, member_of, members_of, rights_of, strings, value_of}
 use Rattle.histar_output.specs.Forms.{parts_of}
 use Rattle.histar_output.specs.Facts.{AreFacts, as_text, fact_of}
 use Rattle.histar_output.specs.Written.{fact_line}
@@ -55,7 +56,10 @@ members_flat : (ps : List Part) (left : Option (List ℕ)) → members_depth (me
 unfolding members_of
 members_flat [] left = omega arith
 members_flat (p ∷ ps) None = omega arith
-members_flat (upto name kind mark ∷ ps) (Some text) = one_more _ _ (value_depth kind (cut_at mark text).0) (members_flat ps (left_by (upto name kind mark) text))
+members_flat (upto name kind mark ∷ ps) (Some text) =
+    one_more _ _ (value_depth kind (cut_at mark text).0) (members_flat ps (left_by (upto name kind mark) text))
+members_flat (upto_last name kind mark ∷ ps) (Some text) =
+    one_more _ _ (value_depth kind (cut_last mark text).0) (members_flat ps (left_by (upto_last name kind mark) text))
 members_flat (rest name kind ∷ ps) (Some text) = one_more _ _ (value_depth kind text) (members_flat ps (Some text))
 members_flat (past mark ∷ ps) (Some text) = members_flat ps (left_by (past mark) text)
 members_flat (is name b ∷ ps) (Some text) = one_more 0 _ (omega arith) (members_flat ps (Some text))
@@ -94,7 +98,10 @@ members_numbers : (ps : List Part) (left : Option (List ℕ)) → MembersHaveNum
 unfolding members_of
 members_numbers [] left = tt
 members_numbers (p ∷ ps) None = tt
-members_numbers (upto name kind mark ∷ ps) (Some text) = (value_numbers kind (cut_at mark text).0, members_numbers ps (left_by (upto name kind mark) text))
+members_numbers (upto name kind mark ∷ ps) (Some text) =
+    (value_numbers kind (cut_at mark text).0, members_numbers ps (left_by (upto name kind mark) text))
+members_numbers (upto_last name kind mark ∷ ps) (Some text) =
+    (value_numbers kind (cut_last mark text).0, members_numbers ps (left_by (upto_last name kind mark) text))
 members_numbers (rest name kind ∷ ps) (Some text) = (value_numbers kind text, members_numbers ps (Some text))
 members_numbers (past mark ∷ ps) (Some text) = members_numbers ps (left_by (past mark) text)
 members_numbers (is name b ∷ ps) (Some text) = (tt, members_numbers ps (Some text))
@@ -107,7 +114,8 @@ fact_reads form line =
     document-print (fact_of form line) (members_numbers parts (Some text)) (omega (arith, members_flat parts (Some text)))
 
 -- what is written for a line, with what is behind it, is one line and those of that
-fact_first : (form : Form) (line behind : List ℕ) → lines_of (fact_line form line ++ behind) ≡ print (json_tokens (fact_of form line)) ∷ lines_of behind
+fact_first : (form : Form) (line behind : List ℕ) → lines_of (fact_line form line ++ behind) ≡ print (json_tokens (fact_of form line))
+    ∷ lines_of behind
 fact_first form line behind =
     let text = as_text line in
     let printed = print (json_tokens (fact_of form line)) in
@@ -119,7 +127,8 @@ pub lines_are_facts : (form : Form) (lines : List (List ℕ)) → AreFacts form 
 unfolding lines_of
 lines_are_facts form [] = tt
 lines_are_facts form (line ∷ lines) =
-    subst (AreFacts form (line ∷ lines)) (sym (fact_first form line (flat_map (fact_line form) lines))) (fact_reads form line, lines_are_facts form lines)
+    subst (AreFacts form (line ∷ lines)) (sym (fact_first form line (flat_map (fact_line form) lines)))
+    (fact_reads form line, lines_are_facts form lines)
 
 -- the last line that is written has its end
 pub facts_end : (form : Form) (lines : List (List ℕ)) → EndsItsLines (flat_map (fact_line form) lines)
@@ -128,5 +137,6 @@ facts_end form (line ∷ lines) =
     let printed = print (json_tokens (fact_of form line)) in
     elim (facts_end form lines) [
       | inl none ↦ inr (printed, ap (λ t. fact_line form line ++ t) none ∙ append-nil (fact_line form line))
-      | inr more ↦ inr (fact_line form line ++ more.0, ap (λ t. fact_line form line ++ t) more.1 ∙ sym (append_assoc (fact_line form line) more.0 (10 ∷ [])))
+      | inr more ↦ inr
+          (fact_line form line ++ more.0, ap (λ t. fact_line form line ++ t) more.1 ∙ sym (append_assoc (fact_line form line) more.0 (10 ∷ [])))
     ]

@@ -1,5 +1,6 @@
 -- A text that JSON takes for a number is one line.
-use Rattle.std.proofs.Common.{◌≡◌, ℕ, suc, ◌+◌, Bool, true, false, cond, not, eqb, List, [], ◌∷◌, drop, length, refl, sym, ap, ◌∙◌, subst, inl, inr, ◌⊎◌, arith, Some, None}
+use Rattle.std.proofs.Common.{◌≡◌, ℕ, suc, ◌+◌, Bool, true, false, cond, not, eqb, List, [], ◌∷◌, drop, length, refl, sym, ap}
+use Rattle.std.proofs.Common.{◌∙◌, subst, inl, inr, ◌⊎◌, arith, Some, None}
 use Rattle.std.specs.Prelude.{Option, option_and_then, ◌==◌, ◌||◌, ◌&&◌}
 use Rattle.std.specs.Char.{is_ascii_digit}
 use Rattle.std.specs.List.{list_all, prefix_len}
@@ -55,14 +56,16 @@ then text left None first next = tt
 then text left (Some more) first next = λ line. first (next line)
 
 -- a part that follows one that may fail
-and_then : (text : List ℕ) (f : List ℕ → Option (List ℕ)) → ((left : List ℕ) → Passes left (f left)) → (o : Option (List ℕ)) → Passes text o
+and_then : (text : List ℕ) (f : List ℕ → Option (List ℕ)) → ((left : List ℕ) → Passes left (f left)) → (o : Option (List ℕ))
+    → Passes text o
     → Passes text (option_and_then f o)
 and_then text f each None first = tt
 and_then text f each (Some left) first = then text left (f left) first (each left)
 
 -- the parts of a number
 all_digits : (text : List ℕ) → Passes text (after_digits text)
-all_digits text = by_test text (prefix_len is_ascii_digit text == 0) None (Some (drop (prefix_len is_ascii_digit text) text)) (λ none. tt) (past_digits text)
+all_digits text =
+    by_test text (prefix_len is_ascii_digit text == 0) None (Some (drop (prefix_len is_ascii_digit text) text)) (λ none. tt) (past_digits text)
 
 minus : (text : List ℕ) → IsLine (after_minus text) → IsLine text
 minus text = optional (head text == 45) refl
@@ -105,6 +108,8 @@ number_is_line text number = rest number
     passes : Passes text (after_number text)
     passes =
         and_then text after_exponent exponent (option_and_then after_fraction (after_whole (after_minus text)))
-        (and_then text after_fraction fraction (after_whole (after_minus text)) (then text (after_minus text) (after_whole (after_minus text)) (minus text) (whole (after_minus text))))
+        (and_then text after_fraction fraction (after_whole (after_minus text))
+        (then text (after_minus text) (after_whole (after_minus text)) (minus text) (whole (after_minus text))))
+
     rest : after_number text ≡ Some [] → IsLine text
     rest same = subst (Passes text) same passes refl

@@ -1,5 +1,6 @@
 -- Which lines of replies are refusals.
-use Rattle.std.proofs.Common.{◌≡◌, ℕ, suc, ◌<◌, ◌^◌, Bool, true, false, List, [], ◌∷◌, ◌++◌, codes, length, append_assoc, refl, sym, ap, ap₂, ◌∙◌, inl, inr, arith, Some}
+use Rattle.std.proofs.Common.{◌≡◌, ℕ, suc, ◌<◌, ◌^◌, Bool, true, false, List, [], ◌∷◌, ◌++◌, codes, length, append_assoc}
+use Rattle.std.proofs.Common.{refl, sym, ap, ap₂, ◌∙◌, inl, inr, arith, Some}
 use Rattle.std.specs.Prelude.{◌==◌, ◌&&◌, decimal, slice_index, unwrap_or, Option}
 use Rattle.std.specs.Char.{is_ascii_digit}
 use Rattle.std.specs.List.{list_all}
@@ -12,8 +13,8 @@ use Rattle.histar_flat.specs.declared.replies.Errno.{Errno}
 use Rattle.histar_flat.specs.declared.replies.Errno.TheVariants.{ENOENT, ENOTDIR, EISDIR, EEXIST, EACCES, EPERM, ENOTEMPTY, EBUSY, ENOSPC, EFBIG}
 use Rattle.histar_flat.specs.declared.replies.Errno.TheVariants.{ESRCH, EAGAIN, EAUTH}
 use Rattle.histar_flat.specs.Texts.{errno_text, reply_text}
-use Rattle.histar_output.specs.Colours.{behind, is_refusal, is_refused_text}
-use Rattle.histar_output.specs.Cuts.{cut_at}
+use Rattle.histar_output.specs.Colours.{is_refusal, is_refused_text}
+use Rattle.histar_output.specs.Cuts.{behind, cut_at}
 use Rattle.histar_output.specs.Laws.{is_refused}
 use Rattle.histar_output.proofs.CutLemmas.{spaced}
 
@@ -56,7 +57,8 @@ reply_refuses (Refused e) = errno_refuses e
 reply_refuses Gone = refl
 
 -- digits begin with a digit
-first_digit : (digits rest : List ℕ) → 0 < length digits → list_all is_ascii_digit digits ≡ true → is_ascii_digit (slice_index (digits ++ rest) 0) ≡ true
+first_digit : (digits rest : List ℕ) → 0 < length digits → list_all is_ascii_digit digits ≡ true
+    → is_ascii_digit (slice_index (digits ++ rest) 0) ≡ true
 first_digit [] rest some all = absurd (omega arith)
 first_digit (b ∷ bs) rest some all = (and_parts (is_ascii_digit b) (list_all is_ascii_digit bs) all).0
 
@@ -66,5 +68,6 @@ reply_line n reply small =
     let text = reply_text reply in
     let digits = decimal_digits n small in
     ap is_refusal (append_assoc (decimal n) (codes " ") text)
-    ∙ ap₂ (λ a b. a && is_refused_text b) (first_digit (decimal n) (32 ∷ text) (decimal_nonempty n small) digits) (behind_digits (decimal n) text digits)
+    ∙ ap₂ (λ a b. a && is_refused_text b) (first_digit (decimal n) (32 ∷ text) (decimal_nonempty n small) digits)
+    (behind_digits (decimal n) text digits)
     ∙ reply_refuses reply

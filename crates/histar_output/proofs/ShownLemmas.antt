@@ -1,5 +1,6 @@
 -- What a terminal shows of a text in colours.
-use Rattle.std.proofs.Common.{◌≡◌, ℕ, Bool, true, false, List, [], ◌∷◌, ◌++◌, map, refl, sym, ap, ◌∙◌, append_assoc, append-nil, inl, inr}
+use Rattle.std.proofs.Common.{◌≡◌, ℕ, Bool, true, false, List, [], ◌∷◌, ◌++◌, map, refl, sym, ap, ◌∙◌, append_assoc}
+use Rattle.std.proofs.Common.{append-nil, inl, inr}
 use Rattle.std.specs.Prelude.{◌==◌, not, ◌&&◌, if◌then◌else◌}
 use Rattle.std.specs.List.{join_with_byte, list_all, onto_first, slice_split}
 use Rattle.std.proofs.lemmas.Bool.{and_parts, cases_Bool, not-true}
@@ -28,7 +29,8 @@ abbrev are_clean : List (List ℕ) → Bool
 are_clean lines = list_all has_no_escape lines
 
 -- so are lines with line feeds between them
-shown_lines : (lines : List (List ℕ)) → are_clean lines ≡ true → shown (join_with_byte 10 (map coloured_line lines)) ≡ join_with_byte 10 lines
+shown_lines : (lines : List (List ℕ)) → are_clean lines ≡ true → shown (join_with_byte 10 (map coloured_line lines))
+    ≡ join_with_byte 10 lines
 shown_lines [] clean = refl
 shown_lines (line ∷ []) clean =
     let own = (and_parts (has_no_escape line) true clean).0 in

@@ -1,5 +1,6 @@
 -- The lines of `run` that are refusals, in red.
-use Rattle.std.specs.Prelude.{ℕ, Bool, false, ◌&&◌, ◌||◌, List, [], ◌∷◌, ◌++◌, codes, drop, length, map, slice_index, unwrap_or, ◌==◌, Option, Some, None, if◌then◌else◌}
+use Rattle.std.specs.Prelude.{ℕ, Bool, false, ◌&&◌, ◌||◌, List, [], ◌∷◌, ◌++◌, codes, drop, length, map, slice_index, unwrap_or}
+use Rattle.std.specs.Prelude.{◌==◌, Option, Some, None, if◌then◌else◌}
 use Rattle.std.specs.Option.{option_map_or}
 use Rattle.std.specs.List.{list_any, join_with_byte, slice_split}
 use Rattle.std.specs.Str.{bytes_eq}
@@ -8,15 +9,11 @@ use Rattle.histar_flat.specs.declared.replies.Errno.{Errno}
 use Rattle.histar_flat.specs.declared.replies.Errno.TheVariants.{ENOENT, ENOTDIR, EISDIR, EEXIST, EACCES, EPERM, ENOTEMPTY, EBUSY, ENOSPC, EFBIG}
 use Rattle.histar_flat.specs.declared.replies.Errno.TheVariants.{ESRCH, EAGAIN, EAUTH}
 use Rattle.histar_flat.specs.Texts.{errno_text}
-use Rattle.histar_output.specs.Cuts.{begins, cut_at}
+use Rattle.histar_output.specs.Cuts.{begins, behind}
 
 -- what follows the mark at the beginning of a text, if the text begins with it
 abbrev pub after_mark : List ℕ → List ℕ → Option (List ℕ)
 after_mark mark text = if begins mark text then Some (drop (length mark) text) else None
-
--- what is behind the first place of the mark in a text: nothing where it doesn't come
-abbrev pub behind : List ℕ → List ℕ → List ℕ
-behind mark text = unwrap_or (cut_at mark text).1 []
 
 -- the errnos
 abbrev pub errnos : List Errno
@@ -39,7 +36,8 @@ ends_refused (b ∷ bs) = is_last_refusal (b ∷ bs) || ends_refused bs
 -- A text `PROC CALL  REPLY` has a refusal for its reply. Two spaces may be also in the bytes that a file has: the reply to a `read` follows the
 -- first two, and any other reply follows the last two.
 abbrev pub is_refused_call : List ℕ → Bool
-is_refused_call text = option_map_or (λ read. refuses (behind (codes "  ") read)) (after_mark (codes "read ") (behind (codes " ") text)) (ends_refused text)
+is_refused_call text =
+    option_map_or (λ read. refuses (behind (codes "  ") read)) (after_mark (codes "read ") (behind (codes " ") text)) (ends_refused text)
 
 -- the text behind a line's number, which is a reply, or one more space, a call and a reply, has a refusal for its reply
 abbrev pub is_refused_text : List ℕ → Bool

@@ -1,5 +1,6 @@
 -- Texts cut at marks, and their words.
-use Rattle.std.specs.Prelude.{ℕ, Bool, true, false, List, [], ◌∷◌, length, drop, map, filter, not, codes, nat_eq, ◌==◌, Option, None, Some}
+use Rattle.std.specs.Prelude.{ℕ, Bool, true, false, List, [], ◌∷◌, length, drop, map, filter, not, codes, nat_eq, is_none, unwrap_or}
+use Rattle.std.specs.Prelude.{◌==◌, ◌&&◌, Option, None, Some}
 use Rattle.std.specs.Prelude.{if◌then◌else◌}
 use Rattle.std.specs.List.{starts_with}
 use Rattle.std.specs.Str.{bytes_eq}
@@ -15,6 +16,17 @@ cut_at mark [] = ([], if begins mark [] then Some [] else None)
 cut_at mark (b ∷ bs) =
     if begins mark (b ∷ bs) then ([], Some (drop (length mark) (b ∷ bs)))
     else (b ∷ (cut_at mark bs).0, (cut_at mark bs).1)
+
+-- the bytes before the last place where the text goes on with the mark, and those behind the mark; all bytes where there is no such place
+unfoldable pub cut_last : List ℕ → List ℕ → List ℕ × Option (List ℕ)
+cut_last mark [] = ([], if begins mark [] then Some [] else None)
+cut_last mark (b ∷ bs) =
+    if is_none (cut_last mark bs).1 && begins mark (b ∷ bs) then ([], Some (drop (length mark) (b ∷ bs)))
+    else (b ∷ (cut_last mark bs).0, (cut_last mark bs).1)
+
+-- what is behind the first place of the mark in a text: nothing where it doesn't come
+abbrev pub behind : List ℕ → List ℕ → List ℕ
+behind mark text = unwrap_or (cut_at mark text).1 []
 
 -- the words of a text: each ends at a space, which the last may lack
 unfoldable pub words_of : List ℕ → List (List ℕ)

@@ -1,5 +1,5 @@
 -- What is written for a line: for private clauses.
-use Rattle.std.specs.Prelude.{◌≡◌, ℕ, List, [], ◌∷◌, ◌++◌, codes, unwrap_or, Option, None, Some, Result, OnOk, if◌then◌else◌}
+use Rattle.std.specs.Prelude.{◌≡◌, ℕ, List, [], ◌∷◌, ◌++◌, codes, Option, None, Some, Result, OnOk, if◌then◌else◌}
 use Rattle.json.specs.Token as tokens
 use Rattle.json.specs.Json.{Json}
 use Rattle.json.specs.Tree.{json_tokens}
@@ -8,13 +8,14 @@ use Rattle.json.specs.Written.{Written}
 use Rattle.histar_output.specs.declared.forms.Form.{Form}
 use Rattle.histar_output.specs.declared.parts.Part as code
 use Rattle.histar_output.specs.declared.parts.Part.TheVariants as parts
-use Rattle.histar_output.specs.Cuts.{cut_at, is_marked, unmarked}
-use Rattle.histar_output.specs.Parts.{Part, upto, rest, past, is}
+use Rattle.histar_output.specs.Cuts.{behind, cut_at, is_marked, unmarked}
+use Rattle.histar_output.specs.Parts.{Part, upto, upto_last, rest, past, is}
 use Rattle.histar_output.specs.Facts.{fact_of, fact_of_text}
 
 -- the part that a value of the enum is
 abbrev pub part_of : code.Part → Part
 part_of (parts.Upto name kind mark) = upto name.now kind mark.now
+part_of (parts.UptoLast name kind mark) = upto_last name.now kind mark.now
 part_of (parts.Rest name kind) = rest name.now kind
 part_of (parts.Past mark) = past mark.now
 part_of (parts.Is name b) = is name.now b
@@ -42,4 +43,4 @@ holder_tokens word = if is_marked word then tokens.string (unmarked word) ∷ []
 
 -- the tokens of a word `WHO:RIGHTS`, as a member
 abbrev pub right_tokens : List ℕ → List tokens.Token
-right_tokens word = tokens.key (cut_at (codes ":") word).0 ∷ tokens.string (unwrap_or (cut_at (codes ":") word).1 []) ∷ []
+right_tokens word = tokens.key (cut_at (codes ":") word).0 ∷ tokens.string (behind (codes ":") word) ∷ []

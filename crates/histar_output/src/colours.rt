@@ -4,7 +4,9 @@ ghost use Rattle.std.specs.List.{list_any};
 ghost use Rattle.std.specs.Option.{option_copied};
 ghost use Rattle.std.specs.Str.{bytes_eq};
 ghost use Rattle.histar_flat.specs.Texts.{errno_text};
-ghost use Rattle.histar_output.specs.Colours.{after_mark, behind, coloured, coloured_line, ends_refused, is_last_refusal, is_refusal, is_refused_call, is_refused_text, refuses};
+ghost use Rattle.histar_output.specs.Cuts.{behind};
+ghost use Rattle.histar_output.specs.Colours.{after_mark, coloured, coloured_line, ends_refused, is_last_refusal, is_refusal, is_refused_call};
+ghost use Rattle.histar_output.specs.Colours.{is_refused_text, refuses};
 
 use histar_flat::{Errno, split_at_first};
 use std::alloc::{AllocError, Global};

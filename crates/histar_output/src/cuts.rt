@@ -2,7 +2,7 @@
 ghost use Rattle.std.specs.Prelude.{◌≡◌, ◌<◌, ◌∷◌, length, nat_eq, unwrap_or};
 ghost use Rattle.std.specs.Option.{option_copied, MatchOption};
 ghost use Rattle.std.specs.Str.{bytes_eq};
-ghost use Rattle.histar_output.specs.Cuts.{begins, cut_at, is_marked, unmarked, words_of};
+ghost use Rattle.histar_output.specs.Cuts.{begins, behind, cut_at, cut_last, is_marked, unmarked, words_of};
 
 /// Checks whether a text begins with a mark.
 pub(crate) fn begins(text: &str, mark: &str) -> bool
@@ -27,6 +27,24 @@ pub(crate) fn cut_at<'a>(text: &'a str, mark: &str) -> (&'a str, Option<&'a str>
         None => (text, None),
         Some((before, behind)) => (before, Some(behind)),
     }
+}
+
+/// Returns the text before the last mark, and the one behind the mark, if it comes.
+pub(crate) fn cut_last<'a>(text: &'a str, mark: &str) -> (&'a str, Option<&'a str>)
+    ensures before { result.0.now ≡ (cut_last mark.now text.now).0 }
+    ensures behind { option_copied result.1 ≡ (cut_last mark.now text.now).1 }
+{
+    match text.rsplit_once(mark) {
+        None => (text, None),
+        Some((before, behind)) => (before, Some(behind)),
+    }
+}
+
+/// Returns what is behind the first mark in a text, or nothing if it doesn't come.
+pub(crate) fn behind<'a>(text: &'a str, mark: &str) -> &'a str
+    ensures { result.now ≡ behind mark.now text.now }
+{
+    cut_at(text, mark).1.unwrap_or("")
 }
 
 /// Returns the first word of a text that is not empty, and what follows the space behind it.

@@ -5,7 +5,7 @@ ghost use Rattle.json.specs.Tree.{members_tokens};
 ghost use Rattle.histar_output.specs.Parts.{left_by, member_of, members_of};
 ghost use Rattle.histar_output.specs.Written.{Adds, member_tokens, part_of};
 
-use crate::cuts::cut_at;
+use crate::cuts::{cut_at, cut_last};
 use crate::values::write_value;
 use json::Writer;
 use std::alloc::AllocError;
@@ -26,6 +26,8 @@ pub enum Kind {
 pub enum Part {
     /// A member with this name, of the text up to a mark, which is passed over.
     Upto(&'static str, Kind, &'static str),
+    /// A member with this name, of the text up to the last such mark, which is passed over.
+    UptoLast(&'static str, Kind, &'static str),
     /// A member with this name, of all that is left, which stays.
     Rest(&'static str, Kind),
     /// No member: the text up to a mark, and the mark, are passed over.
@@ -65,6 +67,12 @@ fn write_part<'a>(
     match part {
         Part::Upto(name, kind, mark) => {
             let (value, left) = cut_at(text, mark);
+            writer.key(name)?;
+            write_value(writer, kind, value)?;
+            Ok(left)
+        }
+        Part::UptoLast(name, kind, mark) => {
+            let (value, left) = cut_last(text, mark);
             writer.key(name)?;
             write_value(writer, kind, value)?;
             Ok(left)

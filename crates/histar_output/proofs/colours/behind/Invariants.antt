@@ -1,6 +1,6 @@
 -- The invariants and measures of `behind` of src/colours.rt.
 use Rattle.std.proofs.Common.{◌≡◌, length}
-use Rattle.histar_output.specs.Colours.{behind}
+use Rattle.histar_output.specs.Cuts.{behind}
 use Rattle.histar_output.proofs.colours.behind.Given as goal
 
 abbrev pub invariant-places : goal.invariant-places

@@ -1,5 +1,6 @@
 -- Proves the goals of `coloured` of src/colours.rt that the search leaves open.
-use Rattle.std.proofs.Common.{◌≡◌, ℕ, ◌∷◌, ◌++◌, [], List, Some, None, length, map, sym, ap, ap₂, ◌∙◌, append_assoc, append-nil, rules}
+use Rattle.std.proofs.Common.{◌≡◌, ℕ, ◌∷◌, ◌++◌, [], List, Some, None, length, map, sym, ap, ap₂, ◌∙◌, append_assoc}
+use Rattle.std.proofs.Common.{append-nil, rules}
 use Rattle.std.specs.Prelude.{Option}
 use Rattle.std.specs.Option.{option_copied, option_map_or}
 use Rattle.histar_flat.specs.Words.{split_at_first}
@@ -19,7 +20,9 @@ lines-smaller c = after_shorter c.lines.rest.now c.in-Some.after.now (after_is c
 left_is : (rest line : List ℕ) (after : Option (List ℕ)) → line ≡ (split_at_first 10 rest).0 → after ≡ (split_at_first 10 rest).1
     → coloured rest ≡ coloured_line line ++ option_map_or (λ more. 10 ∷ coloured more) after []
 left_is rest line after line_is after_is =
-    coloured_on rest ∙ ap₂ (λ (l : List ℕ) (o : Option (List ℕ)). coloured_line l ++ option_map_or (λ more. 10 ∷ coloured more) o []) (sym line_is) (sym after_is)
+    coloured_on rest
+    ∙ ap₂ (λ (l : List ℕ) (o : Option (List ℕ)). coloured_line l ++ option_map_or (λ more. 10 ∷ coloured more) o []) (sym line_is)
+    (sym after_is)
 
 pub lines-preserved : goal.lines-preserved
 lines-preserved c =
@@ -28,7 +31,8 @@ lines-preserved c =
     let out = c.lines.out.items in
     c.lines.invariant
     ∙ ap (λ (t : List ℕ). out ++ t) (left_is c.lines.rest.now line (Some after) c.split_at_first.ensures.before (sym (after_is c)))
-    ∙ sym (ap (λ (t : List ℕ). t ++ coloured after) (c.in_ok-push.ensures.items ∙ ap (λ (t : List ℕ). t ++ 10 ∷ []) c.in_ok-push_line.ensures)
+    ∙ sym (ap (λ (t : List ℕ). t ++ coloured after)
+    (c.in_ok-push.ensures.items ∙ ap (λ (t : List ℕ). t ++ 10 ∷ []) c.in_ok-push_line.ensures)
     ∙ append_assoc (out ++ coloured_line line) (10 ∷ []) (coloured after) ∙ append_assoc out (coloured_line line) (10 ∷ coloured after))
 
 pub returns-in_default : goal.returns-in_default

@@ -18,7 +18,8 @@ parts c =
     let e = c.in-Some.ensures.cases in
     let text = c.args.text.now in
     let ends : e.1 ≡ e.0 + length c.args.mark.now = e.2.1.ends in
-    let found : drop e.0 text ≡ c.args.mark.now ++ drop (e.0 + length c.args.mark.now) text = e.2.1.split ∙ ap (λ k. c.args.mark.now ++ drop k text) ends in
+    let found : drop e.0 text ≡ c.args.mark.now ++ drop (e.0 + length c.args.mark.now) text =
+    e.2.1.split ∙ ap (λ k. c.args.mark.now ++ drop k text) ends in
     ap₂ (λ a b. (a, Some b)) e.3 (e.4 ∙ ap (λ k. drop k text) ends) ∙ sym (cut c.args.mark.now text e.0 (omega arith) e.2.0 found)
 
 pub returns-in-Some-clause-before : goal.returns-in-Some-clause-before

@@ -15,4 +15,5 @@ returns-clause-facts c =
 
 pub returns-clause-ends : goal.returns-clause-ends
 returns-clause-ends c =
-    IfOk-weaker c.fact_lines.result _ _ (λ out is. subst EndsItsLines (sym is) (facts_end c.args.form (lines_of c.args.text.now))) c.fact_lines.ensures
+    IfOk-weaker c.fact_lines.result _ _
+    (λ out is. subst EndsItsLines (sym is) (facts_end c.args.form (lines_of c.args.text.now))) c.fact_lines.ensures

@@ -1,5 +1,6 @@
 -- Proves the goals of `write_members` of src/parts.rt that the search leaves open.
-use Rattle.std.proofs.Common.{◌≡◌, ℕ, ◌+◌, [], ◌++◌, List, Some, None, drop, length, map, get_or, sym, ap, ◌∙◌, append_assoc, arith, rules}
+use Rattle.std.proofs.Common.{◌≡◌, ℕ, ◌+◌, [], ◌++◌, List, Some, None, drop, length, map, get_or, sym, ap, ◌∙◌, append_assoc}
+use Rattle.std.proofs.Common.{arith, rules}
 use Rattle.std.specs.Prelude.{Option}
 use Rattle.std.specs.Option.{option_copied}
 use Rattle.std.proofs.lemmas.Result.{on_ok_weaker}
@@ -29,20 +30,24 @@ parts-preserved c =
     let old = c.parts.writer.tokens in
     let part = get_or parts i no_part in
     let here = members_at parts i no_part c.in-Some.text.now (omega (arith, c.parts-test.true)) in
-    let was : option_copied c.parts.left ≡ Some c.in-Some.text.now = ap option_copied c.in-Some.is in
-    (made.written.0 ∙ c.parts.invariant.0,
+    let was : option_copied c.parts.left ≡ Some c.in-Some.text.now = ap option_copied c.in-Some.is in (
+      made.written.0 ∙ c.parts.invariant.0,
       ap (λ (ts : List Token). ts ++ to_come (drop (i + 1) parts) (option_copied c.in_ok-left.left)) made.written.1
-      ∙ append_assoc old _ _
-      ∙ ap (λ (left : Option (List ℕ)). old ++ (member_tokens (member_of (part_of part) c.in-Some.text.now) ++ to_come (drop (i + 1) parts) left)) made.left
-      ∙ sym (ap (λ (ts : List Token). old ++ ts) (ap (to_come (drop i parts)) was ∙ here))
-      ∙ c.parts.invariant.1)
+          ∙ append_assoc old _ _
+          ∙ ap (λ (left : Option (List ℕ)). old
+          ++ (member_tokens (member_of (part_of part) c.in-Some.text.now) ++ to_come (drop (i + 1) parts) left)) made.left
+          ∙ sym (ap (λ (ts : List Token). old ++ ts) (ap (to_come (drop i parts)) was ∙ here))
+          ∙ c.parts.invariant.1,
+    )
 
 pub returns : goal.returns
 returns c =
     let none = members_end c.args.parts.now c.parts.part-index (option_copied c.parts.left) (omega (arith, c.parts-test.false)) in
     on_ok_weaker c.end_object-2.result
-    (λ is. (c.end_object-2.ensures.room.0 ∙ c.parts.invariant.0,
-      is ∙ sym (ap (λ ms. c.parts.writer.tokens ++ members_tokens ms) none) ∙ c.parts.invariant.1))
+    (λ is. (
+      c.end_object-2.ensures.room.0 ∙ c.parts.invariant.0,
+      is ∙ sym (ap (λ ms. c.parts.writer.tokens ++ members_tokens ms) none) ∙ c.parts.invariant.1,
+    ))
     c.end_object-2.ensures.ok
 
 pub returns-in_default : goal.returns-in_default
@@ -50,6 +55,8 @@ returns-in_default c =
     let rest = map part_of (drop c.parts.part-index c.args.parts.now) in
     let none = ap (members_of rest) (ap option_copied c.in_default.is) ∙ members_none rest in
     on_ok_weaker c.end_object.result
-    (λ is. (c.end_object.ensures.room.0 ∙ c.parts.invariant.0,
-      is ∙ sym (ap (λ ms. c.parts.writer.tokens ++ members_tokens ms) none) ∙ c.parts.invariant.1))
+    (λ is. (
+      c.end_object.ensures.room.0 ∙ c.parts.invariant.0,
+      is ∙ sym (ap (λ ms. c.parts.writer.tokens ++ members_tokens ms) none) ∙ c.parts.invariant.1,
+    ))
     c.end_object.ensures.ok

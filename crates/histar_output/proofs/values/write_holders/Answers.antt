@@ -14,7 +14,10 @@ returns c =
     let none : length c.words.rest.now ≡ 0 = search rules in
     let words = no_words c.words.rest.now none in
     on_ok_weaker c.end_array.result
-    (λ is. (c.end_array.ensures.room.0 ∙ c.words.invariant.1 ∙ c.in_ok-begin_array.ensures.room.0,
+    (λ is. (
+      c.end_array.ensures.room.0 ∙ c.words.invariant.1 ∙ c.in_ok-begin_array.ensures.room.0,
       is ∙ sym (ap (λ (ws : List (List ℕ)). c.words.writer.tokens ++ items_tokens (strings (map unmarked (filter is_marked ws)))) words)
-      ∙ c.words.invariant.2 ∙ ap (λ ts. ts ++ (items_tokens (strings (holders_in c.args.text.now)))) c.in_ok-begin_array.ensures.ok ∙ append_assoc c.args.writer.now.tokens (begin_array ∷ []) (items_tokens (strings (holders_in c.args.text.now)))))
+          ∙ c.words.invariant.2 ∙ ap (λ ts. ts ++ (items_tokens (strings (holders_in c.args.text.now)))) c.in_ok-begin_array.ensures.ok
+          ∙ append_assoc c.args.writer.now.tokens (begin_array ∷ []) (items_tokens (strings (holders_in c.args.text.now))),
+    ))
     c.end_array.ensures.ok

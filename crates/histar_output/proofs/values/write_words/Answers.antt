@@ -12,6 +12,8 @@ returns c =
     let none : length c.words.rest.now ≡ 0 = search rules in
     let words = no_words c.words.rest.now none in
     on_ok_weaker c.end_array.result
-    (λ is. (c.end_array.ensures.room.0 ∙ c.words.invariant.1,
-      is ∙ sym (ap (λ (ws : List (List ℕ)). c.words.writer.tokens ++ items_tokens (strings (map unmarked ws))) words) ∙ c.words.invariant.2))
+    (λ is. (
+      c.end_array.ensures.room.0 ∙ c.words.invariant.1,
+      is ∙ sym (ap (λ (ws : List (List ℕ)). c.words.writer.tokens ++ items_tokens (strings (map unmarked ws))) words) ∙ c.words.invariant.2,
+    ))
     c.end_array.ensures.ok

@@ -11,7 +11,8 @@ abbrev pub invariant-words : goal.invariant-words
 invariant-words l =
     shadow (Utf8 l.rest)
     × (l.writer.before ≡ l.initial.writer.before)
-    × (l.writer.tokens ++ items_tokens (strings (map unmarked (words_of l.rest))) ≡ l.initial.writer.tokens ++ items_tokens (strings (map unmarked (words_of l.text))))
+    × (l.writer.tokens ++ items_tokens (strings (map unmarked (words_of l.rest))) ≡ l.initial.writer.tokens
+    ++ items_tokens (strings (map unmarked (words_of l.text))))
 
 abbrev pub decreases-words : goal.decreases-words
 decreases-words l = length l.rest
