@@ -1,5 +1,5 @@
 //! Lines as JSON.
-ghost use Rattle.std.specs.Prelude.{◌≡◌, ◌++◌, IfOk, encode_utf8_all, string_bytes};
+ghost use Rattle.std.specs.Prelude.{◌≡◌, ◌++◌, IfOk, OnOk, encode_utf8_all, string_bytes};
 ghost use Rattle.std.specs.List.{flat_map};
 ghost use Rattle.histar_script.specs.Lines.{lines_of};
 ghost use Rattle.histar_script.specs.Laws.{EndsItsLines};
@@ -28,21 +28,21 @@ fn fact_lines(alloc: Global, form: Form, text: &[u8]) -> Result<Vec<u8>, AllocEr
     let mut rest = text;
     'lines: while !rest.is_empty() {
         let (line, after) = split_line(rest);
-        out = with_line(alloc, form, line, out)?;
+        push_fact(alloc, &mut out, form, line)?;
         rest = after;
     }
     Ok(out)
 }
 
 /// Adds the fact of a line.
-fn with_line(alloc: Global, form: Form, line: &[u8], out: Vec<u8>) -> Result<Vec<u8>, AllocError>
-    ensures { IfOk result (λ new. new.items ≡ out.items ++ fact_line form line.now) }
+fn push_fact(alloc: Global, out: &mut Vec<u8>, form: Form, line: &[u8]) -> Result<(), AllocError>
+    ensures { OnOk result (out.new.items ≡ out.old.items ++ fact_line form line.now) }
 {
     match std::str::from_utf8(line) {
-        Ok(text) => with_text(form, text, out),
+        Ok(text) => push_text_fact(alloc, out, form, text),
         Err(_) => {
             let text = characters(alloc, line)?;
-            with_text(form, text.as_str(), out)
+            push_text_fact(alloc, out, form, text.as_str())
         }
     }
 }
@@ -59,13 +59,19 @@ fn characters(alloc: Global, bytes: &[u8]) -> Result<String, AllocError>
 }
 
 /// Adds the fact of a text.
-fn with_text(form: Form, text: &str, out: Vec<u8>) -> Result<Vec<u8>, AllocError>
-    ensures { IfOk result (λ new. new.items ≡ out.items ++ text_line form text.now) }
+fn push_text_fact(
+    alloc: Global,
+    out: &mut Vec<u8>,
+    form: Form,
+    text: &str,
+) -> Result<(), AllocError>
+    ensures { OnOk result (out.new.items ≡ out.old.items ++ text_line form text.now) }
 {
-    let mut writer = Writer::new(out);
+    let mut writer = Writer::new(Vec::new(alloc));
     writer.begin_object()?;
     write_fact(&mut writer, form, text)?;
-    let mut out = writer.into_inner();
+    let fact = writer.into_inner();
+    out.extend_from_slice(fact.as_slice())?;
     out.push(b'\n')?;
-    Ok(out)
+    Ok(())
 }

@@ -1,12 +1,12 @@
--- Proves the goals of `with_line` of src/facts.rt that the search leaves open.
-use Rattle.std.proofs.Common.{◌≡◌, ℕ, ◌++◌, List, true, false, sym, ap, ◌∙◌, subst, IfOk, inl, inr, ◌⊎◌}
+-- Proves the goals of `push_fact` of src/facts.rt that the search leaves open.
+use Rattle.std.proofs.Common.{◌≡◌, ℕ, ◌++◌, List, true, false, sym, ap, ◌∙◌, subst, OnOk, inl, inr, ◌⊎◌}
 use Rattle.std.specs.Prelude.{Bool, encode_utf8_all, if◌then◌else◌}
 use Rattle.std.specs.Str.{IsUtf8, is_utf8}
 use Rattle.std.proofs.lemmas.Bool.{cases_Bool}
 use Rattle.std.proofs.lemmas.Str.{IsUtf8-from_is_utf8, is_utf8-from_IsUtf8}
 use Rattle.histar_output.specs.Facts.{as_text}
 use Rattle.histar_output.specs.Written.{text_line}
-use Rattle.histar_output.proofs.facts.with_line.Goals as goal
+use Rattle.histar_output.proofs.facts.push_fact.Goals as goal
 
 -- a line that is UTF-8 is its text
 itself : (line : List ℕ) → IsUtf8 line → line ≡ as_text line
@@ -21,10 +21,10 @@ other line not =
 pub returns-in-Ok : goal.returns-in-Ok
 returns-in-Ok c =
     let e = c.in-Ok.ensures.cases in
-    subst (λ (t : List ℕ). IfOk c.with_text.result (λ new. new.items ≡ c.args.out.items ++ text_line c.args.form t))
-    (e.0 ∙ itself c.args.line.now e.1) c.with_text.ensures
+    subst (λ (t : List ℕ). OnOk c.push_text_fact.result (c.push_text_fact.new.out.items ≡ c.args.out.now.items ++ text_line c.args.form t))
+    (e.0 ∙ itself c.args.line.now e.1) c.push_text_fact.ensures
 
 pub returns-in_ok-text-in-Err : goal.returns-in_ok-text-in-Err
 returns-in_ok-text-in-Err c =
-    subst (λ (t : List ℕ). IfOk c.with_text-in-Err.result (λ new. new.items ≡ c.args.out.items ++ text_line c.args.form t))
-    (c.as_str.ensures.value ∙ c.in_ok-text-in-Err.ensures ∙ other c.args.line.now c.in-Err.ensures.cases.0) c.with_text-in-Err.ensures
+    subst (λ (t : List ℕ). OnOk c.push_text_fact-in-Err.result (c.push_text_fact-in-Err.new.out.items ≡ c.args.out.now.items ++ text_line c.args.form t))
+    (c.as_str.ensures.value ∙ c.in_ok-text-in-Err.ensures ∙ other c.args.line.now c.in-Err.ensures.cases.0) c.push_text_fact-in-Err.ensures
