@@ -22,7 +22,7 @@ begins_so : (mark text rest : List ℕ) → text ≡ mark ++ rest → begins mar
 begins_so mark text rest is = (starts_is Decides-eqb text mark (begins mark text) refl).1 rest is
 
 -- a text that isn't the mark and a rest doesn't begin with it
-not_begun : (mark text : List ℕ) → ((rest : List ℕ) → text ≢ mark ++ rest) → begins mark text ≡ false
+pub not_begun : (mark text : List ℕ) → ((rest : List ℕ) → text ≢ mark ++ rest) → begins mark text ≡ false
 not_begun mark text lacks =
     elim (cases_Bool (begins mark text)) [
       | inl is ↦ absurd (lacks (drop (length mark) text) (begun mark text is))

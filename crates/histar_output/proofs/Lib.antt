@@ -7,3 +7,4 @@ pub mod PrintLemmas
 pub mod FactLemmas
 pub mod ShownLemmas
 pub mod RefusalLemmas
+pub mod ReplyLemmas

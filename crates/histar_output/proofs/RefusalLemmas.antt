@@ -19,7 +19,7 @@ use Rattle.histar_output.specs.Laws.{is_refused}
 use Rattle.histar_output.proofs.CutLemmas.{spaced}
 
 -- behind digits and a space is the reply
-behind_digits : (digits reply : List ℕ) → list_all is_ascii_digit digits ≡ true → behind (codes " ") (digits ++ 32 ∷ reply) ≡ reply
+pub behind_digits : (digits reply : List ℕ) → list_all is_ascii_digit digits ≡ true → behind (codes " ") (digits ++ 32 ∷ reply) ≡ reply
 unfolding cut_at
 behind_digits [] reply all = refl
 behind_digits (b ∷ bs) reply all =

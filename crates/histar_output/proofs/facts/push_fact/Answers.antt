@@ -26,5 +26,6 @@ returns-in-Ok c =
 
 pub returns-in_ok-text-in-Err : goal.returns-in_ok-text-in-Err
 returns-in_ok-text-in-Err c =
-    subst (λ (t : List ℕ). OnOk c.push_text_fact-in-Err.result (c.push_text_fact-in-Err.new.out.items ≡ c.args.out.now.items ++ text_line c.args.form t))
+    subst (λ (t : List ℕ). OnOk c.push_text_fact-in-Err.result
+    (c.push_text_fact-in-Err.new.out.items ≡ c.args.out.now.items ++ text_line c.args.form t))
     (c.as_str.ensures.value ∙ c.in_ok-text-in-Err.ensures ∙ other c.args.line.now c.in-Err.ensures.cases.0) c.push_text_fact-in-Err.ensures
