@@ -1,12 +1,12 @@
 -- Each line that is written is the fact of its line.
-use Rattle.std.proofs.Common.{◌≡◌, ℕ, suc, ◌≤◌, Bool, true, false, List, [], ◌∷◌, ◌++◌, refl, sym, ap, ◌∙◌, subst}
+use Rattle.std.proofs.Common.{◌≡◌, ℕ, ◌≤◌, Bool, true, false, List, [], ◌∷◌, ◌++◌, refl, sym, ap, ◌∙◌, subst}
 use Rattle.std.proofs.Common.{inl, inr, arith, append_assoc, append-nil, Some, None, length}
 use Rattle.std.specs.Prelude.{Option, max, if◌then◌else◌, ◌==◌}
 use Rattle.std.specs.Option.{option_map_or}
 use Rattle.std.specs.List.{flat_map}
 use Rattle.std.proofs.lemmas.Bool.{eqb-true, false≢true}
 use Rattle.std.proofs.lemmas.List.{nil_from_length}
-use Rattle.json.specs.Json.{Json, Members, member, object, document, string, number, max_depth}
+use Rattle.json.specs.Json.{document, string, number}
 use Rattle.json.specs.Print.{IsNumber, print}
 use Rattle.json.specs.Tree.{HasNumbers, ItemsHaveNumbers, MembersHaveNumbers, depth, items_depth, members_depth, json_tokens}
 use Rattle.json.specs.Word.{after_number}
@@ -18,7 +18,7 @@ use Rattle.histar_output.specs.declared.forms.Form.{Form}
 use Rattle.histar_output.specs.declared.parts.Kind.{Kind}
 use Rattle.histar_output.specs.declared.parts.Kind.TheVariants as kinds
 use Rattle.histar_output.specs.Cuts.{cut_at, cut_last, holders_in, names_in, words_of}
-use Rattle.histar_output.specs.Parts.{Part, upto, upto_last, rest, past, is, is_number, left_by, member_of, members_of, rights_of, strings, value_of}
+use Rattle.histar_output.specs.Parts.{Part, upto, upto_last, rest, past, is, is_number, left_by, members_of, rights_of, strings, value_of}
 use Rattle.histar_output.specs.Forms.{parts_of}
 use Rattle.histar_output.specs.Facts.{AreFacts, as_text, fact_of}
 use Rattle.histar_output.specs.Written.{fact_line}

@@ -1,6 +1,6 @@
 -- The tokens of the members that parts make, one part after another.
 use Rattle.std.proofs.Common.{◌≡◌, ℕ, ◌+◌, ◌<◌, ◌≤◌, List, [], ◌∷◌, ◌++◌, length, drop, map, get_or, refl, sym, ap}
-use Rattle.std.proofs.Common.{◌∙◌, arith, add-one, Some, None, codes}
+use Rattle.std.proofs.Common.{◌∙◌, add-one, Some, None, codes}
 use Rattle.std.proofs.Math.Seq.{drop-cons}
 use Rattle.std.proofs.lemmas.List.{drop_all}
 use Rattle.std.specs.Prelude.{Option}

@@ -1,13 +1,14 @@
 -- The facts of lines with replies.
-use Rattle.std.proofs.Common.{◌≡◌, ℕ, ◌<◌, ◌^◌, Bool, true, false, List, [], ◌∷◌, ◌++◌, codes, length, append_assoc, refl, sym, ap, ap₂, ◌∙◌, arith}
+use Rattle.std.proofs.Common.{◌≡◌, ℕ, ◌<◌, ◌^◌, true, false, List, [], ◌∷◌, ◌++◌, codes, length, append_assoc, refl, sym}
+use Rattle.std.proofs.Common.{ap, ◌∙◌, arith}
 use Rattle.std.proofs.Common.{Some, None}
-use Rattle.std.specs.Prelude.{◌==◌, ◌&&◌, decimal, Option}
+use Rattle.std.specs.Prelude.{◌==◌, decimal, Option}
 use Rattle.std.specs.Char.{is_ascii_digit}
 use Rattle.std.specs.List.{list_all}
 use Rattle.std.specs.Option.{option_map_or}
 use Rattle.std.proofs.lemmas.Bool.{and_parts, ne_eqb, true≢false}
 use Rattle.std.proofs.lemmas.Fmt.{decimal_nonempty}
-use Rattle.json.specs.Json.{Json, Members, member, no_members, number, object, string}
+use Rattle.json.specs.Json.{member, number, object, string}
 use Rattle.json.proofs.Printed.Decimals.{IsNumber-decimal}
 use Rattle.histar_flat.proofs.Numbers.{decimal_digits}
 use Rattle.histar_flat.specs.declared.replies.Reply.{Reply}
@@ -17,7 +18,7 @@ use Rattle.histar_flat.specs.declared.replies.Errno.TheVariants.{ENOENT, ENOTDIR
 use Rattle.histar_flat.specs.declared.replies.Errno.TheVariants.{ESRCH, EAGAIN, EAUTH}
 use Rattle.histar_flat.specs.Texts.{errno_text, reply_text}
 use Rattle.histar_output.specs.declared.forms.Form.TheVariants.{Run}
-use Rattle.histar_output.specs.Cuts.{begins, behind, cut_at}
+use Rattle.histar_output.specs.Cuts.{begins, cut_at}
 use Rattle.histar_output.specs.Facts.{fact_of_text}
 use Rattle.histar_output.specs.Forms.{count, ending, reply_parts, run_parts, word}
 use Rattle.histar_output.specs.Laws.{reply_value, reply_word, value_member}

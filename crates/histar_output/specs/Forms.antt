@@ -46,7 +46,7 @@ call_parts line =
 abbrev pub reply_parts : List ℕ → List Part
 reply_parts line = if has_call line then call_parts line else count (codes "line") ∷ word (codes "reply") ∷ ending (codes "value") ∷ []
 
--- a line of `run`: of the tree, of the trace, a reason, an explanation, or a reply
+-- a line of `run`, `try` or `raw`: of the tree, of the trace, a reason, an explanation, or a reply
 abbrev pub run_parts : List ℕ → List Part
 run_parts line =
     if begins (codes "/") line then entry_parts (codes " = ") (ending (codes "bytes") ∷ [])
@@ -72,7 +72,7 @@ trust_parts line =
     else if begins (codes "changer-login ") line then word (codes "role") ∷ text (codes "user") (codes " by ") ∷ ending (codes "by") ∷ []
     else word (codes "role") ∷ word (codes "process") ∷ text (codes "user") (codes " by ") ∷ ending (codes "by") ∷ []
 
--- a line of `flows`: the processes in no job, or those that a process in a job tells
+-- a line of `flows`: the processes in no job, or those to whom a process in a job can pass on what it learns
 abbrev pub flows_parts : List ℕ → List Part
 flows_parts line =
     if begins (codes "free ") line then past (codes " ") ∷ upto (codes "free") kinds.Names (codes " tell everyone") ∷ []

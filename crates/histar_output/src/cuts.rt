@@ -1,6 +1,6 @@
 //! Texts cut at marks.
-ghost use Rattle.std.specs.Prelude.{◌≡◌, ◌<◌, ◌∷◌, length, nat_eq, unwrap_or};
-ghost use Rattle.std.specs.Option.{option_copied, MatchOption};
+ghost use Rattle.std.specs.Prelude.{◌≡◌, ◌<◌, ◌∷◌, length};
+ghost use Rattle.std.specs.Option.{option_copied};
 ghost use Rattle.std.specs.Str.{bytes_eq};
 ghost use Rattle.histar_output.specs.Cuts.{begins, behind, cut_at, cut_last, is_marked, unmarked, words_of};
 

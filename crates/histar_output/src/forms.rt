@@ -16,7 +16,7 @@ use std::alloc::AllocError;
 /// Which subcommand writes the lines.
 #[derive(Clone, Copy)]
 pub enum Form {
-    /// `run` and `raw`, with a tree, a trace, reasons and explanations.
+    /// `run`, with calls, a tree, a trace, reasons or explanations, `try` and `raw`.
     Run,
     /// `access`.
     Access,

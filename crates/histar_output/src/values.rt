@@ -1,8 +1,8 @@
 //! The JSON that parts of a line make.
-ghost use Rattle.std.specs.Prelude.{◌≡◌, ◌∷◌, map, [], filter};
-ghost use Rattle.json.specs.Tree.{items_tokens, json_tokens, members_tokens};
-ghost use Rattle.histar_output.specs.Cuts.{holders_in, is_marked, names_in, unmarked, words_of};
-ghost use Rattle.histar_output.specs.Parts.{is_number, rights_of, strings, value_of};
+ghost use Rattle.std.specs.Prelude.{map};
+ghost use Rattle.json.specs.Tree.{items_tokens, json_tokens};
+ghost use Rattle.histar_output.specs.Cuts.{unmarked, words_of};
+ghost use Rattle.histar_output.specs.Parts.{strings, value_of};
 ghost use Rattle.histar_output.specs.Written.{Adds, holder_tokens, right_tokens};
 
 use crate::cuts::{cut_at, first_word, is_same, unmarked};

@@ -1,5 +1,5 @@
 -- Proves the goals of `behind` of src/colours.rt that the search leaves open.
-use Rattle.std.proofs.Common.{◌≡◌, ℕ, List, Some, None, sym, ap, ◌∙◌, arith}
+use Rattle.std.proofs.Common.{Some, None, sym, ◌∙◌}
 use Rattle.histar_output.proofs.CutLemmas.{behind_found, behind_none}
 use Rattle.histar_output.proofs.colours.behind.Goals as goal
 

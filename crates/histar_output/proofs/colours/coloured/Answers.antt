@@ -1,6 +1,6 @@
 -- Proves the goals of `coloured` of src/colours.rt that the search leaves open.
-use Rattle.std.proofs.Common.{◌≡◌, ℕ, ◌∷◌, ◌++◌, [], List, Some, None, length, map, sym, ap, ap₂, ◌∙◌, append_assoc}
-use Rattle.std.proofs.Common.{append-nil, rules}
+use Rattle.std.proofs.Common.{◌≡◌, ℕ, ◌∷◌, ◌++◌, [], List, Some, None, sym, ap, ap₂, ◌∙◌, append_assoc}
+use Rattle.std.proofs.Common.{append-nil}
 use Rattle.std.specs.Prelude.{Option}
 use Rattle.std.specs.Option.{option_copied, option_map_or}
 use Rattle.histar_flat.specs.Words.{split_at_first}

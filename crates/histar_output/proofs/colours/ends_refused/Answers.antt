@@ -1,5 +1,5 @@
 -- Proves the goals of `ends_refused` of src/colours.rt that the search leaves open.
-use Rattle.std.proofs.Common.{◌≡◌, ℕ, List, true, false, sym, ap, ◌∙◌, arith}
+use Rattle.std.proofs.Common.{sym, ap, ◌∙◌}
 use Rattle.std.specs.Prelude.{◌||◌}
 use Rattle.histar_output.specs.Colours.{ends_refused}
 use Rattle.histar_output.proofs.CutLemmas.{ends_none, ends_on}

@@ -1,6 +1,6 @@
 -- Proves the goals of `cut_at` of src/cuts.rt that the search leaves open.
-use Rattle.std.proofs.Common.{◌≡◌, ℕ, ◌+◌, List, length, drop, ◌++◌, sym, ap, ap₂, ◌∙◌, arith}
-use Rattle.std.specs.Prelude.{Option, Some}
+use Rattle.std.proofs.Common.{◌≡◌, ◌+◌, length, drop, ◌++◌, sym, ap, ap₂, ◌∙◌, arith}
+use Rattle.std.specs.Prelude.{Some}
 use Rattle.histar_output.proofs.CutLemmas.{cut, uncut}
 use Rattle.histar_output.specs.Cuts.{cut_at}
 use Rattle.histar_output.proofs.cuts.cut_at.Goals as goal

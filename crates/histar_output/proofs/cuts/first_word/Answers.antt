@@ -1,5 +1,5 @@
 -- Proves the goals of `first_word` of src/cuts.rt that the search leaves open.
-use Rattle.std.proofs.Common.{◌≡◌, ℕ, ◌<◌, ◌∷◌, List, [], codes, length, sym, ap, ap₂, ◌∙◌, subst, arith}
+use Rattle.std.proofs.Common.{◌≡◌, ℕ, ◌<◌, ◌∷◌, List, [], codes, length, sym, ap, ap₂, ◌∙◌, subst}
 use Rattle.std.specs.Prelude.{Option, unwrap_or}
 use Rattle.histar_output.specs.Cuts.{cut_at, words_of}
 use Rattle.histar_output.proofs.CutLemmas.{behind_shorter, copied_or, first_of}

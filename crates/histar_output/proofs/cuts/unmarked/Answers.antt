@@ -1,5 +1,5 @@
 -- Proves the goals of `unmarked` of src/cuts.rt that the search leaves open.
-use Rattle.std.proofs.Common.{◌≡◌, ℕ, List, ◌∷◌, [], ◌++◌, sym, ap, ◌∙◌, arith, Some}
+use Rattle.std.proofs.Common.{◌≡◌, ◌∷◌, [], ◌++◌, sym, ap, ◌∙◌, arith, Some}
 use lib.Utf8.{encode}
 use Rattle.std.proofs.lemmas.Str.Pattern.{strip_suffix_char}
 use Rattle.histar_output.specs.Cuts.{is_marked, unmarked}

@@ -1,5 +1,5 @@
 -- Proves the goals of `fact_lines` of src/facts.rt that the search leaves open.
-use Rattle.std.proofs.Common.{◌≡◌, ℕ, ◌++◌, List, length, sym, ap, ◌∙◌, append-nil, arith, rules}
+use Rattle.std.proofs.Common.{◌≡◌, ℕ, ◌++◌, List, length, sym, ap, ◌∙◌, append-nil, rules}
 use Rattle.std.specs.List.{flat_map}
 use Rattle.histar_script.proofs.LineLemmas.{no_lines}
 use Rattle.histar_output.specs.Written.{fact_line}

@@ -1,5 +1,5 @@
 -- Proves the goals of `json_lines` of src/facts.rt that the search leaves open.
-use Rattle.std.proofs.Common.{◌≡◌, ℕ, List, sym, subst, IfOk}
+use Rattle.std.proofs.Common.{ℕ, List, sym, subst}
 use Rattle.std.proofs.lemmas.Result.{IfOk-weaker}
 use Rattle.histar_script.specs.Lines.{lines_of}
 use Rattle.histar_script.specs.Laws.{EndsItsLines}

@@ -1,5 +1,5 @@
 -- Proves the goals of `push_fact` of src/facts.rt that the search leaves open.
-use Rattle.std.proofs.Common.{◌≡◌, ℕ, ◌++◌, List, true, false, sym, ap, ◌∙◌, subst, OnOk, inl, inr, ◌⊎◌}
+use Rattle.std.proofs.Common.{◌≡◌, ℕ, ◌++◌, List, false, sym, ap, ◌∙◌, subst, OnOk, inl, inr}
 use Rattle.std.specs.Prelude.{Bool, encode_utf8_all, if◌then◌else◌}
 use Rattle.std.specs.Str.{IsUtf8, is_utf8}
 use Rattle.std.proofs.lemmas.Bool.{cases_Bool}

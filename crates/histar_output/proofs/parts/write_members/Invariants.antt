@@ -1,5 +1,5 @@
 -- The invariants and measures of `write_members` of src/parts.rt.
-use Rattle.std.proofs.Common.{◌≡◌, ◌++◌, drop, length, map, Some}
+use Rattle.std.proofs.Common.{◌≡◌, ◌++◌, drop, map, Some}
 use Rattle.std.specs.Option.{option_copied}
 use Rattle.json.specs.Tree.{members_tokens}
 use Rattle.histar_output.specs.Parts.{members_of}

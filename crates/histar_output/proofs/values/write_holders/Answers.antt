@@ -1,5 +1,5 @@
 -- Proves the goals of `write_holders` of src/values.rt that the search leaves open.
-use Rattle.std.proofs.Common.{◌≡◌, ℕ, ◌++◌, List, length, map, sym, ap, ◌∙◌, append_assoc, arith, rules, [], ◌∷◌}
+use Rattle.std.proofs.Common.{◌≡◌, ℕ, ◌++◌, List, length, map, sym, ap, ◌∙◌, append_assoc, rules, [], ◌∷◌}
 use Rattle.std.specs.Prelude.{filter}
 use Rattle.std.proofs.lemmas.Result.{on_ok_weaker}
 use Rattle.json.specs.Token.{begin_array}

@@ -1,8 +1,7 @@
 -- The invariants and measures of `write_holders` of src/values.rt.
-use Rattle.std.proofs.Common.{◌≡◌, ◌++◌, ◌∷◌, [], length}
+use Rattle.std.proofs.Common.{◌≡◌, ◌++◌, length}
 use denote.Text.{Utf8}
 use denote.Shadow.{shadow}
-use Rattle.json.specs.Token.{begin_array}
 use Rattle.json.specs.Tree.{items_tokens}
 use Rattle.histar_output.specs.Cuts.{holders_in}
 use Rattle.histar_output.specs.Parts.{strings}

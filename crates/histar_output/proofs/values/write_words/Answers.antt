@@ -1,5 +1,5 @@
 -- Proves the goals of `write_words` of src/values.rt that the search leaves open.
-use Rattle.std.proofs.Common.{◌≡◌, ℕ, ◌++◌, List, length, map, sym, ap, ◌∙◌, arith, rules}
+use Rattle.std.proofs.Common.{◌≡◌, ℕ, ◌++◌, List, length, map, sym, ap, ◌∙◌, rules}
 use Rattle.std.proofs.lemmas.Result.{on_ok_weaker}
 use Rattle.json.specs.Tree.{items_tokens}
 use Rattle.histar_output.specs.Cuts.{unmarked}
