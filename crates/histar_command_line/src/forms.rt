@@ -61,7 +61,7 @@ pub(crate) fn run<'a>() -> Form<'a>
             ),
             Argument::Flag("why", "Print why each call was refused, by the rules"),
             Argument::Flag("explain", "Print why each denied raw call was denied"),
-            Argument::Flag("calls", "Print each reply behind its call; not with --json"),
+            Argument::Flag("calls", "Print each reply behind its call"),
             Argument::Flag("json", JSON),
             Argument::Valued("WHEN", "color", COLOR),
             Argument::Valued("LINE", "at", AT),

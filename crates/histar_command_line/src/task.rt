@@ -123,7 +123,7 @@ fn is_set(matches: &ArgMatches, name: &str) -> bool
     }
 }
 
-/// Returns the task of the subcommand that was matched. `run` has either calls or JSON.
+/// Returns the task of the subcommand that was matched.
 fn task_of<'a>(matches: &ArgMatches<'a>) -> Option<Task<'a>>
     ensures { IfSome result (λ task. IsTaskOf task (subcommand_rows_of matches.now)) }
 {
@@ -135,9 +135,6 @@ fn task_of<'a>(matches: &ArgMatches<'a>) -> Option<Task<'a>>
         let explain = is_set(run, "explain");
         let calls = is_set(run, "calls");
         let at = run.get_str("LINE");
-        if calls && is_set(run, "json") {
-            return None;
-        }
         let flags = RunFlags {
             tree,
             trace,
