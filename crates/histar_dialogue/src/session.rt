@@ -1,24 +1,28 @@
 //! A session that grows by the lines that are entered, and the answer to each line.
-ghost use Rattle.std.specs.Prelude.{◌≡◌, ◌+◌, Err, IfErr, IfOk, IfSome, IsTrue, OnOk, Some, is_some, length, true, option_map};
-ghost use Rattle.histar_dialogue.specs.Session.{AnswersLine, AnswersSpoken, Becomes, Expects, ExpectsLast, Follows, FollowsBy};
-ghost use Rattle.histar_dialogue.specs.Session.{FollowsSo, IsNew, IsRight, Obeys, ObeysCommand};
+ghost use Rattle.std.specs.Prelude.{◌≡◌, ◌+◌, Err, IfErr, IfOk, IfSome, IsTrue, OnErr, OnOk, Some, is_some, length, true, option_map};
+ghost use Rattle.histar_dialogue.specs.Session.{AnswersLine, AnswersSpoken, AnswersText, Becomes, Expects, ExpectsAt};
+ghost use Rattle.histar_dialogue.specs.Session.{ExpectsClaims, ExpectsLast, Follows, FollowsBy, FollowsSo, IsNew, IsRight};
+ghost use Rattle.histar_dialogue.specs.Session.{Obeys, ObeysCommand, Saves, talk_of};
 ghost use Rattle.histar_dialogue.specs.Steps.{AnswersOn, HasRoom, IsPushed, IsRestarted, MayGrow, Refuses};
+ghost use Rattle.histar_script.specs.Laws.{EndsItsLines};
 ghost use Rattle.histar_script.specs.Lines.{lines_of};
 ghost use Rattle.histar_script.specs.Reading.{item_of, script_of};
 ghost use Rattle.histar_script.specs.Script.{is_declared_call};
 
-use crate::asked::{or_no_user, replies_of, shown};
+use crate::asked::{or_no_user, replies_of, shown, table_of};
+use crate::claims::claims_at;
 use crate::commands::{
-    Command, command_of, help_text, is_command, misused_text, no_call_text, too_long_text,
-    unknown_text,
+    Command, command_of, help_text, is_command, is_there_text, misused_text, no_call_text,
+    not_written_text, saved_as, too_long_text, unknown_text,
 };
-use crate::parts::expecting;
-use crate::refusals::why_text;
+use crate::parts::{expecting, no_entry_text};
+use crate::refusals::explained_reason;
 use crate::running::{Running, run_behind};
+use crate::shelf::{SaveFault, Shelf};
 use crate::speaking::spoken;
-use crate::texts::{count_lines, has_room, joined, push_line, rule_text, with_line};
+use crate::texts::{count_lines, ended, has_room, joined, push_line, rule_text};
 use crate::undoing::bytes_of_lines;
-use histar_flat::{CallLine, ProcName, UnixCall};
+use histar_flat::{CallLine, Path, ProcName, UnixCall};
 use histar_script::{Fault, Item, is_declared_call, read_item};
 use std::alloc::{AllocError, Global};
 
@@ -58,16 +62,41 @@ impl Session {
     ///
     /// It has no source, so a line is answered before any more is read. A call costs what a call
     /// costs, however long the session is; a bad line, a declaration and a command may cost what
-    /// the session cost so far. After an `Err`, which says that memory ran out, the session is of
-    /// no more use.
-    pub fn answer(&mut self, alloc: Global, line: &[u8]) -> Result<Vec<u8>, Fault>
-        ensures ok { IfOk result (λ said. Follows self.old self.new line.now said.items) }
+    /// the session cost so far. Only a line `:save FILE` reaches the shelf. After an `Err`, which
+    /// says that memory ran out, the session is of no more use.
+    pub fn answer<S: Shelf>(
+        &mut self,
+        alloc: Global,
+        line: &[u8],
+        shelf: &mut S,
+    ) -> Result<Vec<u8>, Fault>
+        ensures ok { IfOk result (λ said. Follows (S.saved shelf.old) (S.saved shelf.new)
+            self.old self.new line.now said.items) }
         ensures err { IfErr result (λ fault. fault ≡ Fault.OutOfMemory) }
+
+        // Where memory runs out nothing is saved.
+        ensures unsaved { OnErr result (S.saved shelf.new ≡ S.saved shelf.old) }
     {
-        if is_command(line) {
-            self.obey(alloc, command_of(line))
-        } else {
-            self.take_spoken(alloc, line)
+        if !is_command(line) {
+            return self.take_spoken(alloc, line);
+        }
+        match saved_as(line) {
+            Some(name) => self.save(alloc, name, shelf),
+            None => self.obey(alloc, command_of(line)),
+        }
+    }
+
+    /// Saves the session as a new file of this name.
+    fn save<S: Shelf>(&self, alloc: Global, name: &[u8], shelf: &mut S) -> Result<Vec<u8>, Fault>
+        ensures ok { IfOk result (λ said. Saves name.now (talk_of (S.saved shelf.old) self.now)
+            (talk_of (S.saved shelf.new) self.now) said.items) }
+        ensures err { IfErr result (λ fault. fault ≡ Fault.OutOfMemory) }
+        ensures unsaved { OnErr result (S.saved shelf.new ≡ S.saved shelf.old) }
+    {
+        match shelf.save(name, self.text.as_slice()) {
+            Ok(()) => Ok(Vec::new(alloc)),
+            Err(SaveFault::IsThere) => Ok(is_there_text(alloc)?),
+            Err(SaveFault::Failed) => Ok(not_written_text(alloc)?),
         }
     }
 
@@ -78,7 +107,7 @@ impl Session {
     {
         match command {
             Command::Help => Ok(help_text(alloc)?),
-            Command::Why => why_text(alloc, self.text.as_slice()),
+            Command::Why => explained_reason(alloc, self.text.as_slice()),
             Command::Show(asked) => shown(alloc, self.text.as_slice(), asked),
             Command::Undo(count) => self.undo(alloc, count),
             Command::Redo(count) => self.redo(alloc, count),
@@ -87,6 +116,7 @@ impl Session {
                 Ok(Vec::new(alloc))
             }
             Command::Expect => self.expect(alloc),
+            Command::ExpectAt(path) => self.expect_at(alloc, &path),
             Command::Session => Ok(Vec::from_slice(alloc, self.text.as_slice())?),
             Command::Quit => Ok(Vec::new(alloc)),
             Command::Misused => Ok(misused_text(alloc)?),
@@ -173,6 +203,32 @@ impl Session {
             None => Ok(no_call_text(alloc)?),
             Some(line) => self.take(alloc, line.as_slice()),
         }
+    }
+
+    /// Takes the claims of the rights that each process has at a path, all at once.
+    fn expect_at(&mut self, alloc: Global, path: &Path) -> Result<Vec<u8>, Fault>
+        ensures ok { IfOk result (λ said. FollowsSo (ExpectsAt path.now) self.old self.new said.items) }
+        ensures err { IfErr result (λ fault. fault ≡ Fault.OutOfMemory) }
+    {
+        match table_of(alloc, self.text.as_slice()) {
+            Ok(table) => {
+                let claims = claims_at(alloc, table.as_slice(), path)?;
+                self.take_claims(alloc, claims.as_slice())
+            }
+            Err(fault) => or_no_user(alloc, Err(fault)),
+        }
+    }
+
+    /// Takes claims as lines, if there is one.
+    fn take_claims(&mut self, alloc: Global, claims: &[u8]) -> Result<Vec<u8>, Fault>
+        requires { EndsItsLines claims.now }
+        ensures ok { IfOk result (λ said. FollowsBy ExpectsClaims self.old self.new claims.now said.items) }
+        ensures err { IfErr result (λ fault. fault ≡ Fault.OutOfMemory) }
+    {
+        if claims.is_empty() {
+            return Ok(no_entry_text(alloc)?);
+        }
+        self.read_behind(alloc, claims)
     }
 
     /// Takes a line, behind the process as which it is read if it lacks one.
@@ -289,7 +345,17 @@ impl Session {
         ensures ok { IfOk result (λ said. FollowsBy AnswersLine self.old self.new line.now said.items) }
         ensures err { IfErr result (λ fault. fault ≡ Fault.OutOfMemory) }
     {
-        let longer = with_line(alloc, self.text.as_slice(), line)?;
+        let more = ended(alloc, line)?;
+        self.read_behind(alloc, more.as_slice())
+    }
+
+    /// Reads the session anew with some text behind it, and runs it anew if it is a script.
+    fn read_behind(&mut self, alloc: Global, more: &[u8]) -> Result<Vec<u8>, Fault>
+        requires { EndsItsLines more.now }
+        ensures ok { IfOk result (λ said. FollowsBy AnswersText self.old self.new more.now said.items) }
+        ensures err { IfErr result (λ fault. fault ≡ Fault.OutOfMemory) }
+    {
+        let longer = joined(alloc, self.text.as_slice(), more)?;
         match run_behind(alloc, longer.as_slice(), self.count) {
             Ok((running, said)) => {
                 self.restart(longer, Some(running));
