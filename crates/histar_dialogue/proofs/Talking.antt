@@ -1,9 +1,9 @@
 -- A dialogue, line after line.
-use Rattle.std.proofs.Common.{◌≡◌, ℕ, Bool, true, false, List, [], ◌∷◌, ◌++◌, codes, Option, None, Some, Result, Ok, Err}
+use Rattle.std.proofs.Common.{◌≡◌, ◌≢◌, ℕ, Bool, true, false, List, [], ◌∷◌, ◌++◌, codes, Option, None, Some, Result, Ok, Err}
 use Rattle.std.proofs.Common.{refl, sym, ap, subst, ◌∙◌, inl, inr, append_assoc, append-nil}
 use Rattle.std.specs.Global.{Vec}
 use Rattle.std.specs.List.{AllByRecursion}
-use Rattle.std.specs.Io.KnownBytes.{Appends, Consumes, IsAtEnd}
+use Rattle.std.specs.Io.KnownBytes.{Appends, Consumes, IsAtEnd, Keeps}
 use Rattle.std.proofs.KnownBytes.{Appends-kept, Appends-nil, Appends-trans, Consumes-nil, Consumes-trans}
 use Rattle.histar_io.specs.Writing.{AppendsFront}
 use Rattle.histar_io.proofs.WritingLemmas.{sent_none, whole_front}
@@ -18,8 +18,10 @@ use Rattle.histar_script.specs.Script.{ScriptModel}
 use Rattle.histar_dialogue.specs.declared.input.Input.{Input}
 use Rattle.histar_dialogue.specs.declared.session.Session.{Session}
 use Rattle.histar_dialogue.specs.Dialogue.{Begins, BeginsLines, Converses, EndsAt, StopsAt, TalksFrom, TalksOn, is_quit}
-use Rattle.histar_dialogue.specs.Dialogue.{prompt_text}
-use Rattle.histar_dialogue.specs.Exchange.{AnswersLines, AnswersTo, BeginsAnswer, BeginsFile, BeginsWith}
+use Rattle.histar_dialogue.specs.Dialogue.{IsSessionText, prompt_text}
+use Rattle.histar_dialogue.specs.Exchange.{AnswersLines, AnswersSome, AnswersTo, BeginsAnswer, BeginsFile, BeginsWith}
+use Rattle.histar_dialogue.specs.Exchange.{LeavesText, StopsAnswer, TalksAlong}
+use Rattle.histar_dialogue.specs.Steps.{KeepsText}
 use Rattle.histar_dialogue.specs.Input.{FailsReading, IsEmptyInput, Pulls, TakesNext, WaitsBehind}
 use Rattle.histar_dialogue.specs.Session.{Answers, IsNew, IsRight, talk_of}
 use Rattle.histar_dialogue.specs.Shelf.{SavedFile}
@@ -102,6 +104,34 @@ no_write left rest WriteFailed fails = absurd fails
 no_write left rest (BadScript n) fails = absurd fails
 no_write left rest TooLong fails = absurd fails
 
+-- a dialogue that stopped wrote as much as this says, too
+pub rewritten : (prompt : Bool) (begun : Talk) (left rest : Option (List ℕ)) (held : List SavedFile)
+    (Writes Then : Talk → List ℕ → Type 0) → ((end : Talk) (said : List ℕ) → Writes end said → Then end said)
+    → TalksFrom prompt begun left rest held StopsAt Writes → TalksFrom prompt begun left rest held StopsAt Then
+rewritten prompt begun left rest held Writes Then says from = record {
+  taken = from.taken;
+  consumed = from.consumed;
+  lines = from.lines;
+  more = from.more;
+  parts = from.parts;
+  stays = from.stays;
+  ends = from.ends;
+  end = from.end;
+  said = from.said;
+  converses = from.converses;
+  holds = from.holds;
+  written = says from.end (from.said ++ prompt_text prompt from.end.text) from.written;
+}
+
+-- a line whose answer was not written as a whole was begun
+pub begins_answer : (before now : Session) (line : List ℕ) (saved held : List SavedFile) (old new : Option (List ℕ)) (fault : Fault)
+    → StopsAnswer before now line saved held old new fault → BeginsAnswer before line saved held old new
+begins_answer before now line saved held old new OutOfMemory stops = inl (stops.0, stops.1)
+begins_answer before now line saved held old new WriteFailed stops = inr stops
+begins_answer before now line saved held old new ReadFailed stops = absurd stops
+begins_answer before now line saved held old new (BadScript n) stops = absurd stops
+begins_answer before now line saved held old new TooLong stops = absurd stops
+
 -- how far a dialogue has come
 pub record Going (prompt : Bool) (begun : Talk) (left now : Option (List ℕ)) (old new : Option (List ℕ)) (held : List SavedFile)
     (input : Input) (session : Session) : Type 0 where
@@ -142,7 +172,8 @@ module _ (prompt : Bool) (begun : Talk) (left now old new : Option (List ℕ)) (
   -- the dialogue stops before the next line, with more bytes taken or none
   stops_with : (rest : Option (List ℕ)) (piece : List ℕ) → Consumes now rest piece
       → (more : List (List ℕ)) → lines_of (going.taken ++ piece) ≡ going.done ++ more → (Ends : List (List ℕ) → Type 0) → Ends more
-      → (Writes : List ℕ → Type 0) → Writes (going.said ++ asks) → TalksFrom prompt begun left rest held Ends Writes
+      → (Writes : Talk → List ℕ → Type 0) → Writes (talk_of held session) (going.said ++ asks)
+      → TalksFrom prompt begun left rest held Ends Writes
   stops_with rest piece takes more parts Ends ends Writes written = record {
     taken = going.taken ++ piece;
     consumed = Consumes-trans left now rest going.taken piece going.consumed takes;
@@ -159,7 +190,8 @@ module _ (prompt : Bool) (begun : Talk) (left now old new : Option (List ℕ)) (
   }
 
   -- bytes were taken, and the dialogue stops
-  pub stops_at : (Writes : List ℕ → Type 0) (rest : Option (List ℕ)) → Pulls now rest → Writes (going.said ++ asks)
+  pub stops_at : (Writes : Talk → List ℕ → Type 0) (rest : Option (List ℕ)) → Pulls now rest
+      → Writes (talk_of held session) (going.said ++ asks)
       → TalksFrom prompt begun left rest held StopsAt Writes
   stops_at Writes rest pulls written = by input.is_ended refl going.waits
     where
@@ -170,25 +202,31 @@ module _ (prompt : Bool) (begun : Talk) (left now old new : Option (List ℕ)) (
           stops_with rest [] (nothing_at_end now rest pulls.0 (going.ended e) pulls.1) (lines_of input.waiting.items)
           (ap lines_of (append-nil going.taken) ∙ w) StopsAt tt Writes written
 
-  -- the prompt was not written as a whole
-  pub prompt_stops : (last : Option (List ℕ)) → AppendsFront new last asks
-      → TalksFrom prompt begun left now held StopsAt (AppendsFront old last)
-  prompt_stops last begins =
-      stops_at (AppendsFront old last) now ([], Consumes-nil now)
-      (subst (λ (l : List ℕ). AppendsFront old last (going.said ++ l)) (append-nil asks)
-      (front_after old new last going.said asks [] going.written begins))
+  -- a beginning of what was said was written
+  prompt_front : (last : Option (List ℕ)) → AppendsFront new last asks → AppendsFront old last (going.said ++ asks)
+  prompt_front last begins =
+      subst (λ (l : List ℕ). AppendsFront old last (going.said ++ l)) (append-nil asks)
+      (front_after old new last going.said asks [] going.written begins)
 
+  -- memory ran out, and the session has its text
+  stops_out : (rest last : Option (List ℕ)) → Pulls now rest → AppendsFront old last (going.said ++ asks)
+      → TalksAlong prompt begun left rest old last held session.text.items (Err OutOfMemory)
+  stops_out rest last pulls front =
+      stops_at (λ end said. AppendsFront old last said × IsSessionText end session.text.items) rest pulls (front, inl refl)
+
+  -- the prompt was not written as a whole
   pub prompt_fault : (last : Option (List ℕ)) (fault : Fault) → IsOutputFault fault → AppendsFront new last asks
-      → TalksOn prompt begun left now old last held (Err fault)
-  prompt_fault last OutOfMemory is begins = prompt_stops last begins
-  prompt_fault last WriteFailed is begins = prompt_stops last begins
+      → TalksAlong prompt begun left now old last held session.text.items (Err fault)
+  prompt_fault last OutOfMemory is begins = stops_out now last ([], Consumes-nil now) (prompt_front last begins)
+  prompt_fault last WriteFailed is begins =
+      stops_at (λ end. AppendsFront old last) now ([], Consumes-nil now) (prompt_front last begins)
   prompt_fault last ReadFailed is begins = absurd is
   prompt_fault last (BadScript n) is begins = absurd is
   prompt_fault last TooLong is begins = absurd is
 
   -- as many lines were answered as are counted
-  pub talk_gives_up : TalksFrom prompt begun left now held StopsAt (AppendsFront old new)
-  talk_gives_up = prompt_stops new (_, sent_none new asks)
+  pub talk_gives_up : TalksAlong prompt begun left now old new held session.text.items (Err OutOfMemory)
+  talk_gives_up = stops_out now new ([], Consumes-nil now) (prompt_front new (_, sent_none new asks))
 
   module _ (mid : Option (List ℕ)) (asked : Appends new mid asks) where
     -- what was said and the prompt were written
@@ -197,20 +235,21 @@ module _ (prompt : Bool) (begun : Talk) (left now old new : Option (List ℕ)) (
 
     -- the next line was not read
     pub read_fault : (rest : Option (List ℕ)) (fault : Fault) → FailsReading now rest fault
-        → TalksOn prompt begun left rest old mid held (Err fault)
-    read_fault rest OutOfMemory fails = stops_at (AppendsFront old mid) rest fails (whole_front old mid (going.said ++ asks) all_written)
-    read_fault rest ReadFailed fails = stops_at (Appends old mid) rest fails all_written
+        → TalksAlong prompt begun left rest old mid held session.text.items (Err fault)
+    read_fault rest OutOfMemory fails = stops_out rest mid fails (whole_front old mid (going.said ++ asks) all_written)
+    read_fault rest ReadFailed fails = stops_at (λ end. Appends old mid) rest fails all_written
     read_fault rest WriteFailed fails = absurd fails
     read_fault rest (BadScript n) fails = absurd fails
     read_fault rest TooLong fails = absurd fails
 
     module _ (rest : Option (List ℕ)) (after : Input) where
       -- there is no next line
-      pub talk_ends : TakesNext now rest input after None → TalksFrom prompt begun left rest held (EndsAt rest) (Appends old mid)
+      pub talk_ends : TakesNext now rest input after None
+          → TalksFrom prompt begun left rest held (EndsAt rest) (λ end. Appends old mid)
       talk_ends next =
           stops_with rest next.taken next.consumed []
           (next.next going.taken going.done going.waits ∙ sym (append-nil going.done)) (EndsAt rest)
-          (inl (refl, next.ended going.ended next.last)) (Appends old mid) all_written
+          (inl (refl, next.ended going.ended next.last)) (λ end. Appends old mid) all_written
 
       module _ (line : Vec ℕ) (next : TakesNext now rest input after (Some line)) where
         abbrev waits_then : WaitsBehind after.is_ended (going.taken ++ next.taken) (going.done ++ line.items ∷ []) after.waiting.items
@@ -223,10 +262,11 @@ module _ (prompt : Bool) (begun : Talk) (left now old new : Option (List ℕ)) (
             ∙ append_assoc going.done (line.items ∷ []) (lines_of after.waiting.items)
 
         -- the next line ends the dialogue
-        pub talk_quits : line.items ≡ codes ":quit" → TalksFrom prompt begun left rest held (EndsAt rest) (Appends old mid)
+        pub talk_quits : line.items ≡ codes ":quit" → TalksFrom prompt begun left rest held (EndsAt rest) (λ end. Appends old mid)
         talk_quits quits =
             stops_with rest next.taken next.consumed (line.items ∷ lines_of after.waiting.items) parts_then (EndsAt rest)
-            (inr (lines_of after.waiting.items, ap (λ (l : List ℕ). l ∷ lines_of after.waiting.items) quits)) (Appends old mid) all_written
+            (inr (lines_of after.waiting.items, ap (λ (l : List ℕ). l ∷ lines_of after.waiting.items) quits)) (λ end. Appends old mid)
+            all_written
 
         module _ (stays : is_quit line.items ≡ false) where
           -- a line was answered
@@ -247,14 +287,19 @@ module _ (prompt : Bool) (begun : Talk) (left now old new : Option (List ℕ)) (
                 (going.said ++ asks) one.said all_written one.written);
           }
 
+          -- memory ran out before its answer was written
+          answer_out : (now : Session) (saved : List SavedFile) (last : Option (List ℕ)) → Keeps mid last → saved ≡ held
+              → KeepsText session now → TalksAlong prompt begun left rest old last saved now.text.items (Err OutOfMemory)
+          answer_out now saved last keeps same text =
+              subst (λ (files : List SavedFile). TalksAlong prompt begun left rest old last files now.text.items (Err OutOfMemory)) (sym same)
+              (stops_with rest next.taken next.consumed (line.items ∷ lines_of after.waiting.items) parts_then StopsAt tt
+              (λ end said. AppendsFront old last said × IsSessionText end now.text.items)
+              (whole_front old last (going.said ++ asks) (Appends-kept old mid last (going.said ++ asks) all_written keeps), text))
+
           -- its answer was not written as a whole
-          pub answer_stops : (saved : List SavedFile) (last : Option (List ℕ)) → BeginsAnswer session line.items held saved mid last
-              → TalksFrom prompt begun left rest saved StopsAt (AppendsFront old last)
-          answer_stops saved last (inl (keeps, same)) =
-              subst (λ (files : List SavedFile). TalksFrom prompt begun left rest files StopsAt (AppendsFront old last)) (sym same)
-              (stops_with rest next.taken next.consumed (line.items ∷ lines_of after.waiting.items) parts_then StopsAt tt (AppendsFront old last)
-              (whole_front old last (going.said ++ asks) (Appends-kept old mid last (going.said ++ asks) all_written keeps)))
-          answer_stops saved last (inr one) = record {
+          answer_stops : (saved : List SavedFile) (last : Option (List ℕ)) → AnswersSome session line.items held saved mid last
+              → TalksFrom prompt begun left rest saved StopsAt (λ end. AppendsFront old last)
+          answer_stops saved last one = record {
             taken = going.taken ++ next.taken;
             consumed = Consumes-trans left now rest going.taken next.taken going.consumed next.consumed;
             lines = going.done ++ line.items ∷ [];
@@ -275,13 +320,38 @@ module _ (prompt : Bool) (begun : Talk) (left now old new : Option (List ℕ)) (
                 (front_after old mid last (going.said ++ asks) one.said (prompt_text prompt one.after.text) all_written one.written);
           }
 
-          pub answer_fault : (saved : List SavedFile) (last : Option (List ℕ)) (fault : Fault) → IsOutputFault fault
-              → BeginsAnswer session line.items held saved mid last → TalksOn prompt begun left rest old last saved (Err fault)
-          answer_fault saved last OutOfMemory is begins = answer_stops saved last begins
-          answer_fault saved last WriteFailed is begins = answer_stops saved last begins
-          answer_fault saved last ReadFailed is begins = absurd is
-          answer_fault saved last (BadScript n) is begins = absurd is
-          answer_fault saved last TooLong is begins = absurd is
+          pub answer_fault : (now : Session) (saved : List SavedFile) (last : Option (List ℕ)) (fault : Fault)
+              → StopsAnswer session now line.items held saved mid last fault
+              → TalksAlong prompt begun left rest old last saved now.text.items (Err fault)
+          answer_fault now saved last OutOfMemory stops = answer_out now saved last stops.0 stops.1 stops.2
+          answer_fault now saved last WriteFailed stops = answer_stops saved last stops
+          answer_fault now saved last ReadFailed stops = absurd stops
+          answer_fault now saved last (BadScript n) stops = absurd stops
+          answer_fault now saved last TooLong stops = absurd stops
+
+-- what stopped in a dialogue is as for the whole of it, but for memory that ran out
+pub along_on : (prompt : Bool) (begun : Talk) (left rest old new : Option (List ℕ)) (held : List SavedFile) (text : List ℕ)
+    (r : Result (Unit {0}) Fault) → r ≢ Err OutOfMemory → TalksAlong prompt begun left rest old new held text r
+    → TalksOn prompt begun left rest old new held r
+along_on prompt begun left rest old new held text (Ok u) other along = along
+along_on prompt begun left rest old new held text (Err OutOfMemory) other along = absurd other refl
+along_on prompt begun left rest old new held text (Err WriteFailed) other along =
+    rewritten prompt begun left rest held _ _ (λ end said written. inl written) along
+along_on prompt begun left rest old new held text (Err ReadFailed) other along = along
+along_on prompt begun left rest old new held text (Err (BadScript n)) other along = along
+along_on prompt begun left rest old new held text (Err TooLong) other along = along
+
+-- the session was written, as far as the fault says, behind a dialogue in which memory ran out
+pub left_on : (prompt : Bool) (begun : Talk) (left rest old mid new : Option (List ℕ)) (held : List SavedFile) (text : List ℕ)
+    (fault : Fault) → TalksAlong prompt begun left rest old mid held text (Err OutOfMemory) → LeavesText mid new text fault
+    → TalksOn prompt begun left rest old new held (Err fault)
+left_on prompt begun left rest old mid new held text OutOfMemory along leaves =
+    rewritten prompt begun left rest held _ _ (λ end said written. (mid, text, written.0, written.1, leaves)) along
+left_on prompt begun left rest old mid new held text WriteFailed along leaves =
+    rewritten prompt begun left rest held _ _ (λ end said written. inr (mid, text, written.0, written.1, leaves)) along
+left_on prompt begun left rest old mid new held text ReadFailed along leaves = absurd leaves
+left_on prompt begun left rest old mid new held text (BadScript n) along leaves = absurd leaves
+left_on prompt begun left rest old mid new held text TooLong along leaves = absurd leaves
 
 -- ---- the lines of the script to begin with
 

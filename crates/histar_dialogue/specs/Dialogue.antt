@@ -13,6 +13,7 @@ use Rattle.histar_script.specs.Lines.{lines_of}
 use Rattle.histar_script.specs.Reading.{script_of}
 use Rattle.histar_dialogue.specs.Session.{Answers}
 use Rattle.histar_dialogue.specs.Shelf.{SavedFile}
+use Rattle.histar_dialogue.specs.Texts.{with_line}
 use Rattle.histar_dialogue.specs.Talk.{Talk, nothing_yet}
 
 -- the line ends the dialogue
@@ -51,7 +52,7 @@ StopsAt more = Unit {0}
 -- Bytes were taken from the source. Their first lines, none of which ends the dialogue, were answered, and what is behind them is as `Ends`
 -- says. The files that are held now are those that were saved so. What was said and a last prompt were written as far as `Writes` says.
 pub record TalksFrom (prompt : Bool) (begun : Talk) (left rest : Option (List ℕ)) (held : List SavedFile) (Ends : List (List ℕ)
-    → Type 0) (Writes : List ℕ → Type 0) : Type 0 where
+    → Type 0) (Writes : Talk → List ℕ → Type 0) : Type 0 where
   pub taken : List ℕ
   pub consumed : Consumes left rest taken
   pub lines : List (List ℕ)
@@ -63,18 +64,36 @@ pub record TalksFrom (prompt : Bool) (begun : Talk) (left rest : Option (List �
   pub said : List ℕ
   pub converses : Converses prompt begun lines end said
   pub holds : end.saved ≡ held
-  pub written : Writes (said ++ prompt_text prompt end.text)
+  pub written : Writes end (said ++ prompt_text prompt end.text)
 
--- the dialogue from this state on went to its end, or as far as the fault allowed, and these files are held behind it
+-- the text is that of the session, perhaps with one line more
+abbrev pub IsSessionText : Talk → List ℕ → Type 0
+IsSessionText talk text = (text ≡ talk.text) ⊎ ((line : List ℕ) × (text ≡ with_line talk.text line))
+
+-- a beginning of what was said was written, and then of the session as far as `Writes` says
+abbrev pub LeavesSession : (Option (List ℕ) → List ℕ → Type 0) → Option (List ℕ) → Talk → List ℕ → Type 0
+LeavesSession Writes old end said =
+    (mid : Option (List ℕ)) × (text : List ℕ) × AppendsFront old mid said × IsSessionText end text × Writes mid text
+
+-- the whole session was written behind what was said
+abbrev pub EndsWithSession : Option (List ℕ) → Option (List ℕ) → Talk → List ℕ → Type 0
+EndsWithSession old new = LeavesSession (λ mid. Appends mid new) old
+
+-- a beginning of what was said was written, or behind it a beginning of the session
+abbrev pub StopsWriting : Option (List ℕ) → Option (List ℕ) → Talk → List ℕ → Type 0
+StopsWriting old new end said = AppendsFront old new said ⊎ LeavesSession (λ mid. AppendsFront mid new) old end said
+
+-- The dialogue from this state on went to its end, or as far as the fault allowed, and these files are held behind it. Where memory ran out
+-- the session was written at last.
 abbrev pub TalksOn : Bool → Talk → Option (List ℕ) → Option (List ℕ) → Option (List ℕ)
     → Option (List ℕ) → List SavedFile → Result (Unit {0}) Fault → Type 0
-TalksOn prompt begun left rest old new held (Ok u) = TalksFrom prompt begun left rest held (EndsAt rest) (Appends old new)
+TalksOn prompt begun left rest old new held (Ok u) = TalksFrom prompt begun left rest held (EndsAt rest) (λ end. Appends old new)
 TalksOn prompt begun left rest old new held (Err OutOfMemory) = TalksFrom prompt begun left rest held StopsAt
-    (AppendsFront old new)
+    (EndsWithSession old new)
 TalksOn prompt begun left rest old new held (Err WriteFailed) = TalksFrom prompt begun left rest held StopsAt
-    (AppendsFront old new)
+    (StopsWriting old new)
 TalksOn prompt begun left rest old new held (Err ReadFailed) = TalksFrom prompt begun left rest held StopsAt
-    (Appends old new)
+    (λ end. Appends old new)
 TalksOn prompt begun left rest old new held (Err (BadScript n)) = ⊥
 TalksOn prompt begun left rest old new held (Err TooLong) = ⊥
 

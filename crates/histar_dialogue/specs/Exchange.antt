@@ -1,5 +1,5 @@
 -- One line of a dialogue, and the lines of the script to begin with.
-use Rattle.std.specs.Prelude.{◌≡◌, ℕ, ◌⊎◌, false, List, Option, Err, MatchOption}
+use Rattle.std.specs.Prelude.{◌≡◌, ℕ, ◌⊎◌, Bool, false, List, Option, Result, Err, MatchOption}
 use Rattle.std.specs.Io.KnownBytes.{Appends, Keeps}
 use Rattle.histar_io.specs.Writing.{AppendsFront}
 use Rattle.histar_script.specs.declared.fault.Fault.{Fault}
@@ -11,6 +11,7 @@ use Rattle.histar_dialogue.specs.declared.session.Session.{Session}
 use Rattle.histar_dialogue.specs.Dialogue.{Begins, BeginsLines, Converses}
 use Rattle.histar_dialogue.specs.Session.{Answers, IsRight, talk_of}
 use Rattle.histar_dialogue.specs.Shelf.{SavedFile}
+use Rattle.histar_dialogue.specs.Steps.{KeepsText}
 use Rattle.histar_dialogue.specs.Talk.{Talk, nothing_yet}
 
 -- a session answered a line, before and behind which these files were saved, and the answer was written
@@ -27,6 +28,14 @@ pub record AnswersSome (before : Session) (line : List ℕ) (saved held : List S
   pub answers : Answers (talk_of saved before) line after said
   pub holds : after.saved ≡ held
   pub written : AppendsFront old new said
+
+-- Where memory ran out nothing was written or saved, and the session has its text, perhaps with one line more; where a write failed a
+-- beginning of the answer to a line was written.
+abbrev pub StopsAnswer : Session → Session → List ℕ → List SavedFile → List SavedFile → Option (List ℕ) → Option (List ℕ)
+    → Fault → Type 0
+StopsAnswer before now line saved held old new OutOfMemory = Keeps old new × (held ≡ saved) × KeepsText before now
+StopsAnswer before now line saved held old new WriteFailed = AnswersSome before line saved held old new
+StopsAnswer before now line saved held old new fault = ⊥
 
 -- a beginning of the answer to a line was written, or nothing was, and nothing was saved
 abbrev pub BeginsAnswer : Session → List ℕ → List SavedFile → List SavedFile → Option (List ℕ) → Option (List ℕ) → Type 0
@@ -58,3 +67,18 @@ pub record BeginsWith (first : Option (List ℕ)) (session : Session) (saved hel
 -- the script to begin with is none, or its first lines were answered
 abbrev pub BeginsFirst : Option (List ℕ) → List SavedFile → List SavedFile → Option (List ℕ) → Option (List ℕ) → Fault → Type 0
 BeginsFirst first saved held old new fault = MatchOption first ⊥ (λ text. BeginsFile text saved held old new fault)
+
+-- how far a dialogue went before the session was written, which has this text: as `TalksOn` says, but for the session
+abbrev pub TalksAlong : Bool → Talk → Option (List ℕ) → Option (List ℕ) → Option (List ℕ)
+    → Option (List ℕ) → List SavedFile → List ℕ → Result (Unit {0}) Fault → Type 0
+TalksAlong prompt begun left rest old new held text (Err OutOfMemory) = TalksFrom prompt begun left rest held StopsAt
+    (λ end said. AppendsFront old new said × IsSessionText end text)
+TalksAlong prompt begun left rest old new held text (Err WriteFailed) = TalksFrom prompt begun left rest held StopsAt
+    (λ end. AppendsFront old new)
+TalksAlong prompt begun left rest old new held text result = TalksOn prompt begun left rest old new held result
+
+-- this text was written, and the fault is that of memory; or a beginning of it, and the fault is that of a write
+abbrev pub LeavesText : Option (List ℕ) → Option (List ℕ) → List ℕ → Fault → Type 0
+LeavesText old new text OutOfMemory = Appends old new text
+LeavesText old new text WriteFailed = AppendsFront old new text
+LeavesText old new text fault = ⊥

@@ -1,10 +1,10 @@
 //! A dialogue: the lines of a source, each answered before the next one is read.
-ghost use Rattle.std.specs.Prelude.{◌≡◌, IfErr, IfOk, IsOk, OnErr, OnOk};
+ghost use Rattle.std.specs.Prelude.{◌≡◌, Err, IfErr, IfOk, IsOk, OnErr, OnOk};
 ghost use Rattle.std.specs.Option.{option_copied};
 ghost use Rattle.std.specs.Io.KnownBytes.{Appends};
 ghost use Rattle.histar_dialogue.specs.Dialogue.{BeginsLines, LeavesAll, LeavesBoth, Talks, TalksOn, is_quit, prompt_text};
-ghost use Rattle.histar_dialogue.specs.Exchange.{AnswersLines, AnswersTo, BeginsAnswer, BeginsFile};
-ghost use Rattle.histar_dialogue.specs.Exchange.{BeginsFirst, BeginsWith};
+ghost use Rattle.histar_dialogue.specs.Exchange.{AnswersLines, AnswersTo, BeginsFile, BeginsFirst, BeginsWith};
+ghost use Rattle.histar_dialogue.specs.Exchange.{LeavesText, StopsAnswer, TalksAlong};
 ghost use Rattle.histar_dialogue.specs.Session.{IsNew, IsRight, talk_of};
 ghost use Rattle.histar_io.specs.Device.{CountsFailure};
 ghost use Rattle.histar_io.specs.Writing.{AppendsFront};
@@ -25,7 +25,8 @@ use std::alloc::{AllocError, Global};
 /// Each answer is handed to the sink as a whole, which has to pass it on at once, as an unbuffered
 /// writer does; where a prompt is asked for, the number of the session's next line is written
 /// before a line is taken. The source is read only while no whole line waits, and a read may give
-/// less than was asked for. A line `:save FILE` has the session written to the shelf.
+/// less than was asked for. A line `:save FILE` has the session written to the shelf. Where memory
+/// runs out behind the script to begin with, the session is written, so that nothing of it is lost.
 pub fn converse<R: Source, W: Sink, S: Shelf>(
     alloc: Global,
     first: Option<&[u8]>,
@@ -49,7 +50,39 @@ pub fn converse<R: Source, W: Sink, S: Shelf>(
         (W.written writer.old) (W.written writer.new) (S.saved shelf.old) (S.saved shelf.new) result }
 {
     let mut session = begin(alloc, first, writer, shelf)?;
-    talk(alloc, &mut session, reader, writer, shelf, prompt)
+    converse_on(alloc, &mut session, reader, writer, shelf, prompt)
+}
+
+/// Reads lines, and answers each, from this session on. Where memory runs out it writes the session.
+fn converse_on<R: Source, W: Sink, S: Shelf>(
+    alloc: Global,
+    session: &mut Session,
+    reader: &mut R,
+    writer: &mut W,
+    shelf: &mut S,
+    prompt: bool,
+) -> Result<(), Fault>
+    requires { IsRight session.old }
+    ensures talks { TalksOn prompt (talk_of (S.saved shelf.old) session.old) (R.left reader.old) (R.left reader.new)
+        (W.written writer.old) (W.written writer.new) (S.saved shelf.new) result }
+    ensures reads { CountsFailure (R.failures reader.old) (R.failures reader.new) (is_read_failed result) }
+    ensures writes { CountsFailure (W.failures writer.old) (W.failures writer.new) (is_write_failed result) }
+{
+    match talk(alloc, session, reader, writer, shelf, prompt) {
+        Err(Fault::OutOfMemory) => Err(leave(session, writer)),
+        done => done,
+    }
+}
+
+/// Writes the session, and returns the fault: that memory ran out, or that the write failed.
+fn leave<W: Sink>(session: &Session, writer: &mut W) -> Fault
+    ensures text { LeavesText (W.written writer.old) (W.written writer.new) session.now.text.items result }
+    ensures count { CountsFailure (W.failures writer.old) (W.failures writer.new) (is_write_failed {A = Unit {0}} (Err result)) }
+{
+    match write_bytes(writer, session.text()) {
+        Ok(()) => Fault::OutOfMemory,
+        Err(_) => Fault::WriteFailed,
+    }
 }
 
 /// Returns the session of the script to begin with, and writes its answers, or returns the session
@@ -130,7 +163,7 @@ fn answer_line<W: Sink, S: Shelf>(
     requires { IsRight session.old }
     ensures ok { OnOk result (AnswersTo session.old session.new line.now (S.saved shelf.old) (S.saved shelf.new)
         (W.written writer.old) (W.written writer.new)) }
-    ensures err { OnErr result (BeginsAnswer session.old line.now (S.saved shelf.old) (S.saved shelf.new)
+    ensures err { IfErr result (StopsAnswer session.old session.new line.now (S.saved shelf.old) (S.saved shelf.new)
         (W.written writer.old) (W.written writer.new)) }
     ensures faults { IfErr result IsOutputFault }
     ensures count { CountsFailure (W.failures writer.old) (W.failures writer.new) (is_write_failed result) }
@@ -150,8 +183,8 @@ fn talk<R: Source, W: Sink, S: Shelf>(
     prompt: bool,
 ) -> Result<(), Fault>
     requires { IsRight session.old }
-    ensures talks { TalksOn prompt (talk_of (S.saved shelf.old) session.old) (R.left reader.old) (R.left reader.new)
-        (W.written writer.old) (W.written writer.new) (S.saved shelf.new) result }
+    ensures talks { TalksAlong prompt (talk_of (S.saved shelf.old) session.old) (R.left reader.old) (R.left reader.new)
+        (W.written writer.old) (W.written writer.new) (S.saved shelf.new) session.new.text.items result }
     ensures reads { CountsFailure (R.failures reader.old) (R.failures reader.new) (is_read_failed result) }
     ensures writes { CountsFailure (W.failures writer.old) (W.failures writer.new) (is_write_failed result) }
 {

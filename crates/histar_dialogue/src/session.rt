@@ -3,7 +3,7 @@ ghost use Rattle.std.specs.Prelude.{◌≡◌, ◌+◌, Err, IfErr, IfOk, IfSome
 ghost use Rattle.histar_dialogue.specs.Session.{AnswersLine, AnswersSpoken, AnswersText, Becomes, Expects, ExpectsAt};
 ghost use Rattle.histar_dialogue.specs.Session.{ExpectsClaims, ExpectsLast, Follows, FollowsBy, FollowsSo, IsNew, IsRight};
 ghost use Rattle.histar_dialogue.specs.Session.{Obeys, ObeysCommand, Saves, talk_of};
-ghost use Rattle.histar_dialogue.specs.Steps.{AnswersOn, HasRoom, IsPushed, IsRestarted, MayGrow, Refuses};
+ghost use Rattle.histar_dialogue.specs.Steps.{AnswersOn, HasRoom, IsPushed, IsRestarted, KeepsText, MayGrow, Refuses};
 ghost use Rattle.histar_script.specs.Laws.{EndsItsLines};
 ghost use Rattle.histar_script.specs.Lines.{lines_of};
 ghost use Rattle.histar_script.specs.Reading.{item_of, script_of};
@@ -50,6 +50,13 @@ impl Session {
         }
     }
 
+    /// Returns the text of the session.
+    pub(crate) fn text(&self) -> &[u8]
+        ensures { result.now ≡ self.now.text.items }
+    {
+        self.text.as_slice()
+    }
+
     /// Returns the number that the next line of the session will have.
     pub(crate) fn next_number(&self) -> u64
         requires { IsRight self.now }
@@ -63,7 +70,7 @@ impl Session {
     /// It has no source, so a line is answered before any more is read. A call costs what a call
     /// costs, however long the session is; a bad line, a declaration and a command may cost what
     /// the session cost so far. Only a line `:save FILE` reaches the shelf. After an `Err`, which
-    /// says that memory ran out, the session is of no more use.
+    /// says that memory ran out, no more lines can be answered, but the session has its text.
     pub fn answer<S: Shelf>(
         &mut self,
         alloc: Global,
@@ -74,8 +81,9 @@ impl Session {
             self.old self.new line.now said.items) }
         ensures err { IfErr result (λ fault. fault ≡ Fault.OutOfMemory) }
 
-        // Where memory runs out nothing is saved.
+        // Where memory runs out nothing is saved, and the session keeps its text, perhaps with the line.
         ensures unsaved { OnErr result (S.saved shelf.new ≡ S.saved shelf.old) }
+        ensures kept { OnErr result (KeepsText self.old self.new) }
     {
         if !is_command(line) {
             return self.take_spoken(alloc, line);
@@ -104,6 +112,7 @@ impl Session {
     fn obey(&mut self, alloc: Global, command: Command) -> Result<Vec<u8>, Fault>
         ensures ok { IfOk result (λ said. FollowsSo (ObeysCommand command) self.old self.new said.items) }
         ensures err { IfErr result (λ fault. fault ≡ Fault.OutOfMemory) }
+        ensures kept { OnErr result (KeepsText self.old self.new) }
     {
         match command {
             Command::Help => Ok(help_text(alloc)?),
@@ -128,6 +137,7 @@ impl Session {
     fn undo(&mut self, alloc: Global, count: u64) -> Result<Vec<u8>, Fault>
         ensures ok { IfOk result (λ said. FollowsSo (ObeysCommand (Command.Undo count)) self.old self.new said.items) }
         ensures err { IfErr result (λ fault. fault ≡ Fault.OutOfMemory) }
+        ensures kept { OnErr result (self.new.text.items ≡ self.old.text.items) }
     {
         let kept = (self.count as u64).saturating_sub(count);
         let at = bytes_of_lines(self.text.as_slice(), kept);
@@ -143,6 +153,7 @@ impl Session {
     fn redo(&mut self, alloc: Global, count: u64) -> Result<Vec<u8>, Fault>
         ensures ok { IfOk result (λ said. FollowsSo (ObeysCommand (Command.Redo count)) self.old self.new said.items) }
         ensures err { IfErr result (λ fault. fault ≡ Fault.OutOfMemory) }
+        ensures kept { OnErr result (self.new.text.items ≡ self.old.text.items) }
     {
         let at = bytes_of_lines(self.undone.as_slice(), count);
         let (front, back) = self.undone.as_slice().split_at(at);
@@ -163,6 +174,7 @@ impl Session {
     ) -> Result<Vec<u8>, Fault>
         ensures ok { IfOk result (λ said. Becomes first self.old self.new text.items undone.items said.items) }
         ensures err { IfErr result (λ fault. fault ≡ Fault.OutOfMemory) }
+        ensures kept { OnErr result (self.new.text.items ≡ self.old.text.items) }
     {
         match run_behind(alloc, text.as_slice(), first) {
             Ok((running, said)) => {
@@ -183,6 +195,7 @@ impl Session {
     fn expect(&mut self, alloc: Global) -> Result<Vec<u8>, Fault>
         ensures ok { IfOk result (λ said. FollowsSo Expects self.old self.new said.items) }
         ensures err { IfErr result (λ fault. fault ≡ Fault.OutOfMemory) }
+        ensures kept { OnErr result (KeepsText self.old self.new) }
     {
         match replies_of(alloc, self.text.as_slice()) {
             Ok(replies) => {
@@ -198,6 +211,7 @@ impl Session {
         ensures ok { IfOk result (λ said. FollowsSo (λ talk. ExpectsLast talk (option_map (λ line. line.items) found))
             self.old self.new said.items) }
         ensures err { IfErr result (λ fault. fault ≡ Fault.OutOfMemory) }
+        ensures kept { OnErr result (KeepsText self.old self.new) }
     {
         match found {
             None => Ok(no_call_text(alloc)?),
@@ -209,6 +223,7 @@ impl Session {
     fn expect_at(&mut self, alloc: Global, path: &Path) -> Result<Vec<u8>, Fault>
         ensures ok { IfOk result (λ said. FollowsSo (ExpectsAt path.now) self.old self.new said.items) }
         ensures err { IfErr result (λ fault. fault ≡ Fault.OutOfMemory) }
+        ensures kept { OnErr result (self.new.text.items ≡ self.old.text.items) }
     {
         match table_of(alloc, self.text.as_slice()) {
             Ok(table) => {
@@ -224,6 +239,7 @@ impl Session {
         requires { EndsItsLines claims.now }
         ensures ok { IfOk result (λ said. FollowsBy ExpectsClaims self.old self.new claims.now said.items) }
         ensures err { IfErr result (λ fault. fault ≡ Fault.OutOfMemory) }
+        ensures kept { OnErr result (self.new.text.items ≡ self.old.text.items) }
     {
         if claims.is_empty() {
             return Ok(no_entry_text(alloc)?);
@@ -235,6 +251,7 @@ impl Session {
     fn take_spoken(&mut self, alloc: Global, line: &[u8]) -> Result<Vec<u8>, Fault>
         ensures ok { IfOk result (λ said. FollowsBy AnswersSpoken self.old self.new line.now said.items) }
         ensures err { IfErr result (λ fault. fault ≡ Fault.OutOfMemory) }
+        ensures kept { OnErr result (KeepsText self.old self.new) }
     {
         let read = spoken(alloc, &self.speaker, line)?;
         self.take(alloc, read.as_slice())
@@ -244,6 +261,7 @@ impl Session {
     fn take(&mut self, alloc: Global, line: &[u8]) -> Result<Vec<u8>, Fault>
         ensures ok { IfOk result (λ said. FollowsBy AnswersLine self.old self.new line.now said.items) }
         ensures err { IfErr result (λ fault. fault ≡ Fault.OutOfMemory) }
+        ensures kept { OnErr result (KeepsText self.old self.new) }
     {
         match read_item(alloc, line)? {
             Some(item) => self.take_item(alloc, line, item),
@@ -256,6 +274,7 @@ impl Session {
         requires { item_of line.now ≡ Some item }
         ensures ok { IfOk result (λ said. FollowsBy AnswersLine self.old self.new line.now said.items) }
         ensures err { IfErr result (λ fault. fault ≡ Fault.OutOfMemory) }
+        ensures kept { OnErr result (KeepsText self.old self.new) }
     {
         match item {
             Item::Comment => self.take_comment(alloc, line),
@@ -276,6 +295,7 @@ impl Session {
         requires { item_of line.now ≡ Some (Item.Call process call) }
         ensures ok { IfOk result (λ said. FollowsBy AnswersLine self.old self.new line.now said.items) }
         ensures err { IfErr result (λ fault. fault ≡ Fault.OutOfMemory) }
+        ensures kept { OnErr result (KeepsText self.old self.new) }
     {
         if !self.may_take(line, &call) {
             drop(call);
@@ -296,6 +316,7 @@ impl Session {
         requires { item_of line.now ≡ Some Item.Comment }
         ensures ok { IfOk result (λ said. FollowsBy AnswersLine self.old self.new line.now said.items) }
         ensures err { IfErr result (λ fault. fault ≡ Fault.OutOfMemory) }
+        ensures kept { OnErr result (KeepsText self.old self.new) }
     {
         if !self.may_grow(line) {
             return self.read_again(alloc, line);
@@ -307,7 +328,8 @@ impl Session {
     /// Adds a line to the text.
     fn push_line(&mut self, line: &[u8]) -> Result<(), AllocError>
         requires { HasRoom self.old line.now }
-        ensures { OnOk result (IsPushed self.old self.new line.now) }
+        ensures ok { OnOk result (IsPushed self.old self.new line.now) }
+        ensures kept { OnErr result (self.new.text.items ≡ self.old.text.items) }
     {
         push_line(&mut self.text, line)?;
         self.undone.clear();
@@ -344,6 +366,7 @@ impl Session {
     fn read_again(&mut self, alloc: Global, line: &[u8]) -> Result<Vec<u8>, Fault>
         ensures ok { IfOk result (λ said. FollowsBy AnswersLine self.old self.new line.now said.items) }
         ensures err { IfErr result (λ fault. fault ≡ Fault.OutOfMemory) }
+        ensures kept { OnErr result (self.new.text.items ≡ self.old.text.items) }
     {
         let more = ended(alloc, line)?;
         self.read_behind(alloc, more.as_slice())
@@ -354,6 +377,7 @@ impl Session {
         requires { EndsItsLines more.now }
         ensures ok { IfOk result (λ said. FollowsBy AnswersText self.old self.new more.now said.items) }
         ensures err { IfErr result (λ fault. fault ≡ Fault.OutOfMemory) }
+        ensures kept { OnErr result (self.new.text.items ≡ self.old.text.items) }
     {
         let longer = joined(alloc, self.text.as_slice(), more)?;
         match run_behind(alloc, longer.as_slice(), self.count) {
@@ -373,6 +397,7 @@ impl Session {
         requires { script_of longer.items ≡ Err (Fault.BadScript bad) }
         ensures ok { IfOk result (λ said. Refuses self.old self.new longer.items bad said.items) }
         ensures err { IfErr result (λ fault. fault ≡ Fault.OutOfMemory) }
+        ensures kept { OnErr result (self.new.text.items ≡ self.old.text.items) }
     {
         if bad as usize > count_lines(longer.as_slice()) {
             self.restart(longer, None);

@@ -1,7 +1,7 @@
 -- Proves the goals of `answer_lines` of src/dialogue.rt that the search leaves open.
 use Rattle.std.proofs.Common.{◌≡◌, ◌∙◌, length, refl, rules}
 use Rattle.histar_script.proofs.LineLemmas.{no_lines}
-use Rattle.histar_dialogue.proofs.Talking.{entered, entering_first, entering_on, entering_stops, on_err}
+use Rattle.histar_dialogue.proofs.Talking.{begins_answer, entered, entering_first, entering_on, entering_stops, on_err}
 use Rattle.histar_dialogue.proofs.dialogue.answer_lines.Goals as goal
 
 pub lines-init : goal.lines-init
@@ -13,7 +13,8 @@ lines-init g c = record {
 pub returns-in_err-answer_line-clause-err : goal.returns-in_err-answer_line-clause-err
 returns-in_err-answer_line-clause-err g c =
     on_err _ _ (entering_stops _ c.lines.rest.now c.lines.session _ _ _ _ c.lines.invariant.entering c.split_line.result.0.now
-    c.split_line.result.1.now c.split_line.ensures.first _ _ c.in_err-answer_line.ensures.err)
+    c.split_line.result.1.now c.split_line.ensures.first _ _
+    (begins_answer _ c.answer_line.new.session _ _ _ _ _ c.in_err-answer_line.field-0.0 c.in_err-answer_line.ensures.err))
 
 pub lines-preserved : goal.lines-preserved
 lines-preserved g c = record {

@@ -3,7 +3,7 @@ use Rattle.std.proofs.Common.{List, ℕ, ◌∙◌, ap, codes, refl, sym, subst}
 use Rattle.std.proofs.lemmas.Slice.Eq.{bytes_eq-Decides}
 use Rattle.histar_io.proofs.Residuals.{passed_on}
 use Rattle.histar_dialogue.specs.Dialogue.{is_quit}
-use Rattle.histar_dialogue.specs.Exchange.{AnswersTo, BeginsAnswer}
+use Rattle.histar_dialogue.specs.Exchange.{AnswersTo, StopsAnswer}
 use Rattle.histar_dialogue.specs.Input.{TakesNext}
 use Rattle.histar_dialogue.proofs.Talking.{answer_fault, going_first, no_write, prompt_fault, read_fault, talk_ends, talk_gives_up, talk_goes_on}
 use Rattle.histar_dialogue.proofs.Talking.{talk_quits}
@@ -59,10 +59,10 @@ returns-in_err-answer_line-clause-talks g c =
     (subst (TakesNext (g.R.Source.left c.lines.reader) (g.R.Source.left c.next_line.new.reader) c.lines.input c.next_line.new.self) c.in-Some.is
     c.in_ok-line.ensures.ok)
     (ap is_quit (sym c.as_slice.ensures.value) ∙ sym c.is_quit.ensures ∙ c.if-is_quit.false)
-    _ _ c.in_err-answer_line.field-0.0 c.in_err-answer_line.ensures.faults
-    (subst (λ (l : List ℕ). BeginsAnswer c.lines.session l (g.S.Shelf.saved c.lines.shelf) (g.S.Shelf.saved c.answer_line.new.shelf)
-    (g.W.Sink.written c.write_prompt.new.writer)
-    (g.W.Sink.written c.answer_line.new.writer))
+    c.answer_line.new.session _ _ c.in_err-answer_line.field-0.0
+    (subst (λ (l : List ℕ). StopsAnswer c.lines.session c.answer_line.new.session l (g.S.Shelf.saved c.lines.shelf)
+    (g.S.Shelf.saved c.answer_line.new.shelf) (g.W.Sink.written c.write_prompt.new.writer) (g.W.Sink.written c.answer_line.new.writer)
+    c.in_err-answer_line.field-0.0)
     c.as_slice-in-lines.ensures.value c.in_err-answer_line.ensures.err))
 
 pub lines-preserved : goal.lines-preserved
