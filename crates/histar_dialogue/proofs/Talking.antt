@@ -1,5 +1,5 @@
 -- A dialogue, line after line.
-use Rattle.std.proofs.Common.{◌≡◌, ◌≢◌, ℕ, Bool, true, false, List, [], ◌∷◌, ◌++◌, codes, Option, None, Some, Result, Ok, Err}
+use Rattle.std.proofs.Common.{◌≡◌, ℕ, Bool, true, false, List, [], ◌∷◌, ◌++◌, codes, Option, None, Some, Result, Ok, Err}
 use Rattle.std.proofs.Common.{refl, sym, ap, subst, ◌∙◌, inl, inr, append_assoc, append-nil}
 use Rattle.std.specs.Global.{Vec}
 use Rattle.std.specs.List.{AllByRecursion}
@@ -329,29 +329,23 @@ module _ (prompt : Bool) (begun : Talk) (left now old new : Option (List ℕ)) (
           answer_fault now saved last (BadScript n) stops = absurd stops
           answer_fault now saved last TooLong stops = absurd stops
 
--- what stopped in a dialogue is as for the whole of it, but for memory that ran out
-pub along_on : (prompt : Bool) (begun : Talk) (left rest old new : Option (List ℕ)) (held : List SavedFile) (text : List ℕ)
-    (r : Result (Unit {0}) Fault) → r ≢ Err OutOfMemory → TalksAlong prompt begun left rest old new held text r
-    → TalksOn prompt begun left rest old new held r
-along_on prompt begun left rest old new held text (Ok u) other along = along
-along_on prompt begun left rest old new held text (Err OutOfMemory) other along = absurd other refl
-along_on prompt begun left rest old new held text (Err WriteFailed) other along =
-    rewritten prompt begun left rest held _ _ (λ end said written. inl written) along
-along_on prompt begun left rest old new held text (Err ReadFailed) other along = along
-along_on prompt begun left rest old new held text (Err (BadScript n)) other along = along
-along_on prompt begun left rest old new held text (Err TooLong) other along = along
+module _ (prompt : Bool) (begun : Talk) (left rest old mid : Option (List ℕ)) (held : List SavedFile) (text : List ℕ) where
+  -- the session was written, as far as the fault says, behind a dialogue in which memory ran out
+  left_by : (new : Option (List ℕ)) (fault : Fault) → TalksAlong prompt begun left rest old mid held text (Err OutOfMemory)
+      → LeavesText mid new text fault → TalksOn prompt begun left rest old new held (Err fault)
+  left_by new OutOfMemory along leaves =
+      rewritten prompt begun left rest held _ _ (λ end said written. (mid, text, written.0, written.1, leaves)) along
+  left_by new WriteFailed along leaves =
+      rewritten prompt begun left rest held _ _ (λ end said written. inr (mid, text, written.0, written.1, leaves)) along
+  left_by new ReadFailed along leaves = absurd leaves
+  left_by new (BadScript n) along leaves = absurd leaves
+  left_by new TooLong along leaves = absurd leaves
 
--- the session was written, as far as the fault says, behind a dialogue in which memory ran out
-pub left_on : (prompt : Bool) (begun : Talk) (left rest old mid new : Option (List ℕ)) (held : List SavedFile) (text : List ℕ)
-    (fault : Fault) → TalksAlong prompt begun left rest old mid held text (Err OutOfMemory) → LeavesText mid new text fault
-    → TalksOn prompt begun left rest old new held (Err fault)
-left_on prompt begun left rest old mid new held text OutOfMemory along leaves =
-    rewritten prompt begun left rest held _ _ (λ end said written. (mid, text, written.0, written.1, leaves)) along
-left_on prompt begun left rest old mid new held text WriteFailed along leaves =
-    rewritten prompt begun left rest held _ _ (λ end said written. inr (mid, text, written.0, written.1, leaves)) along
-left_on prompt begun left rest old mid new held text ReadFailed along leaves = absurd leaves
-left_on prompt begun left rest old mid new held text (BadScript n) along leaves = absurd leaves
-left_on prompt begun left rest old mid new held text TooLong along leaves = absurd leaves
+  -- the same, where the fault of the dialogue is that memory ran out
+  pub left_on : (new : Option (List ℕ)) (f fault : Fault) → f ≡ OutOfMemory → TalksAlong prompt begun left rest old mid held text (Err f)
+      → LeavesText mid new text fault → TalksOn prompt begun left rest old new held (Err fault)
+  left_on new f fault is along leaves =
+      left_by new fault (subst (λ (f : Fault). TalksAlong prompt begun left rest old mid held text (Err f)) is along) leaves
 
 -- ---- the lines of the script to begin with
 

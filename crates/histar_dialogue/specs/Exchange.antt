@@ -8,7 +8,7 @@ use Rattle.histar_script.specs.declared.fault.Fault.TheVariants.{OutOfMemory, Re
 use Rattle.histar_script.specs.Lines.{lines_of}
 use Rattle.histar_script.specs.Reading.{script_of}
 use Rattle.histar_dialogue.specs.declared.session.Session.{Session}
-use Rattle.histar_dialogue.specs.Dialogue.{Begins, BeginsLines, Converses}
+use Rattle.histar_dialogue.specs.Dialogue.{Begins, BeginsLines, Converses, IsSessionText, StopsAt, TalksFrom, TalksOn}
 use Rattle.histar_dialogue.specs.Session.{Answers, IsRight, talk_of}
 use Rattle.histar_dialogue.specs.Shelf.{SavedFile}
 use Rattle.histar_dialogue.specs.Steps.{KeepsText}
