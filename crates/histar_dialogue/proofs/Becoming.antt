@@ -12,6 +12,7 @@ use Rattle.histar_dialogue.specs.declared.running.Running.{Running}
 use Rattle.histar_dialogue.specs.declared.session.Session.{Session}
 use Rattle.histar_dialogue.specs.Running.{Ran}
 use Rattle.histar_dialogue.specs.Session.{Becomes, FollowsSo, IsBegun, IsRight, IsRunning, ObeysCommand, answers_of, talk_of}
+use Rattle.histar_dialogue.specs.Shelf.{SavedFile}
 use Rattle.histar_dialogue.specs.Steps.{IsRestarted}
 use Rattle.histar_dialogue.specs.Talk.{bytes_of_lines, cut_at, entered_again, grown_by}
 use Rattle.histar_dialogue.proofs.Fronts.{cut_ends, front_begun, joined_ends, lacks_one}
@@ -34,7 +35,7 @@ module _ (first : ℕ) (old mid : Session) (text undone : Vec ℕ) (found : Opti
 pub ran_text : (first : ℕ) (old mid : Session) (text undone : Vec ℕ) (r : Running) (said : List ℕ) → Ran first text.items r said
     → IsRestarted old mid text.items (Some r) → Becomes first old (record mid { undone = undone }) text.items undone.items said
 ran_text first old mid text undone r said ran restarted ends undone_ends whole = record {
-  talk = λ i. record { text = restarted.text i; undone = undone.items; speaker = restarted.speaker i };
+  talk = λ saved i. record { text = restarted.text i; undone = undone.items; speaker = restarted.speaker i; saved = saved };
   said_so = ran.said ∙ ap (answers_of first) (sym ran.has_run.is_script);
   right = right_so first old mid text undone (Some r) restarted (ran.script, ran.has_run) ends undone_ends whole;
 }
@@ -43,7 +44,7 @@ ran_text first old mid text undone r said ran restarted ends undone_ends whole =
 pub lacks_now : (first : ℕ) (old mid : Session) (text undone : Vec ℕ) (n : ℕ) (said : List ℕ) → script_of text.items ≡ Err (BadScript n)
     → IsRestarted old mid text.items None → said ≡ [] → Becomes first old (record mid { undone = undone }) text.items undone.items said
 lacks_now first old mid text undone n said bad restarted none ends undone_ends whole = record {
-  talk = λ i. record { text = restarted.text i; undone = undone.items; speaker = restarted.speaker i };
+  talk = λ saved i. record { text = restarted.text i; undone = undone.items; speaker = restarted.speaker i; saved = saved };
   said_so = none ∙ ap (answers_of first) (sym bad);
   right =
       right_so first old mid text undone None restarted
@@ -64,9 +65,9 @@ module _ (first : ℕ) (old new : Session) (text undone said : List ℕ) where
       (subst EndsItsLines (sym behind) (joined_ends (drop at old.text.items) old.undone.items
       (subst (λ (k : ℕ). EndsItsLines (drop k old.text.items)) here cut.1) right.undone_ends))
       (subst IsBegun (sym joined) right.whole) in (
-        (
-          done.talk ∙ (λ i. record { text = front i; undone = behind i; speaker = old.speaker })
-              ∙ ap (λ (k : ℕ). cut_at k (talk_of old)) (place ∙ ap (λ (c : ℕ). bytes_of_lines (c - n) old.text.items) right.count),
+        λ saved. (
+          done.talk saved ∙ (λ i. record { text = front i; undone = behind i; speaker = old.speaker; saved = saved })
+              ∙ ap (λ (k : ℕ). cut_at k (talk_of saved old)) (place ∙ ap (λ (c : ℕ). bytes_of_lines (c - n) old.text.items) right.count),
           refl,
         ),
         done.right,
@@ -90,20 +91,21 @@ module _ (first : ℕ) (old new : Session) (text undone said : List ℕ) where
       (subst (λ (k : ℕ). EndsItsLines (take k old.undone.items)) here cut.0)))
       (subst EndsItsLines (sym behind) (subst (λ (k : ℕ). EndsItsLines (drop k old.undone.items)) here cut.1))
       (subst IsBegun (sym joined) right.whole) in (
-        (
-          done.talk ∙ now,
+        λ saved. (
+          done.talk saved ∙ now saved,
           done.said_so ∙ (λ i. answers_of ((begins ∙ right.count) i) (script_of (longer i))),
         ),
         done.right,
       )
     where
-      longer : text ≡ (entered_again n (talk_of old)).text
+      longer : text ≡ old.text.items ++ take (bytes_of_lines n old.undone.items) old.undone.items
       longer = front ∙ ap (λ (k : ℕ). old.text.items ++ take k old.undone.items) place
 
-      now : record { text = text; undone = undone; speaker = old.speaker } ≡ entered_again n (talk_of old)
-      now =
-          (λ i. record { text = front i; undone = behind i; speaker = old.speaker })
-          ∙ ap (λ (k : ℕ). grown_by k (talk_of old)) place
+      now : (saved : List SavedFile)
+          → record { text = text; undone = undone; speaker = old.speaker; saved = saved } ≡ entered_again n (talk_of saved old)
+      now saved =
+          (λ i. record { text = front i; undone = behind i; speaker = old.speaker; saved = saved })
+          ∙ ap (λ (k : ℕ). grown_by k (talk_of saved old)) place
 
       joined : text ++ undone ≡ old.text.items ++ old.undone.items
       joined =

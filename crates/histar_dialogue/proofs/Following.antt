@@ -14,7 +14,7 @@ use Rattle.histar_flat.specs.Meaning.{boot, flat_end}
 use Rattle.histar_flat.specs.Words.{ProcName}
 use Rattle.histar_flat.proofs.Laws.{states_go_on}
 use Rattle.histar_script.specs.declared.fault.Fault.{Fault}
-use Rattle.histar_script.specs.declared.fault.Fault.TheVariants.{BadScript, TooLong}
+use Rattle.histar_script.specs.declared.fault.Fault.TheVariants.{BadScript}
 use Rattle.histar_script.specs.declared.items.Item.{Item}
 use Rattle.histar_script.specs.declared.items.Item.TheVariants as items
 use Rattle.histar_script.specs.Grammar.{Adds}
@@ -24,12 +24,13 @@ use Rattle.histar_script.specs.Script.{ScriptModel, is_declared_call}
 use Rattle.histar_script.specs.Reading.{item_of, script_of}
 use Rattle.histar_dialogue.specs.declared.running.Running.{Running}
 use Rattle.histar_dialogue.specs.declared.session.Session.{Session}
-use Rattle.histar_dialogue.specs.Commands.{too_long_text}
 use Rattle.histar_dialogue.specs.Running.{Ran, Represents, answer_text, answers_behind, said_behind}
-use Rattle.histar_dialogue.specs.Session.{AnswersLine, AnswersRead, FollowsBy, IsBegun, IsNew, IsRight, IsRunning, talk_of}
+use Rattle.histar_dialogue.specs.Session.{AnswersLine, AnswersRead, AnswersText, FollowsBy, IsBegun, IsNew, IsRight, IsRunning, talk_of}
+use Rattle.histar_dialogue.specs.Shelf.{SavedFile}
 use Rattle.histar_dialogue.specs.Talk.{with_text}
 use Rattle.histar_dialogue.specs.Steps.{AnswersOn, IsPushed, IsRestarted, MayGrow, Refuses}
 use Rattle.histar_dialogue.specs.Texts.{SaysRule, with_line}
+use Rattle.histar_dialogue.proofs.Fronts.{joined_ends}
 use Rattle.histar_dialogue.proofs.InputLines.{nothing_left}
 use Rattle.histar_dialogue.proofs.MoreLines.{ends_then, has_users, lacks_user, nothing_is_bad, numbered_by, one_line_more, room_for, script_then}
 
@@ -99,16 +100,17 @@ module _ (old mid : Session) (line : List ℕ) (grows : MayGrow old line) (pushe
 
   -- the answer is that of the longer script
   answered_now : (next : Option Running) (t : ScriptModel) (said : List ℕ) → script_of longer ≡ Ok t
-      → said ≡ said_behind (length (lines_of before)) t → AnswersLine (talk_of old) line (talk_of (record mid { running = next })) said
-  answered_now next t said is said_is =
-      subst (λ (r : Result ScriptModel Fault). AnswersRead (talk_of old) longer r (talk_of (record mid { running = next })) said) (sym is)
-      ((λ i. record { text = pushed.text i; undone = pushed.undone i; speaker = pushed.speaker i }), said_is)
+      → said ≡ said_behind (length (lines_of before)) t → (saved : List SavedFile)
+      → AnswersLine (talk_of saved old) line (talk_of saved (record mid { running = next })) said
+  answered_now next t said is said_is saved =
+      subst (λ (r : Result ScriptModel Fault). AnswersRead (talk_of saved old) longer r (talk_of saved (record mid { running = next })) said)
+      (sym is) ((λ i. record { text = pushed.text i; undone = pushed.undone i; speaker = pushed.speaker i; saved = saved }), said_is)
 
   pub comment_taken : item_of line ≡ Some items.Comment → FollowsBy AnswersLine old mid line []
   comment_taken item right = by old.running refl grows.running right.running
     where
       by : (o : Option Running) → old.running ≡ o → is_some o ≡ true → IsRunning before o
-          → AnswersLine (talk_of old) line (talk_of mid) [] × IsRight mid
+          → ((saved : List SavedFile) → AnswersLine (talk_of saved old) line (talk_of saved mid) []) × IsRight mid
       by None e some runs = absurd (false≢true some)
       by (Some r) e some runs =
           let s = runs.0 in
@@ -134,7 +136,8 @@ module _ (old mid : Session) (line : List ℕ) (grows : MayGrow old line) (pushe
       where
         by : (o : Option Running) → is_some o ≡ true → IfSome o (λ r. IsTrue (is_declared_call r.accounts call)) → IsRunning before o
             → AnswersOn o next (made mid.count) said
-            → AnswersLine (talk_of old) line (talk_of (record mid { running = next })) said × IsRight (record mid { running = next })
+            → ((saved : List SavedFile) → AnswersLine (talk_of saved old) line (talk_of saved (record mid { running = next })) said)
+            × IsRight (record mid { running = next })
         by None some declared runs answers = absurd (false≢true some)
         by (Some r) some declared runs answers =
             let s = runs.0 in
@@ -163,20 +166,22 @@ module _ (old mid : Session) (line : List ℕ) (grows : MayGrow old line) (pushe
               right_now (items.Call p call) right item next now,
             )
 
--- ---- a line that is read with the whole session
+-- ---- lines that are read with the whole session
 
-module _ (old new : Session) (line text : List ℕ) (is : text ≡ with_line old.text.items line) where
+module _ (old new : Session) (more text : List ℕ) (is : text ≡ old.text.items ++ more) where
   -- the answer is that of the text
   answered_by : (said : List ℕ) (read : Result ScriptModel Fault) → script_of text ≡ read
-      → AnswersRead (talk_of old) text read (talk_of new) said → AnswersLine (talk_of old) line (talk_of new) said
-  answered_by said read reads answers =
-      subst (λ (l : List ℕ). AnswersRead (talk_of old) l (script_of l) (talk_of new) said) is
-      (subst (λ (r : Result ScriptModel Fault). AnswersRead (talk_of old) text r (talk_of new) said) (sym reads) answers)
+      → ((saved : List SavedFile) → AnswersRead (talk_of saved old) text read (talk_of saved new) said) → (saved : List SavedFile)
+      → AnswersText (talk_of saved old) more (talk_of saved new) said
+  answered_by said read reads answers saved =
+      subst (λ (l : List ℕ). AnswersRead (talk_of saved old) l (script_of l) (talk_of saved new) said) is
+      (subst (λ (r : Result ScriptModel Fault). AnswersRead (talk_of saved old) text r (talk_of saved new) said) (sym reads) (answers saved))
 
   -- the session is right if it has the text and a machine that has run it
-  right_then : (found : Option Running) → IsRestarted old new text found → IsRunning text found → IsRight new
-  right_then found restarted runs = record {
-    ends = subst EndsItsLines (sym (restarted.text ∙ is)) (ends_then old.text.items line);
+  right_then : (found : Option Running) → IsRight old → EndsItsLines more → IsRestarted old new text found → IsRunning text found
+      → IsRight new
+  right_then found right more_ends restarted runs = record {
+    ends = subst EndsItsLines (sym (restarted.text ∙ is)) (joined_ends old.text.items more right.ends more_ends);
     count = restarted.count ∙ ap (λ (l : List ℕ). length (lines_of l)) (sym restarted.text);
     running = runs_now;
     undone_ends = inl restarted.undone;
@@ -186,43 +191,43 @@ module _ (old new : Session) (line text : List ℕ) (is : text ≡ with_line old
       runs_now : IsRunning new.text.items new.running
       runs_now = subst (λ (l : List ℕ). IsRunning l new.running) (sym restarted.text) (subst (IsRunning text) (sym restarted.running) runs)
 
-  pub ran_again : (r : Running) (said : List ℕ) → Ran old.count text r said → IsRestarted old new text (Some r)
-      → FollowsBy AnswersLine old new line said
-  ran_again r said ran restarted right = (
-    answered_by said (Ok ran.script) ran.has_run.is_script (
-      (λ i. record { text = restarted.text i; undone = restarted.undone i; speaker = restarted.speaker i }),
+  pub ran_again : (r : Running) (said : List ℕ) → EndsItsLines more → Ran old.count text r said → IsRestarted old new text (Some r)
+      → FollowsBy AnswersText old new more said
+  ran_again r said more_ends ran restarted right = (
+    answered_by said (Ok ran.script) ran.has_run.is_script (λ saved. (
+      (λ i. record { text = restarted.text i; undone = restarted.undone i; speaker = restarted.speaker i; saved = saved }),
       ran.said
           ∙ ap (λ (n : ℕ). said_behind n ran.script) right.count,
-    ),
-    right_then (Some r) restarted (ran.script, ran.has_run),
+    )),
+    right_then (Some r) right more_ends restarted (ran.script, ran.has_run),
   )
 
-  pub refused : (bad : ℕ) (said : List ℕ) → script_of text ≡ Err (BadScript bad) → Refuses old new text bad said
-      → FollowsBy AnswersLine old new line said
-  refused bad said reads refuses right = by (nat_lt (length (lines_of text)) bad) refl refuses
+  -- the text was taken for the session, or it stays with a sentence
+  abbrev Either : ℕ → List ℕ → List SavedFile → Bool → Type 0
+  Either bad said saved b =
+      MatchBool b ((talk_of saved new ≡ with_text (talk_of saved old) text) × (said ≡ []))
+      ((talk_of saved new ≡ talk_of saved old) × SaysRule text bad said)
+
+  pub refused : (bad : ℕ) (said : List ℕ) → EndsItsLines more → script_of text ≡ Err (BadScript bad) → Refuses old new text bad said
+      → FollowsBy AnswersText old new more said
+  refused bad said more_ends reads refuses right = by (nat_lt (length (lines_of text)) bad) refl refuses
     where
+      by_test : (saved : List SavedFile) (b : Bool) → nat_lt (length (lines_of text)) bad ≡ b → Either bad said saved b
+          → Either bad said saved (nat_lt (length (lines_of text)) bad)
+      by_test saved b e either = subst (Either bad said saved) (sym e) either
+
       by : (b : Bool) → nat_lt (length (lines_of text)) bad ≡ b
           → MatchBool b (IsRestarted old new text None × (said ≡ [])) ((new ≡ old) × SaysRule text bad said)
-          → AnswersLine (talk_of old) line (talk_of new) said × IsRight new
+          → ((saved : List SavedFile) → AnswersText (talk_of saved old) more (talk_of saved new) said) × IsRight new
       by true e here = (
-        answered_by said (Err (BadScript bad)) reads
-            (subst (λ (b : Bool). MatchBool b ((talk_of new ≡ with_text (talk_of old) text) × (said ≡ [])) ((talk_of new ≡ talk_of old)
-            × SaysRule text bad said))
-            (sym e) ((λ i. record { text = here.0.text i; undone = here.0.undone i; speaker = here.0.speaker i }), here.1)),
-        right_then None here.0 (lacks_user text bad reads (ltb-true (length (lines_of text)) bad e)),
+        answered_by said (Err (BadScript bad)) reads (λ saved. by_test saved true e
+            ((λ i. record { text = here.0.text i; undone = here.0.undone i; speaker = here.0.speaker i; saved = saved }), here.1)),
+        right_then None right more_ends here.0 (lacks_user text bad reads (ltb-true (length (lines_of text)) bad e)),
       )
       by false e here = (
-        answered_by said (Err (BadScript bad)) reads
-            (subst (λ (b : Bool). MatchBool b ((talk_of new ≡ with_text (talk_of old) text) × (said ≡ [])) ((talk_of new ≡ talk_of old)
-            × SaysRule text bad said))
-            (sym e) (ap talk_of here.0, here.1)),
+        answered_by said (Err (BadScript bad)) reads (λ saved. by_test saved false e (ap (talk_of saved) here.0, here.1)),
         subst IsRight (sym here.0) right,
       )
-
--- a session that would be too long stays
-pub too_long : (old : Session) (line text said : List ℕ) → text ≡ with_line old.text.items line → script_of text ≡ Err TooLong
-    → said ≡ too_long_text → FollowsBy AnswersLine old old line said
-too_long old line text said is reads said_is right = (answered_by old old line text is said (Err TooLong) reads (refl, said_is), right)
 
 -- ---- the first session, and each line
 
@@ -230,7 +235,7 @@ too_long old line text said is reads said_is right = (answered_by old old line t
 pub new_right : (s : Session) → s.text.items ≡ [] → s.undone.items ≡ [] → s.count ≡ 0 → s.running ≡ None
     → s.speaker ≡ None → IsNew s
 new_right s text undone count running speaker = (
-  (λ i. record { text = text i; undone = undone i; speaker = speaker i }),
+  (λ saved i. record { text = text i; undone = undone i; speaker = speaker i; saved = saved }),
   record {
     ends = inl text;
     count = count ∙ ap length (sym nothing_left) ∙ ap (λ (l : List ℕ). length (lines_of l)) (sym text);

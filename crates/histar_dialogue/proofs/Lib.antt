@@ -5,7 +5,7 @@ pub mod Fronts
 pub mod ByteCounts
 pub mod Following
 pub mod Becoming
-pub mod Showing
+pub mod Claiming
 pub mod Obeying
 pub mod Talking
 pub mod Runs

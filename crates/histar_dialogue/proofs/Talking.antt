@@ -3,11 +3,11 @@ use Rattle.std.proofs.Common.{◌≡◌, ℕ, Bool, true, false, List, [], ◌�
 use Rattle.std.proofs.Common.{refl, sym, ap, subst, ◌∙◌, inl, inr, append_assoc, append-nil}
 use Rattle.std.specs.Global.{Vec}
 use Rattle.std.specs.List.{AllByRecursion}
-use Rattle.std.specs.Io.KnownBytes.{Appends, Consumes, IsAtEnd}
+use Rattle.std.specs.Io.KnownBytes.{Appends, Consumes, IsAtEnd, Keeps}
 use Rattle.std.proofs.KnownBytes.{Appends-kept, Appends-nil, Appends-trans, Consumes-nil, Consumes-trans}
 use Rattle.histar_io.specs.Writing.{AppendsFront}
 use Rattle.histar_io.proofs.WritingLemmas.{sent_none, whole_front}
-use Rattle.std.specs.Prelude.{IfErr, IsOk, OnErr}
+use Rattle.std.specs.Prelude.{OnErr}
 use Rattle.histar_script.specs.declared.fault.Fault.{Fault}
 use Rattle.histar_script.specs.declared.fault.Fault.TheVariants.{BadScript, TooLong, OutOfMemory, ReadFailed, WriteFailed}
 use Rattle.histar_script.specs.Lines.{lines_of}
@@ -17,11 +17,14 @@ use Rattle.histar_script.specs.Runs.{IsOutputFault, is_write_failed}
 use Rattle.histar_script.specs.Script.{ScriptModel}
 use Rattle.histar_dialogue.specs.declared.input.Input.{Input}
 use Rattle.histar_dialogue.specs.declared.session.Session.{Session}
-use Rattle.histar_dialogue.specs.Dialogue.{Begins, BeginsLines, Converses, EndsAt, Greets, StopsAt, Talks, TalksFrom, TalksOn, is_quit}
-use Rattle.histar_dialogue.specs.Dialogue.{prompt_text}
-use Rattle.histar_dialogue.specs.Exchange.{AnswersLines, AnswersTo, BeginsAnswer, BeginsFile, BeginsFirst, BeginsWith}
+use Rattle.histar_dialogue.specs.Dialogue.{Begins, BeginsLines, Converses, EndsAt, StopsAt, TalksFrom, TalksOn, is_quit}
+use Rattle.histar_dialogue.specs.Dialogue.{IsSessionText, prompt_text}
+use Rattle.histar_dialogue.specs.Exchange.{AnswersLines, AnswersSome, AnswersTo, BeginsAnswer, BeginsFile, BeginsWith}
+use Rattle.histar_dialogue.specs.Exchange.{LeavesText, StopsAnswer, TalksAlong}
+use Rattle.histar_dialogue.specs.Steps.{KeepsText}
 use Rattle.histar_dialogue.specs.Input.{FailsReading, IsEmptyInput, Pulls, TakesNext, WaitsBehind}
 use Rattle.histar_dialogue.specs.Session.{Answers, IsNew, IsRight, talk_of}
+use Rattle.histar_dialogue.specs.Shelf.{SavedFile}
 use Rattle.histar_dialogue.specs.Talk.{Talk, nothing_yet}
 
 -- a whole text was written, and then a beginning of what follows, behind which more may come
@@ -39,25 +42,25 @@ front_after a b c text next rest whole begun = (
 -- one line more was answered
 pub converses_on : (prompt : Bool) (a : Talk) (lines : List (List ℕ)) (m e : Talk) (said line first : List ℕ)
     → Converses prompt a lines m said → Answers m line e first
-    → Converses prompt a (lines ++ line ∷ []) e (said ++ (prompt_text prompt m ++ first))
+    → Converses prompt a (lines ++ line ∷ []) e (said ++ (prompt_text prompt m.text ++ first))
 converses_on prompt a [] m e said line first done one = (
   e,
   first,
   [],
   subst (λ (t : Talk). Answers t line e first) done.0 one,
   (refl, refl),
-  ap (λ (l : List ℕ). l ++ (prompt_text prompt m ++ first)) done.1
-      ∙ ap (λ (t : Talk). prompt_text prompt t ++ first) done.0
-      ∙ sym (append-nil (prompt_text prompt a ++ first)),
+  ap (λ (l : List ℕ). l ++ (prompt_text prompt m.text ++ first)) done.1
+      ∙ ap (λ (t : Talk). prompt_text prompt t.text ++ first) done.0
+      ∙ sym (append-nil (prompt_text prompt a.text ++ first)),
 )
 converses_on prompt a (l ∷ lines) m e said line first done one = (
   done.0,
   done.1,
-  done.2 ++ (prompt_text prompt m ++ first),
+  done.2 ++ (prompt_text prompt m.text ++ first),
   done.3,
   converses_on prompt done.0 lines m e done.2 line first done.4 one,
-  ap (λ (l : List ℕ). l ++ (prompt_text prompt m ++ first)) done.5
-      ∙ append_assoc (prompt_text prompt a ++ done.1) done.2 (prompt_text prompt m ++ first),
+  ap (λ (l : List ℕ). l ++ (prompt_text prompt m.text ++ first)) done.5
+      ∙ append_assoc (prompt_text prompt a.text ++ done.1) done.2 (prompt_text prompt m.text ++ first),
 )
 
 -- one line more has a property
@@ -101,9 +104,37 @@ no_write left rest WriteFailed fails = absurd fails
 no_write left rest (BadScript n) fails = absurd fails
 no_write left rest TooLong fails = absurd fails
 
+-- a dialogue that stopped wrote as much as this says, too
+pub rewritten : (prompt : Bool) (begun : Talk) (left rest : Option (List ℕ)) (held : List SavedFile)
+    (Writes Then : Talk → List ℕ → Type 0) → ((end : Talk) (said : List ℕ) → Writes end said → Then end said)
+    → TalksFrom prompt begun left rest held StopsAt Writes → TalksFrom prompt begun left rest held StopsAt Then
+rewritten prompt begun left rest held Writes Then says from = record {
+  taken = from.taken;
+  consumed = from.consumed;
+  lines = from.lines;
+  more = from.more;
+  parts = from.parts;
+  stays = from.stays;
+  ends = from.ends;
+  end = from.end;
+  said = from.said;
+  converses = from.converses;
+  holds = from.holds;
+  written = says from.end (from.said ++ prompt_text prompt from.end.text) from.written;
+}
+
+-- a line whose answer was not written as a whole was begun
+pub begins_answer : (before now : Session) (line : List ℕ) (saved held : List SavedFile) (old new : Option (List ℕ)) (fault : Fault)
+    → StopsAnswer before now line saved held old new fault → BeginsAnswer before line saved held old new
+begins_answer before now line saved held old new OutOfMemory stops = inl (stops.0, stops.1)
+begins_answer before now line saved held old new WriteFailed stops = inr stops
+begins_answer before now line saved held old new ReadFailed stops = absurd stops
+begins_answer before now line saved held old new (BadScript n) stops = absurd stops
+begins_answer before now line saved held old new TooLong stops = absurd stops
+
 -- how far a dialogue has come
-pub record Going (prompt : Bool) (begun : Talk) (left now : Option (List ℕ)) (old new : Option (List ℕ)) (input : Input)
-    (session : Session) : Type 0 where
+pub record Going (prompt : Bool) (begun : Talk) (left now : Option (List ℕ)) (old new : Option (List ℕ)) (held : List SavedFile)
+    (input : Input) (session : Session) : Type 0 where
   pub taken : List ℕ
   pub consumed : Consumes left now taken
   pub done : List (List ℕ)
@@ -111,14 +142,14 @@ pub record Going (prompt : Bool) (begun : Talk) (left now : Option (List ℕ)) (
   pub ended : input.is_ended ≡ true → IsAtEnd now
   pub stays : AllByRecursion (λ line. is_quit line ≡ false) done
   pub said : List ℕ
-  pub converses : Converses prompt begun done (talk_of session) said
+  pub converses : Converses prompt begun done (talk_of held session) said
   pub right : IsRight session
   pub written : Appends old new said
 
 -- before the first line
-pub going_first : (prompt : Bool) (left old : Option (List ℕ)) (input : Input) (session : Session) → IsEmptyInput input → IsRight session
-    → Going prompt (talk_of session) left left old old input session
-going_first prompt left old input session none right = record {
+pub going_first : (prompt : Bool) (left old : Option (List ℕ)) (saved : List SavedFile) (input : Input) (session : Session)
+    → IsEmptyInput input → IsRight session → Going prompt (talk_of saved session) left left old old saved input session
+going_first prompt left old saved input session none right = record {
   taken = [];
   consumed = Consumes-nil left;
   done = [];
@@ -133,15 +164,16 @@ going_first prompt left old input session none right = record {
   written = Appends-nil old;
 }
 
-module _ (prompt : Bool) (begun : Talk) (left now old new : Option (List ℕ)) (input : Input) (session : Session)
-    (going : Going prompt begun left now old new input session) where
+module _ (prompt : Bool) (begun : Talk) (left now old new : Option (List ℕ)) (held : List SavedFile) (input : Input) (session : Session)
+    (going : Going prompt begun left now old new held input session) where
   abbrev asks : List ℕ
-  asks = prompt_text prompt (talk_of session)
+  asks = prompt_text prompt session.text.items
 
   -- the dialogue stops before the next line, with more bytes taken or none
   stops_with : (rest : Option (List ℕ)) (piece : List ℕ) → Consumes now rest piece
       → (more : List (List ℕ)) → lines_of (going.taken ++ piece) ≡ going.done ++ more → (Ends : List (List ℕ) → Type 0) → Ends more
-      → (Writes : List ℕ → Type 0) → Writes (going.said ++ asks) → TalksFrom prompt begun left rest Ends Writes
+      → (Writes : Talk → List ℕ → Type 0) → Writes (talk_of held session) (going.said ++ asks)
+      → TalksFrom prompt begun left rest held Ends Writes
   stops_with rest piece takes more parts Ends ends Writes written = record {
     taken = going.taken ++ piece;
     consumed = Consumes-trans left now rest going.taken piece going.consumed takes;
@@ -150,42 +182,51 @@ module _ (prompt : Bool) (begun : Talk) (left now old new : Option (List ℕ)) (
     parts = parts;
     stays = going.stays;
     ends = ends;
-    end = talk_of session;
+    end = talk_of held session;
     said = going.said;
     converses = going.converses;
+    holds = refl;
     written = written;
   }
 
   -- bytes were taken, and the dialogue stops
-  pub stops_at : (Writes : List ℕ → Type 0) (rest : Option (List ℕ)) → Pulls now rest → Writes (going.said ++ asks)
-      → TalksFrom prompt begun left rest StopsAt Writes
+  pub stops_at : (Writes : Talk → List ℕ → Type 0) (rest : Option (List ℕ)) → Pulls now rest
+      → Writes (talk_of held session) (going.said ++ asks)
+      → TalksFrom prompt begun left rest held StopsAt Writes
   stops_at Writes rest pulls written = by input.is_ended refl going.waits
     where
       by : (is : Bool) → input.is_ended ≡ is → WaitsBehind is going.taken going.done input.waiting.items
-          → TalksFrom prompt begun left rest StopsAt Writes
+          → TalksFrom prompt begun left rest held StopsAt Writes
       by false e w = stops_with rest pulls.0 pulls.1 (lines_of (input.waiting.items ++ pulls.0)) (w pulls.0) StopsAt tt Writes written
       by true e w =
           stops_with rest [] (nothing_at_end now rest pulls.0 (going.ended e) pulls.1) (lines_of input.waiting.items)
           (ap lines_of (append-nil going.taken) ∙ w) StopsAt tt Writes written
 
-  -- the prompt was not written as a whole
-  pub prompt_stops : (last : Option (List ℕ)) → AppendsFront new last asks → TalksFrom prompt begun left now StopsAt (AppendsFront old last)
-  prompt_stops last begins =
-      stops_at (AppendsFront old last) now ([], Consumes-nil now)
-      (subst (λ (l : List ℕ). AppendsFront old last (going.said ++ l)) (append-nil asks)
-      (front_after old new last going.said asks [] going.written begins))
+  -- a beginning of what was said was written
+  prompt_front : (last : Option (List ℕ)) → AppendsFront new last asks → AppendsFront old last (going.said ++ asks)
+  prompt_front last begins =
+      subst (λ (l : List ℕ). AppendsFront old last (going.said ++ l)) (append-nil asks)
+      (front_after old new last going.said asks [] going.written begins)
 
+  -- memory ran out, and the session has its text
+  stops_out : (rest last : Option (List ℕ)) → Pulls now rest → AppendsFront old last (going.said ++ asks)
+      → TalksAlong prompt begun left rest old last held session.text.items (Err OutOfMemory)
+  stops_out rest last pulls front =
+      stops_at (λ end said. AppendsFront old last said × IsSessionText end session.text.items) rest pulls (front, inl refl)
+
+  -- the prompt was not written as a whole
   pub prompt_fault : (last : Option (List ℕ)) (fault : Fault) → IsOutputFault fault → AppendsFront new last asks
-      → TalksOn prompt begun left now old last (Err fault)
-  prompt_fault last OutOfMemory is begins = prompt_stops last begins
-  prompt_fault last WriteFailed is begins = prompt_stops last begins
+      → TalksAlong prompt begun left now old last held session.text.items (Err fault)
+  prompt_fault last OutOfMemory is begins = stops_out now last ([], Consumes-nil now) (prompt_front last begins)
+  prompt_fault last WriteFailed is begins =
+      stops_at (λ end. AppendsFront old last) now ([], Consumes-nil now) (prompt_front last begins)
   prompt_fault last ReadFailed is begins = absurd is
   prompt_fault last (BadScript n) is begins = absurd is
   prompt_fault last TooLong is begins = absurd is
 
   -- as many lines were answered as are counted
-  pub talk_gives_up : TalksFrom prompt begun left now StopsAt (AppendsFront old new)
-  talk_gives_up = prompt_stops new (_, sent_none new asks)
+  pub talk_gives_up : TalksAlong prompt begun left now old new held session.text.items (Err OutOfMemory)
+  talk_gives_up = stops_out now new ([], Consumes-nil now) (prompt_front new (_, sent_none new asks))
 
   module _ (mid : Option (List ℕ)) (asked : Appends new mid asks) where
     -- what was said and the prompt were written
@@ -193,20 +234,22 @@ module _ (prompt : Bool) (begun : Talk) (left now old new : Option (List ℕ)) (
     all_written = Appends-trans old new mid going.said asks going.written asked
 
     -- the next line was not read
-    pub read_fault : (rest : Option (List ℕ)) (fault : Fault) → FailsReading now rest fault → TalksOn prompt begun left rest old mid (Err fault)
-    read_fault rest OutOfMemory fails = stops_at (AppendsFront old mid) rest fails (whole_front old mid (going.said ++ asks) all_written)
-    read_fault rest ReadFailed fails = stops_at (Appends old mid) rest fails all_written
+    pub read_fault : (rest : Option (List ℕ)) (fault : Fault) → FailsReading now rest fault
+        → TalksAlong prompt begun left rest old mid held session.text.items (Err fault)
+    read_fault rest OutOfMemory fails = stops_out rest mid fails (whole_front old mid (going.said ++ asks) all_written)
+    read_fault rest ReadFailed fails = stops_at (λ end. Appends old mid) rest fails all_written
     read_fault rest WriteFailed fails = absurd fails
     read_fault rest (BadScript n) fails = absurd fails
     read_fault rest TooLong fails = absurd fails
 
     module _ (rest : Option (List ℕ)) (after : Input) where
       -- there is no next line
-      pub talk_ends : TakesNext now rest input after None → TalksFrom prompt begun left rest (EndsAt rest) (Appends old mid)
+      pub talk_ends : TakesNext now rest input after None
+          → TalksFrom prompt begun left rest held (EndsAt rest) (λ end. Appends old mid)
       talk_ends next =
           stops_with rest next.taken next.consumed []
           (next.next going.taken going.done going.waits ∙ sym (append-nil going.done)) (EndsAt rest)
-          (inl (refl, next.ended going.ended next.last)) (Appends old mid) all_written
+          (inl (refl, next.ended going.ended next.last)) (λ end. Appends old mid) all_written
 
       module _ (line : Vec ℕ) (next : TakesNext now rest input after (Some line)) where
         abbrev waits_then : WaitsBehind after.is_ended (going.taken ++ next.taken) (going.done ++ line.items ∷ []) after.waiting.items
@@ -219,16 +262,17 @@ module _ (prompt : Bool) (begun : Talk) (left now old new : Option (List ℕ)) (
             ∙ append_assoc going.done (line.items ∷ []) (lines_of after.waiting.items)
 
         -- the next line ends the dialogue
-        pub talk_quits : line.items ≡ codes ":quit" → TalksFrom prompt begun left rest (EndsAt rest) (Appends old mid)
+        pub talk_quits : line.items ≡ codes ":quit" → TalksFrom prompt begun left rest held (EndsAt rest) (λ end. Appends old mid)
         talk_quits quits =
             stops_with rest next.taken next.consumed (line.items ∷ lines_of after.waiting.items) parts_then (EndsAt rest)
-            (inr (lines_of after.waiting.items, ap (λ (l : List ℕ). l ∷ lines_of after.waiting.items) quits)) (Appends old mid) all_written
+            (inr (lines_of after.waiting.items, ap (λ (l : List ℕ). l ∷ lines_of after.waiting.items) quits)) (λ end. Appends old mid)
+            all_written
 
         module _ (stays : is_quit line.items ≡ false) where
           -- a line was answered
-          pub talk_goes_on : (session' : Session) (last : Option (List ℕ)) → AnswersTo session session' line.items mid last
-              → Going prompt begun left rest old last after session'
-          talk_goes_on session' last one = record {
+          pub talk_goes_on : (session' : Session) (saved : List SavedFile) (last : Option (List ℕ))
+              → AnswersTo session session' line.items held saved mid last → Going prompt begun left rest old last saved after session'
+          talk_goes_on session' saved last one = record {
             taken = going.taken ++ next.taken;
             consumed = Consumes-trans left now rest going.taken next.taken going.consumed next.consumed;
             done = going.done ++ line.items ∷ [];
@@ -236,20 +280,26 @@ module _ (prompt : Bool) (begun : Talk) (left now old new : Option (List ℕ)) (
             ended = next.ended going.ended;
             stays = all_more (λ line. is_quit line ≡ false) going.done line.items going.stays stays;
             said = going.said ++ (asks ++ one.said);
-            converses = converses_on prompt begun going.done (talk_of session)
-                (talk_of session') going.said line.items one.said going.converses one.answers;
+            converses = converses_on prompt begun going.done (talk_of held session)
+                (talk_of saved session') going.said line.items one.said going.converses one.answers;
             right = one.right;
             written = subst (Appends old last) (append_assoc going.said asks one.said) (Appends-trans old mid last
                 (going.said ++ asks) one.said all_written one.written);
           }
 
+          -- memory ran out before its answer was written
+          answer_out : (now : Session) (saved : List SavedFile) (last : Option (List ℕ)) → Keeps mid last → saved ≡ held
+              → KeepsText session now → TalksAlong prompt begun left rest old last saved now.text.items (Err OutOfMemory)
+          answer_out now saved last keeps same text =
+              subst (λ (files : List SavedFile). TalksAlong prompt begun left rest old last files now.text.items (Err OutOfMemory)) (sym same)
+              (stops_with rest next.taken next.consumed (line.items ∷ lines_of after.waiting.items) parts_then StopsAt tt
+              (λ end said. AppendsFront old last said × IsSessionText end now.text.items)
+              (whole_front old last (going.said ++ asks) (Appends-kept old mid last (going.said ++ asks) all_written keeps), text))
+
           -- its answer was not written as a whole
-          pub answer_stops : (last : Option (List ℕ)) → BeginsAnswer session line.items mid last
-              → TalksFrom prompt begun left rest StopsAt (AppendsFront old last)
-          answer_stops last (inl keeps) =
-              stops_with rest next.taken next.consumed (line.items ∷ lines_of after.waiting.items) parts_then StopsAt tt (AppendsFront old last)
-              (whole_front old last (going.said ++ asks) (Appends-kept old mid last (going.said ++ asks) all_written keeps))
-          answer_stops last (inr (e, said, answers, begins)) = record {
+          answer_stops : (saved : List SavedFile) (last : Option (List ℕ)) → AnswersSome session line.items held saved mid last
+              → TalksFrom prompt begun left rest saved StopsAt (λ end. AppendsFront old last)
+          answer_stops saved last one = record {
             taken = going.taken ++ next.taken;
             consumed = Consumes-trans left now rest going.taken next.taken going.consumed next.consumed;
             lines = going.done ++ line.items ∷ [];
@@ -257,175 +307,151 @@ module _ (prompt : Bool) (begun : Talk) (left now old new : Option (List ℕ)) (
             parts = parts_now after.is_ended (going.taken ++ next.taken) (going.done ++ line.items ∷ []) after.waiting.items waits_then;
             stays = all_more (λ line. is_quit line ≡ false) going.done line.items going.stays stays;
             ends = tt;
-            end = e;
-            said = going.said ++ (asks ++ said);
-            converses = converses_on prompt begun going.done (talk_of session) e going.said line.items said going.converses answers;
+            end = one.after;
+            said = going.said ++ (asks ++ one.said);
+            converses = converses_on prompt begun going.done (talk_of held session) one.after going.said line.items one.said going.converses
+                one.answers;
+            holds = one.holds;
             written =
                 subst (AppendsFront old last)
-                (ap (λ (l : List ℕ). l) (append_assoc going.said asks (said ++ prompt_text prompt e)
-                ∙ ap (λ (l : List ℕ). going.said ++ l) (sym (append_assoc asks said (prompt_text prompt e)))
-                ∙ sym (append_assoc going.said (asks ++ said) (prompt_text prompt e))))
-                (front_after old mid last (going.said ++ asks) said (prompt_text prompt e) all_written begins);
+                (ap (λ (l : List ℕ). l) (append_assoc going.said asks (one.said ++ prompt_text prompt one.after.text)
+                ∙ ap (λ (l : List ℕ). going.said ++ l) (sym (append_assoc asks one.said (prompt_text prompt one.after.text)))
+                ∙ sym (append_assoc going.said (asks ++ one.said) (prompt_text prompt one.after.text))))
+                (front_after old mid last (going.said ++ asks) one.said (prompt_text prompt one.after.text) all_written one.written);
           }
 
-          pub answer_fault : (last : Option (List ℕ)) (fault : Fault) → IsOutputFault fault → BeginsAnswer session line.items mid last
-              → TalksOn prompt begun left rest old last (Err fault)
-          answer_fault last OutOfMemory is begins = answer_stops last begins
-          answer_fault last WriteFailed is begins = answer_stops last begins
-          answer_fault last ReadFailed is begins = absurd is
-          answer_fault last (BadScript n) is begins = absurd is
-          answer_fault last TooLong is begins = absurd is
+          pub answer_fault : (now : Session) (saved : List SavedFile) (last : Option (List ℕ)) (fault : Fault)
+              → StopsAnswer session now line.items held saved mid last fault
+              → TalksAlong prompt begun left rest old last saved now.text.items (Err fault)
+          answer_fault now saved last OutOfMemory stops = answer_out now saved last stops.0 stops.1 stops.2
+          answer_fault now saved last WriteFailed stops = answer_stops saved last stops
+          answer_fault now saved last ReadFailed stops = absurd stops
+          answer_fault now saved last (BadScript n) stops = absurd stops
+          answer_fault now saved last TooLong stops = absurd stops
+
+module _ (prompt : Bool) (begun : Talk) (left rest old mid : Option (List ℕ)) (held : List SavedFile) (text : List ℕ) where
+  -- the session was written, as far as the fault says, behind a dialogue in which memory ran out
+  left_by : (new : Option (List ℕ)) (fault : Fault) → TalksAlong prompt begun left rest old mid held text (Err OutOfMemory)
+      → LeavesText mid new text fault → TalksOn prompt begun left rest old new held (Err fault)
+  left_by new OutOfMemory along leaves =
+      rewritten prompt begun left rest held _ _ (λ end said written. (mid, text, written.0, written.1, leaves)) along
+  left_by new WriteFailed along leaves =
+      rewritten prompt begun left rest held _ _ (λ end said written. inr (mid, text, written.0, written.1, leaves)) along
+  left_by new ReadFailed along leaves = absurd leaves
+  left_by new (BadScript n) along leaves = absurd leaves
+  left_by new TooLong along leaves = absurd leaves
+
+  -- the same, where the fault of the dialogue is that memory ran out
+  pub left_on : (new : Option (List ℕ)) (f fault : Fault) → f ≡ OutOfMemory → TalksAlong prompt begun left rest old mid held text (Err f)
+      → LeavesText mid new text fault → TalksOn prompt begun left rest old new held (Err fault)
+  left_on new f fault is along leaves =
+      left_by new fault (subst (λ (f : Fault). TalksAlong prompt begun left rest old mid held text (Err f)) is along) leaves
 
 -- ---- the lines of the script to begin with
 
 -- how far the lines of a text were answered
-pub record Entering (text rest : List ℕ) (session : Session) (old new : Option (List ℕ)) : Type 0 where
+pub record Entering (text rest : List ℕ) (session : Session) (saved held : List SavedFile) (old new : Option (List ℕ)) : Type 0 where
   pub done : List (List ℕ)
   pub parts : lines_of text ≡ done ++ lines_of rest
   pub said : List ℕ
-  pub converses : Converses false nothing_yet done (talk_of session) said
+  pub converses : Converses false (nothing_yet saved) done (talk_of held session) said
   pub right : IsRight session
   pub written : Appends old new said
 
 -- before the first line
-pub entering_first : (text : List ℕ) (session : Session) (old : Option (List ℕ)) → IsNew session → Entering text text session old old
-entering_first text session old new =
-    record { done = []; parts = refl; said = []; converses = (new.0, refl); right = new.1; written = Appends-nil old }
+pub entering_first : (text : List ℕ) (session : Session) (saved : List SavedFile) (old : Option (List ℕ)) → IsNew session
+    → Entering text text session saved saved old old
+entering_first text session saved old new =
+    record { done = []; parts = refl; said = []; converses = (new.0 saved, refl); right = new.1; written = Appends-nil old }
 
-module _ (text rest : List ℕ) (session : Session) (old new : Option (List ℕ)) (entering : Entering text rest session old new) where
+module _ (text rest : List ℕ) (session : Session) (saved held : List SavedFile) (old new : Option (List ℕ))
+    (entering : Entering text rest session saved held old new) where
   -- all lines were answered
-  pub entered : lines_of rest ≡ [] → AnswersLines text session old new
+  pub entered : lines_of rest ≡ [] → AnswersLines text session saved held old new
   entered none = record {
     said = entering.said;
     converses =
-        subst (λ (lines : List (List ℕ)). Converses false nothing_yet lines (talk_of session) entering.said)
+        subst (λ (lines : List (List ℕ)). Converses false (nothing_yet saved) lines (talk_of held session) entering.said)
         (sym (entering.parts ∙ ap (λ (l : List (List ℕ)). entering.done ++ l) none ∙ append-nil entering.done)) entering.converses;
     right = entering.right;
     written = entering.written;
   }
 
-  module _ (line after : List ℕ) (first : lines_of rest ≡ line ∷ lines_of after) (last : Option (List ℕ)) where
+  module _ (line after : List ℕ) (first : lines_of rest ≡ line ∷ lines_of after) (more : List SavedFile) (last : Option (List ℕ)) where
     -- one line more was answered
     parts_on : lines_of text ≡ (entering.done ++ line ∷ []) ++ lines_of after
     parts_on =
         entering.parts ∙ ap (λ (l : List (List ℕ)). entering.done ++ l) first
         ∙ sym (append_assoc entering.done (line ∷ []) (lines_of after))
 
-    pub entering_on : (session' : Session) → AnswersTo session session' line new last → Entering text after session' old last
+    pub entering_on : (session' : Session) → AnswersTo session session' line held more new last
+        → Entering text after session' saved more old last
     entering_on session' one = record {
       done = entering.done ++ line ∷ [];
       parts = parts_on;
       said = entering.said ++ one.said;
-      converses = converses_on false nothing_yet entering.done (talk_of session)
-          (talk_of session') entering.said line one.said entering.converses one.answers;
+      converses = converses_on false (nothing_yet saved) entering.done (talk_of held session)
+          (talk_of more session') entering.said line one.said entering.converses one.answers;
       right = one.right;
       written = Appends-trans old new last entering.said one.said entering.written one.written;
     }
 
     -- its answer was not written as a whole
-    pub entering_stops : BeginsAnswer session line new last → BeginsLines text old last
-    entering_stops (inl keeps) = record {
+    pub entering_stops : BeginsAnswer session line held more new last → BeginsLines text saved more old last
+    entering_stops (inl (keeps, same)) = record {
       lines = entering.done;
       more = lines_of rest;
       parts = entering.parts;
-      end = talk_of session;
+      end = talk_of held session;
       said = entering.said;
       converses = entering.converses;
+      holds = sym same;
       written = whole_front old last entering.said (Appends-kept old new last entering.said entering.written keeps);
     }
-    entering_stops (inr (e, said, answers, begins)) = record {
+    entering_stops (inr one) = record {
       lines = entering.done ++ line ∷ [];
       more = lines_of after;
       parts = parts_on;
-      end = e;
-      said = entering.said ++ said;
-      converses = converses_on false nothing_yet entering.done (talk_of session) e entering.said line said entering.converses answers;
+      end = one.after;
+      said = entering.said ++ one.said;
+      converses = converses_on false (nothing_yet saved) entering.done (talk_of held session) one.after entering.said line one.said
+          entering.converses one.answers;
+      holds = one.holds;
       written =
-          subst (λ (l : List ℕ). AppendsFront old last (entering.said ++ l)) (append-nil said)
-          (front_after old new last entering.said said [] entering.written begins);
+          subst (λ (l : List ℕ). AppendsFront old last (entering.said ++ l)) (append-nil one.said)
+          (front_after old new last entering.said one.said [] entering.written one.written);
     }
 
--- before the first line nothing was written
-pub nothing_entered : (text : List ℕ) (old : Option (List ℕ)) → BeginsLines text old old
-nothing_entered text old = record {
+-- before the first line nothing was written, and nothing was saved
+pub nothing_entered : (text : List ℕ) (saved : List SavedFile) (old : Option (List ℕ)) → BeginsLines text saved saved old old
+nothing_entered text saved old = record {
   lines = [];
   more = lines_of text;
   parts = refl;
-  end = nothing_yet;
+  end = nothing_yet saved;
   said = [];
   converses = (refl, refl);
+  holds = refl;
   written = ([], sent_none old []);
 }
 
 -- a text that is no script
-pub file_fault : (text : List ℕ) (old : Option (List ℕ)) (fault : Fault) → Gives {A = ScriptModel} (Err fault) (script_of text)
-    → BeginsFile text old old fault
-file_fault text old (BadScript n) gives = gives
-file_fault text old TooLong gives = gives
-file_fault text old OutOfMemory gives = nothing_entered text old
-file_fault text old ReadFailed gives = absurd gives
-file_fault text old WriteFailed gives = absurd gives
-
--- the lines of a script were begun
-pub lines_fault : {X : Type 0} (text : List ℕ) (old new : Option (List ℕ)) (r : Result X Fault) → IfErr r IsOutputFault
-    → OnErr r (BeginsLines text old new) → IfErr r (BeginsFile text old new)
-lines_fault text old new (Ok x) is begins = tt
-lines_fault text old new (Err OutOfMemory) is begins = begins
-lines_fault text old new (Err WriteFailed) is begins = begins
-lines_fault text old new (Err ReadFailed) is begins = absurd is
-lines_fault text old new (Err (BadScript n)) is begins = absurd is
-lines_fault text old new (Err TooLong) is begins = absurd is
+pub file_fault : (text : List ℕ) (saved : List SavedFile) (old : Option (List ℕ)) (fault : Fault)
+    → Gives {A = ScriptModel} (Err fault) (script_of text) → BeginsFile text saved saved old old fault
+file_fault text saved old (BadScript n) gives = gives
+file_fault text saved old TooLong gives = gives
+file_fault text saved old OutOfMemory gives = nothing_entered text saved old
+file_fault text saved old ReadFailed gives = absurd gives
+file_fault text saved old WriteFailed gives = absurd gives
 
 -- ---- the whole dialogue
 
--- the session of no lines is begun with
-pub begun_new : (session : Session) (old : Option (List ℕ)) → IsNew session → BeginsWith None session old old
-begun_new session old new = record { greeting = []; begins = (new.0, refl); right = new.1; written = Appends-nil old }
-
--- the session of a script is begun with
-pub begun_script : (text : List ℕ) (session : Session) (old new : Option (List ℕ)) → IsOk (script_of text) → AnswersLines text session old new
-    → BeginsWith (Some text) session old new
-begun_script text session old new is lines =
-    record { greeting = lines.said; begins = (is, lines.converses); right = lines.right; written = lines.written }
-
--- the dialogue did not begin
-pub talks_not : (first : Option (List ℕ)) (prompt : Bool) (left old new : Option (List ℕ)) (fault : Fault) → BeginsFirst first old new fault
-    → Talks first prompt left left old new (Err fault)
-talks_not None prompt left old new fault begins = absurd begins
-talks_not (Some text) prompt left old new (BadScript n) begins = begins
-talks_not (Some text) prompt left old new TooLong begins = begins
-talks_not (Some text) prompt left old new OutOfMemory begins = inl (refl, begins)
-talks_not (Some text) prompt left old new WriteFailed begins = inl (refl, begins)
-talks_not (Some text) prompt left old new ReadFailed begins = absurd begins
-
--- the dialogue began, and went on
-module _ (first : Option (List ℕ)) (prompt : Bool) (left rest old mid new : Option (List ℕ)) (session : Session)
-    (begins : BeginsWith first session old mid) where
-  greets : (GoesOn : Talk → Option (List ℕ) → Type 0) → GoesOn (talk_of session) mid → Greets first old GoesOn
-  greets GoesOn goes_on =
-      record {
-        begun = talk_of session;
-        greeting = begins.greeting;
-        begins = begins.begins;
-        mid = mid;
-        written = begins.written;
-        goes_on = goes_on;
-      }
-
-  pub talks_on : (r : Result (Unit {0}) Fault) → TalksOn prompt (talk_of session) left rest mid new r → Talks first prompt left rest old new r
-  talks_on (Ok u) on = greets (λ begun mid. TalksOn prompt begun left rest mid new (Ok u)) on
-  talks_on (Err OutOfMemory) on = inr (greets (λ begun mid. TalksOn prompt begun left rest mid new (Err OutOfMemory)) on)
-  talks_on (Err WriteFailed) on = inr (greets (λ begun mid. TalksOn prompt begun left rest mid new (Err WriteFailed)) on)
-  talks_on (Err ReadFailed) on = greets (λ begun mid. TalksOn prompt begun left rest mid new (Err ReadFailed)) on
-  talks_on (Err (BadScript n)) on = absurd on
-  talks_on (Err TooLong) on = absurd on
-
 -- without a script to begin with the session is new
-pub begins_none : (first : Option (List ℕ)) (session : Session) (w : Option (List ℕ)) → first ≡ None → IsNew session
-    → BeginsWith first session w w
-begins_none first session w none new = record {
+pub begins_none : (first : Option (List ℕ)) (session : Session) (saved : List SavedFile) (w : Option (List ℕ)) → first ≡ None
+    → IsNew session → BeginsWith first session saved saved w w
+begins_none first session saved w none new = record {
   greeting = [];
-  begins = subst (λ (f : Option (List ℕ)). Begins f (talk_of session) []) (sym none) (new.0, refl);
+  begins = subst (λ (f : Option (List ℕ)). Begins f saved (talk_of saved session) []) (sym none) (new.0 saved, refl);
   right = new.1;
   written = Appends-nil w;
 }

@@ -11,6 +11,7 @@ use Rattle.histar_script.specs.Reading.{script_of}
 use Rattle.histar_trace.specs.declared.entries.TraceEntry.{TraceEntry}
 use Rattle.histar_shell.specs.declared.session.Options.{Options}
 use Rattle.histar_shell.specs.Run.{RunsText}
+use Rattle.histar_run_explain.specs.Output.{IsExplainedOutput}
 use Rattle.histar_access.specs.Session.{AccessText}
 use Rattle.histar_trust.specs.declared.session.TrustOptions.{TrustOptions}
 use Rattle.histar_trust.specs.Session.{FlowsText, TrustText}
@@ -35,6 +36,10 @@ with_trace = record { tree = false; trace = true }
 -- this is what `run` writes of a text with these options
 abbrev pub IsRun : Options → List ℕ → List ℕ → Type 0
 IsRun options text output = (trace : List TraceEntry) × RunsText options text (Some []) (Some output) (Ok trace)
+
+-- this is what `run --explain` writes of a text
+abbrev pub IsExplained : List ℕ → List ℕ → Type 0
+IsExplained text output = IsExplainedOutput of_replies text output
 
 -- this is what `run` writes with these options behind the replies
 abbrev pub IsBehindReplies : Options → List ℕ → List ℕ → Type 0

@@ -2,8 +2,10 @@
 pub mod Input
 pub mod Texts
 pub mod Commands
+pub mod Shelf
 pub mod Talk
 pub mod Parts
+pub mod Claims
 pub mod Asked
 pub mod Running
 pub mod Refusals

@@ -9,9 +9,13 @@ use Rattle.histar_script.specs.Lines.{split_word}
 abbrev pub line_at : Path → List ℕ → List ℕ
 line_at path line = if bytes_eq (split_word line).0 (path_text path) then line ++ 10 ∷ [] else []
 
+-- the answer where nothing is at a path
+abbrev pub no_entry_text : List ℕ
+no_entry_text = codes "no entry\n"
+
 -- the text, or that there is no entry if it is empty
 abbrev pub or_no_entry : List ℕ → List ℕ
-or_no_entry [] = codes "no entry\n"
+or_no_entry [] = no_entry_text
 or_no_entry (b ∷ text) = b ∷ text
 
 -- a line of replies without its number

@@ -1,6 +1,7 @@
 -- A session that is entered line by line, and the answer to each line.
-use Rattle.std.specs.Prelude.{◌≡◌, ℕ, ◌+◌, ◌⊎◌, nat_lt, List, [], ◌++◌, length}
-use Rattle.std.specs.Prelude.{Option, None, Some, Result, Ok, Err, IsOk, MatchBool}
+use Rattle.std.specs.Prelude.{◌≡◌, ℕ, ◌+◌, ◌⊎◌, nat_lt, List, [], ◌∷◌, ◌++◌, length}
+use Rattle.std.specs.Prelude.{Option, None, Some, Result, Ok, Err, IsOk, MatchBool, MatchOption}
+use Rattle.histar_flat.specs.Words.{Path}
 use Rattle.histar_script.specs.declared.fault.Fault.{Fault}
 use Rattle.histar_script.specs.declared.fault.Fault.TheVariants.{BadScript, TooLong}
 use Rattle.histar_script.specs.declared.fault.Fault.TheVariants.{OutOfMemory, ReadFailed, WriteFailed}
@@ -12,14 +13,16 @@ use Rattle.histar_dialogue.specs.declared.commands.Command.{Command}
 use Rattle.histar_dialogue.specs.declared.commands.Command.TheVariants as commands
 use Rattle.histar_dialogue.specs.declared.running.Running.{Running}
 use Rattle.histar_dialogue.specs.declared.session.Session.{Session}
-use Rattle.histar_dialogue.specs.Asked.{IsAnswer, IsRun, LacksUser, Shows, of_replies}
-use Rattle.histar_dialogue.specs.Commands.{command_of, help_text, is_command, misused_text}
-use Rattle.histar_dialogue.specs.Commands.{no_call_text, too_long_text, unknown_text}
-use Rattle.histar_dialogue.specs.Parts.{expecting}
-use Rattle.histar_dialogue.specs.Refusals.{why_text}
+use Rattle.histar_dialogue.specs.Asked.{IsAnswer, IsRun, IsTable, LacksUser, Shows, of_replies}
+use Rattle.histar_dialogue.specs.Claims.{claims_at}
+use Rattle.histar_dialogue.specs.Commands.{command_of, saved_as, help_text, is_command, is_there_text, misused_text}
+use Rattle.histar_dialogue.specs.Commands.{no_call_text, not_written_text, too_long_text, unknown_text}
+use Rattle.histar_dialogue.specs.Parts.{expecting, no_entry_text}
+use Rattle.histar_dialogue.specs.Refusals.{Explains}
 use Rattle.histar_dialogue.specs.Running.{HasRun, said_behind}
-use Rattle.histar_dialogue.specs.Talk.{Talk, entered_again, nothing_yet, spoken, taken_back, with_text}
-use Rattle.histar_dialogue.specs.Texts.{SaysRule, with_line}
+use Rattle.histar_dialogue.specs.Shelf.{SavedFile}
+use Rattle.histar_dialogue.specs.Talk.{Talk, entered_again, nothing_yet, with_file, spoken, spoken_by, taken_back, with_text}
+use Rattle.histar_dialogue.specs.Texts.{SaysRule}
 
 -- How a line is answered, by what the session with this line behind it is read as: as a script, it is added, and its call is answered, if it
 -- has one; where only a user is missing, it is added; where it is bad, it isn't added, and the answer is the sentence of the first rule
@@ -35,10 +38,13 @@ AnswersRead talk longer (Err OutOfMemory) after said = ⊥
 AnswersRead talk longer (Err ReadFailed) after said = ⊥
 AnswersRead talk longer (Err WriteFailed) after said = ⊥
 
+-- how some text behind the session is answered: as one line is, however many it has
+abbrev pub AnswersText : Talk → List ℕ → Talk → List ℕ → Type 0
+AnswersText talk more after said = AnswersRead talk (talk.text ++ more) (script_of (talk.text ++ more)) after said
+
 -- how a line of a script is answered
 abbrev pub AnswersLine : Talk → List ℕ → Talk → List ℕ → Type 0
-AnswersLine talk line after said =
-    AnswersRead talk (with_line talk.text line) (script_of (with_line talk.text line)) after said
+AnswersLine talk line after said = AnswersText talk (line ++ 10 ∷ []) after said
 
 -- the answers to the calls of a session behind its first lines, if it is a script
 abbrev pub answers_of : ℕ → Result ScriptModel Fault → List ℕ
@@ -57,26 +63,45 @@ Expects talk after said =
     × ExpectsLast talk (expecting None (lines_of replies)) after said)
     ⊎ ((after ≡ talk) × LacksUser talk.text said)
 
+-- the claims are taken as a line is, all at once; without one there is no entry
+abbrev pub ExpectsClaims : Talk → List ℕ → Talk → List ℕ → Type 0
+ExpectsClaims talk [] after said = (after ≡ talk) × (said ≡ no_entry_text)
+ExpectsClaims talk (b ∷ claims) after said = AnswersText talk (b ∷ claims) after said
+
+-- what each process may do at a path, by the table of the session, is claimed; or there is no user as yet
+abbrev pub ExpectsAt : Path → Talk → Talk → List ℕ → Type 0
+ExpectsAt path talk after said =
+    ((table : List ℕ) × IsTable talk.text table
+    × ExpectsClaims talk (claims_at path (lines_of table)) after said)
+    ⊎ ((after ≡ talk) × LacksUser talk.text said)
+
 -- how a command is answered
 abbrev pub ObeysCommand : Command → Talk → Talk → List ℕ → Type 0
 ObeysCommand commands.Help talk after said = (after ≡ talk) × (said ≡ help_text)
-ObeysCommand commands.Why talk after said = (after ≡ talk) × (said ≡ why_text (script_of talk.text))
+ObeysCommand commands.Why talk after said = (after ≡ talk) × Explains talk.text said
 ObeysCommand (commands.Show ask) talk after said = (after ≡ talk) × Shows (IsAnswer ask) talk.text said
 ObeysCommand (commands.Undo n) talk after said = (after ≡ taken_back n talk) × (said ≡ [])
 ObeysCommand (commands.Redo n) talk after said =
     (after ≡ entered_again n talk)
     × (said ≡ answers_of (length (lines_of talk.text)) (script_of (entered_again n talk).text))
-ObeysCommand (commands.As process) talk after said =
-    (after ≡ record { text = talk.text; undone = talk.undone; speaker = process }) × (said ≡ [])
+ObeysCommand (commands.As process) talk after said = (after ≡ spoken_by process talk) × (said ≡ [])
 ObeysCommand commands.Expect talk after said = Expects talk after said
+ObeysCommand (commands.ExpectAt path) talk after said = ExpectsAt path talk after said
 ObeysCommand commands.Session talk after said = (after ≡ talk) × (said ≡ talk.text)
 ObeysCommand commands.Quit talk after said = (after ≡ talk) × (said ≡ [])
 ObeysCommand commands.Misused talk after said = (after ≡ talk) × (said ≡ misused_text)
 ObeysCommand commands.Unknown talk after said = (after ≡ talk) × (said ≡ unknown_text)
 
--- how a line that begins with a colon is answered
+-- the session is saved as a new file of this name, without an answer; or it isn't, and the answer says why
+abbrev pub Saves : List ℕ → Talk → Talk → List ℕ → Type 0
+Saves name talk after said =
+    ((after ≡ with_file name talk) × (said ≡ []))
+    ⊎ ((after ≡ talk) × ((said ≡ is_there_text) ⊎ (said ≡ not_written_text)))
+
+-- how a line that begins with a colon is answered: as a command, or by saving the session
 abbrev pub Obeys : Talk → List ℕ → Talk → List ℕ → Type 0
-Obeys talk line after said = ObeysCommand (command_of line) talk after said
+Obeys talk line after said =
+    MatchOption (saved_as line) (ObeysCommand (command_of line) talk after said) (λ name. Saves name talk after said)
 
 -- how a line that begins with no colon is answered: as it is read
 abbrev pub AnswersSpoken : Talk → List ℕ → Talk → List ℕ → Type 0
@@ -95,9 +120,9 @@ abbrev pub IsRunning : List ℕ → Option Running → Type 0
 IsRunning text None = script_of text ≡ Err (BadScript (length (lines_of text) + 1))
 IsRunning text (Some r) = (script : ScriptModel) × HasRun text r script
 
--- the state of a dialogue that a session is
-abbrev pub talk_of : Session → Talk
-talk_of s = record { text = s.text.items; undone = s.undone.items; speaker = s.speaker }
+-- the state of a dialogue that a session is, where these files were saved
+abbrev pub talk_of : List SavedFile → Session → Talk
+talk_of saved s = record { text = s.text.items; undone = s.undone.items; speaker = s.speaker; saved = saved }
 
 -- the text is a script, or has no user as yet
 abbrev pub IsBegun : List ℕ → Type 0
@@ -114,23 +139,28 @@ pub record IsRight (s : Session) : Type 0 where
 
 -- a session of no lines
 abbrev pub IsNew : Session → Type 0
-IsNew s = (talk_of s ≡ nothing_yet) × IsRight s
+IsNew s = ((saved : List SavedFile) → talk_of saved s ≡ nothing_yet saved) × IsRight s
 
--- a right session was left as this says, and it is right
+-- a right session was left as this says of a line, whatever was saved, and it is right
 abbrev pub FollowsBy : (Talk → List ℕ → Talk → List ℕ → Type 0) → Session → Session → List ℕ → List ℕ → Type 0
-FollowsBy Says old new line said = IsRight old → Says (talk_of old) line (talk_of new) said × IsRight new
+FollowsBy Says old new line said =
+    IsRight old → ((saved : List SavedFile) → Says (talk_of saved old) line (talk_of saved new) said) × IsRight new
 
--- a right session answered a line, and it is right
-abbrev pub Follows : Session → Session → List ℕ → List ℕ → Type 0
-Follows old new line said = FollowsBy Answers old new line said
-
--- a right session was left as this says, and it is right
+-- a right session was left as this says, whatever was saved, and it is right
 abbrev pub FollowsSo : (Talk → Talk → List ℕ → Type 0) → Session → Session → List ℕ → Type 0
-FollowsSo Says old new said = IsRight old → Says (talk_of old) (talk_of new) said × IsRight new
+FollowsSo Says old new said =
+    IsRight old → ((saved : List SavedFile) → Says (talk_of saved old) (talk_of saved new) said) × IsRight new
+
+-- a right session answered a line, before and behind which these files were saved, and it is right
+abbrev pub Follows : List SavedFile → List SavedFile → Session → Session → List ℕ → List ℕ → Type 0
+Follows saved more old new line said =
+    IsRight old → Answers (talk_of saved old) line (talk_of more new) said × IsRight new
 
 -- the session has this text, and these lines of it were taken back; the answers are those to its calls behind the first lines
 pub record Became (first : ℕ) (old new : Session) (text undone said : List ℕ) : Type 0 where
-  pub talk : talk_of new ≡ record { text = text; undone = undone; speaker = old.speaker }
+  pub talk :
+      (saved : List SavedFile)
+      → talk_of saved new ≡ record { text = text; undone = undone; speaker = old.speaker; saved = saved }
   pub said_so : said ≡ answers_of first (script_of text)
   pub right : IsRight new
 

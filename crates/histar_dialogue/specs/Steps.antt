@@ -1,5 +1,5 @@
 -- The steps by which a session takes a line.
-use Rattle.std.specs.Prelude.{◌≡◌, ℕ, ◌+◌, ◌<◌, ◌≤◌, nat_lt, List}
+use Rattle.std.specs.Prelude.{◌≡◌, ℕ, ◌+◌, ◌<◌, ◌≤◌, ◌⊎◌, nat_lt, List}
 use Rattle.std.specs.Prelude.{[], length, Option, None, Some, is_some, true, MatchBool}
 use Rattle.histar_script.specs.Lines.{lines_of, most_script_bytes, most_script_lines}
 use Rattle.histar_dialogue.specs.declared.running.Running.{Running}
@@ -25,6 +25,11 @@ pub record IsPushed (old new : Session) (line : List ℕ) : Type 0 where
   pub count : new.count ≡ old.count + 1
   pub running : new.running ≡ old.running
   pub speaker : new.speaker ≡ old.speaker
+
+-- the session has its text, perhaps with one line more
+abbrev pub KeepsText : Session → Session → Type 0
+KeepsText old new =
+    (new.text.items ≡ old.text.items) ⊎ ((line : List ℕ) × (new.text.items ≡ with_line old.text.items line))
 
 -- the session has this text, which was counted, and this machine
 pub record IsRestarted (old new : Session) (longer : List ℕ) (found : Option Running) : Type 0 where

@@ -1,6 +1,7 @@
 //! What is shown of a session: what a subcommand of the program writes of it.
 ghost use Rattle.std.specs.Prelude.{◌≡◌, IfErr, IfOk};
-ghost use Rattle.histar_dialogue.specs.Asked.{IsAnswer, IsBehindReplies, IsRun, OrNoUser, Shows, of_replies};
+ghost use Rattle.histar_dialogue.specs.Asked.{IsAnswer, IsBehindReplies, IsExplained, IsRun, IsTable, OrNoUser};
+ghost use Rattle.histar_dialogue.specs.Asked.{Shows, of_replies};
 ghost use Rattle.histar_run_explain.specs.Output.{GivesText};
 
 use crate::commands::{Asked, no_user_text};
@@ -8,7 +9,7 @@ use crate::parts::{lines_at, without_first};
 use histar_access::access;
 use histar_flat::Path;
 use histar_leak::leak;
-use histar_run_explain::in_memory;
+use histar_run_explain::{explained_output, in_memory};
 use histar_script::Fault;
 use histar_shell::{Counted, Options, run};
 use histar_trust::{TrustOptions, flows, trust};
@@ -76,8 +77,8 @@ fn answer_to(alloc: Global, text: &[u8], asked: Asked) -> Result<Vec<u8>, Fault>
 }
 
 /// Returns what `access` writes of the script in a text.
-fn table_of(alloc: Global, text: &[u8]) -> Result<Vec<u8>, Fault>
-    ensures { GivesText (IsAnswer Asked.Access) text.now result }
+pub(crate) fn table_of(alloc: Global, text: &[u8]) -> Result<Vec<u8>, Fault>
+    ensures { GivesText IsTable text.now result }
 {
     let mut reader = Counted::new(text);
     let mut writer = Counted::new(Vec::new(alloc));
@@ -148,6 +149,13 @@ pub(crate) fn replies_of(alloc: Global, text: &[u8]) -> Result<Vec<u8>, Fault>
     ensures { GivesText (IsRun of_replies) text.now result }
 {
     run_of(alloc, text, OF_REPLIES)
+}
+
+/// Returns what `run --explain` writes of the script in a text.
+pub(crate) fn explained_of(alloc: Global, text: &[u8]) -> Result<Vec<u8>, Fault>
+    ensures { GivesText IsExplained text.now result }
+{
+    explained_output(alloc, text, OF_REPLIES)
 }
 
 /// Returns what `run` writes with these options behind the replies of the script in a text.

@@ -1,7 +1,10 @@
 //! What a line that begins with a colon asks for.
 ghost use Rattle.std.specs.Prelude.{◌≡◌, IfOk};
-ghost use Rattle.histar_dialogue.specs.Commands.{command_alone, command_of, command_with, help_text, is_command};
-ghost use Rattle.histar_dialogue.specs.Commands.{count_of, misused_text, no_call_text, no_user_text, too_long_text, unknown_text};
+ghost use Rattle.std.specs.Option.{option_copied};
+ghost use Rattle.histar_dialogue.specs.Commands.{command_alone, command_of, command_with, count_of, saved_as, help_text, is_command};
+ghost use Rattle.histar_dialogue.specs.Commands.{is_there_text, misused_text, no_call_text, no_user_text, not_written_text};
+ghost use Rattle.histar_dialogue.specs.Commands.{asking_text, changing_text, command_at, some_bytes, takes_argument, takes_path};
+ghost use Rattle.histar_dialogue.specs.Commands.{too_long_text, unknown_text};
 
 use histar_flat::{Path, ProcName, read_number, read_path, read_process};
 use histar_script::split_word;
@@ -44,6 +47,8 @@ pub(crate) enum Command {
     As(Option<ProcName>),
     /// Adds the last reply as the expected one.
     Expect,
+    /// Adds what each process may do at a path as what is expected.
+    ExpectAt(Path),
     /// The session itself.
     Session,
     /// The end.
@@ -102,32 +107,27 @@ fn command_alone(word: &[u8]) -> Command
         Command::Session
     } else if word == b":quit".as_slice() {
         Command::Quit
-    } else if word == b":trust".as_slice() || word == b":leak".as_slice() {
+    } else if takes_argument(word) {
         Command::Misused
     } else {
         Command::Unknown
     }
 }
 
+/// Checks whether a word asks for something only with what is behind it.
+fn takes_argument(word: &[u8]) -> bool
+    ensures { result ≡ takes_argument word.now }
+{
+    word == b":trust".as_slice() || word == b":leak".as_slice() || word == b":save".as_slice()
+}
+
 /// Returns what a word asks for with what is behind it.
 fn command_with(word: &[u8], argument: &[u8]) -> Command
     ensures { result ≡ command_with word.now argument.now }
 {
-    if word == b":access".as_slice() {
+    if takes_path(word) {
         return match read_path(argument) {
-            Some(path) => Command::Show(Asked::AccessAt(path)),
-            None => Command::Misused,
-        };
-    }
-    if word == b":trust".as_slice() {
-        return match read_path(argument) {
-            Some(path) => Command::Show(Asked::Trust(path)),
-            None => Command::Misused,
-        };
-    }
-    if word == b":leak".as_slice() {
-        return match read_path(argument) {
-            Some(path) => Command::Show(Asked::Leak(path)),
+            Some(path) => command_at(word, path),
             None => Command::Misused,
         };
     }
@@ -149,7 +149,35 @@ fn command_with(word: &[u8], argument: &[u8]) -> Command
             None => Command::Misused,
         };
     }
+    if word == b":save".as_slice() {
+        return Command::Misused;
+    }
     Command::Unknown
+}
+
+/// Checks whether a word takes a path.
+fn takes_path(word: &[u8]) -> bool
+    ensures { result ≡ takes_path word.now }
+{
+    word == b":access".as_slice()
+        || word == b":trust".as_slice()
+        || word == b":leak".as_slice()
+        || word == b":expect".as_slice()
+}
+
+/// Returns what a word that takes a path asks for at this one.
+fn command_at(word: &[u8], path: Path) -> Command
+    ensures { result ≡ command_at word.now path }
+{
+    if word == b":access".as_slice() {
+        Command::Show(Asked::AccessAt(path))
+    } else if word == b":trust".as_slice() {
+        Command::Show(Asked::Trust(path))
+    } else if word == b":leak".as_slice() {
+        Command::Show(Asked::Leak(path))
+    } else {
+        Command::ExpectAt(path)
+    }
 }
 
 /// Returns the number of lines that a word spells.
@@ -163,6 +191,15 @@ fn count_of(word: &[u8]) -> Option<u64>
 pub(crate) fn help_text(alloc: Global) -> Result<Vec<u8>, AllocError>
     ensures { IfOk result (λ text. text.items ≡ help_text) }
 {
+    let mut text = asking_text(alloc)?;
+    text.extend_from_slice(changing_text(alloc)?.as_slice())?;
+    Ok(text)
+}
+
+/// Returns the list of the commands that ask for something.
+fn asking_text(alloc: Global) -> Result<Vec<u8>, AllocError>
+    ensures { IfOk result (λ text. text.items ≡ asking_text) }
+{
     let mut text = Vec::new(alloc);
     text.extend_from_slice(b":help           this list\n")?;
     text.extend_from_slice(b":why            why the last call that was refused was refused\n")?;
@@ -174,6 +211,14 @@ pub(crate) fn help_text(alloc: Global) -> Result<Vec<u8>, AllocError>
     text.extend_from_slice(b":flows          to whom each process can pass on what it learns\n")?;
     text.extend_from_slice(b":tree           each file and directory\n")?;
     text.extend_from_slice(b":trace          each raw call, and why it was denied\n")?;
+    Ok(text)
+}
+
+/// Returns the list of the others.
+fn changing_text(alloc: Global) -> Result<Vec<u8>, AllocError>
+    ensures { IfOk result (λ text. text.items ≡ changing_text) }
+{
+    let mut text = Vec::new(alloc);
     text.extend_from_slice(b":undo [N]       takes back the last line, or the last N lines\n")?;
     text.extend_from_slice(
         b":redo [N]       enters the next line that was taken back, or the next N\n",
@@ -181,8 +226,11 @@ pub(crate) fn help_text(alloc: Global) -> Result<Vec<u8>, AllocError>
     text.extend_from_slice(
         b":as [PROC]      reads a line that begins with no process as one of PROC\n",
     )?;
-    text.extend_from_slice(b":expect         adds the last reply as the expected one\n")?;
+    text.extend_from_slice(
+        b":expect [PATH]  adds the last reply as the expected one, or what each process may do at this path\n",
+    )?;
     text.extend_from_slice(b":session        the session, which is a script\n")?;
+    text.extend_from_slice(b":save FILE      writes the session into a new file\n")?;
     text.extend_from_slice(b":quit           ends, as the end of input does\n")?;
     Ok(text)
 }
@@ -226,4 +274,41 @@ pub(crate) fn no_call_text(alloc: Global) -> Result<Vec<u8>, AllocError>
     ensures { IfOk result (λ text. text.items ≡ no_call_text) }
 {
     Vec::from_slice(alloc, b"no call was made\n".as_slice())
+}
+
+/// Returns the name of the file as which a line saves the session, if it does.
+pub(crate) fn saved_as<'a>(line: &'a [u8]) -> Option<&'a [u8]>
+    ensures { option_copied result ≡ saved_as line.entry.now }
+{
+    let (word, name) = split_word(line);
+    if word == b":save".as_slice() {
+        some_bytes(name)
+    } else {
+        None
+    }
+}
+
+/// Returns the text, if it has a byte.
+fn some_bytes<'a>(text: Option<&'a [u8]>) -> Option<&'a [u8]>
+    ensures { option_copied result ≡ some_bytes (option_copied text.entry) }
+{
+    match text {
+        None => None,
+        Some([]) => None,
+        Some(bytes) => Some(bytes),
+    }
+}
+
+/// Returns the answer where a file to save the session in is there.
+pub(crate) fn is_there_text(alloc: Global) -> Result<Vec<u8>, AllocError>
+    ensures { IfOk result (λ text. text.items ≡ is_there_text) }
+{
+    Vec::from_slice(alloc, b"there is such a file already\n".as_slice())
+}
+
+/// Returns the answer where a file can't be written.
+pub(crate) fn not_written_text(alloc: Global) -> Result<Vec<u8>, AllocError>
+    ensures { IfOk result (λ text. text.items ≡ not_written_text) }
+{
+    Vec::from_slice(alloc, b"the file can't be written\n".as_slice())
 }

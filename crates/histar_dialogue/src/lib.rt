@@ -2,6 +2,7 @@
 #![tactic(auto)]
 
 mod asked;
+mod claims;
 mod commands;
 mod dialogue;
 mod input;
@@ -9,9 +10,11 @@ mod parts;
 mod refusals;
 mod running;
 mod session;
+mod shelf;
 mod speaking;
 mod texts;
 mod undoing;
 
 pub use dialogue::converse;
 pub use session::Session;
+pub use shelf::{MemoryShelf, SaveFault, Shelf};

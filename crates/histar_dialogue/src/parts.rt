@@ -2,7 +2,7 @@
 //! replies.
 ghost use Rattle.std.specs.Prelude.{◌≡◌, ◌++◌, codes, drop, None, IfOk, OnOk, option_map};
 ghost use Rattle.std.specs.List.{flat_map};
-ghost use Rattle.histar_dialogue.specs.Parts.{expecting, line_at, or_no_entry, without_number};
+ghost use Rattle.histar_dialogue.specs.Parts.{expecting, line_at, no_entry_text, or_no_entry, without_number};
 ghost use Rattle.histar_flat.specs.Texts.{path_text};
 ghost use Rattle.histar_script.specs.Lines.{lines_of};
 
@@ -21,9 +21,16 @@ pub(crate) fn lines_at(alloc: Global, table: &[u8], path: &Path) -> Result<Vec<u
     let mut text = Vec::new(alloc);
     push_lines_of(&mut text, table, path, name.as_slice())?;
     if text.is_empty() {
-        text.extend_from_slice(b"no entry\n")?;
+        return no_entry_text(alloc);
     }
     Ok(text)
+}
+
+/// Returns the answer where nothing is at a path.
+pub(crate) fn no_entry_text(alloc: Global) -> Result<Vec<u8>, AllocError>
+    ensures { IfOk result (λ text. text.items ≡ no_entry_text) }
+{
+    Vec::from_slice(alloc, b"no entry\n".as_slice())
 }
 
 /// Adds the lines of a table that are of a path of this name.

@@ -1,24 +1,28 @@
 //! A session that grows by the lines that are entered, and the answer to each line.
-ghost use Rattle.std.specs.Prelude.{◌≡◌, ◌+◌, Err, IfErr, IfOk, IfSome, IsTrue, OnOk, Some, is_some, length, true, option_map};
-ghost use Rattle.histar_dialogue.specs.Session.{AnswersLine, AnswersSpoken, Becomes, Expects, ExpectsLast, Follows, FollowsBy};
-ghost use Rattle.histar_dialogue.specs.Session.{FollowsSo, IsNew, IsRight, Obeys, ObeysCommand};
-ghost use Rattle.histar_dialogue.specs.Steps.{AnswersOn, HasRoom, IsPushed, IsRestarted, MayGrow, Refuses};
+ghost use Rattle.std.specs.Prelude.{◌≡◌, ◌+◌, Err, IfErr, IfOk, IfSome, IsTrue, OnErr, OnOk, Some, is_some, length, true, option_map};
+ghost use Rattle.histar_dialogue.specs.Session.{AnswersLine, AnswersSpoken, AnswersText, Becomes, Expects, ExpectsAt};
+ghost use Rattle.histar_dialogue.specs.Session.{ExpectsClaims, ExpectsLast, Follows, FollowsBy, FollowsSo, IsNew, IsRight};
+ghost use Rattle.histar_dialogue.specs.Session.{Obeys, ObeysCommand, Saves, talk_of};
+ghost use Rattle.histar_dialogue.specs.Steps.{AnswersOn, HasRoom, IsPushed, IsRestarted, KeepsText, MayGrow, Refuses};
+ghost use Rattle.histar_script.specs.Laws.{EndsItsLines};
 ghost use Rattle.histar_script.specs.Lines.{lines_of};
 ghost use Rattle.histar_script.specs.Reading.{item_of, script_of};
 ghost use Rattle.histar_script.specs.Script.{is_declared_call};
 
-use crate::asked::{or_no_user, replies_of, shown};
+use crate::asked::{or_no_user, replies_of, shown, table_of};
+use crate::claims::claims_at;
 use crate::commands::{
-    Command, command_of, help_text, is_command, misused_text, no_call_text, too_long_text,
-    unknown_text,
+    Command, command_of, help_text, is_command, is_there_text, misused_text, no_call_text,
+    not_written_text, saved_as, too_long_text, unknown_text,
 };
-use crate::parts::expecting;
-use crate::refusals::why_text;
+use crate::parts::{expecting, no_entry_text};
+use crate::refusals::explained_reason;
 use crate::running::{Running, run_behind};
+use crate::shelf::{SaveFault, Shelf};
 use crate::speaking::spoken;
-use crate::texts::{count_lines, has_room, joined, push_line, rule_text, with_line};
+use crate::texts::{count_lines, ended, has_room, joined, push_line, rule_text};
 use crate::undoing::bytes_of_lines;
-use histar_flat::{CallLine, ProcName, UnixCall};
+use histar_flat::{CallLine, Path, ProcName, UnixCall};
 use histar_script::{Fault, Item, is_declared_call, read_item};
 use std::alloc::{AllocError, Global};
 
@@ -46,6 +50,13 @@ impl Session {
         }
     }
 
+    /// Returns the text of the session.
+    pub(crate) fn text(&self) -> &[u8]
+        ensures { result.now ≡ self.now.text.items }
+    {
+        self.text.as_slice()
+    }
+
     /// Returns the number that the next line of the session will have.
     pub(crate) fn next_number(&self) -> u64
         requires { IsRight self.now }
@@ -58,16 +69,42 @@ impl Session {
     ///
     /// It has no source, so a line is answered before any more is read. A call costs what a call
     /// costs, however long the session is; a bad line, a declaration and a command may cost what
-    /// the session cost so far. After an `Err`, which says that memory ran out, the session is of
-    /// no more use.
-    pub fn answer(&mut self, alloc: Global, line: &[u8]) -> Result<Vec<u8>, Fault>
-        ensures ok { IfOk result (λ said. Follows self.old self.new line.now said.items) }
+    /// the session cost so far. Only a line `:save FILE` reaches the shelf. After an `Err`, which
+    /// says that memory ran out, no more lines can be answered, but the session has its text.
+    pub fn answer<S: Shelf>(
+        &mut self,
+        alloc: Global,
+        line: &[u8],
+        shelf: &mut S,
+    ) -> Result<Vec<u8>, Fault>
+        ensures ok { IfOk result (λ said. Follows (S.saved shelf.old) (S.saved shelf.new)
+            self.old self.new line.now said.items) }
         ensures err { IfErr result (λ fault. fault ≡ Fault.OutOfMemory) }
+
+        // Where memory runs out nothing is saved, and the session keeps its text, perhaps with the line.
+        ensures unsaved { OnErr result (S.saved shelf.new ≡ S.saved shelf.old) }
+        ensures kept { OnErr result (KeepsText self.old self.new) }
     {
-        if is_command(line) {
-            self.obey(alloc, command_of(line))
-        } else {
-            self.take_spoken(alloc, line)
+        if !is_command(line) {
+            return self.take_spoken(alloc, line);
+        }
+        match saved_as(line) {
+            Some(name) => self.save(alloc, name, shelf),
+            None => self.obey(alloc, command_of(line)),
+        }
+    }
+
+    /// Saves the session as a new file of this name.
+    fn save<S: Shelf>(&self, alloc: Global, name: &[u8], shelf: &mut S) -> Result<Vec<u8>, Fault>
+        ensures ok { IfOk result (λ said. Saves name.now (talk_of (S.saved shelf.old) self.now)
+            (talk_of (S.saved shelf.new) self.now) said.items) }
+        ensures err { IfErr result (λ fault. fault ≡ Fault.OutOfMemory) }
+        ensures unsaved { OnErr result (S.saved shelf.new ≡ S.saved shelf.old) }
+    {
+        match shelf.save(name, self.text.as_slice()) {
+            Ok(()) => Ok(Vec::new(alloc)),
+            Err(SaveFault::IsThere) => Ok(is_there_text(alloc)?),
+            Err(SaveFault::Failed) => Ok(not_written_text(alloc)?),
         }
     }
 
@@ -75,10 +112,11 @@ impl Session {
     fn obey(&mut self, alloc: Global, command: Command) -> Result<Vec<u8>, Fault>
         ensures ok { IfOk result (λ said. FollowsSo (ObeysCommand command) self.old self.new said.items) }
         ensures err { IfErr result (λ fault. fault ≡ Fault.OutOfMemory) }
+        ensures kept { OnErr result (KeepsText self.old self.new) }
     {
         match command {
             Command::Help => Ok(help_text(alloc)?),
-            Command::Why => why_text(alloc, self.text.as_slice()),
+            Command::Why => explained_reason(alloc, self.text.as_slice()),
             Command::Show(asked) => shown(alloc, self.text.as_slice(), asked),
             Command::Undo(count) => self.undo(alloc, count),
             Command::Redo(count) => self.redo(alloc, count),
@@ -87,6 +125,7 @@ impl Session {
                 Ok(Vec::new(alloc))
             }
             Command::Expect => self.expect(alloc),
+            Command::ExpectAt(path) => self.expect_at(alloc, &path),
             Command::Session => Ok(Vec::from_slice(alloc, self.text.as_slice())?),
             Command::Quit => Ok(Vec::new(alloc)),
             Command::Misused => Ok(misused_text(alloc)?),
@@ -98,6 +137,7 @@ impl Session {
     fn undo(&mut self, alloc: Global, count: u64) -> Result<Vec<u8>, Fault>
         ensures ok { IfOk result (λ said. FollowsSo (ObeysCommand (Command.Undo count)) self.old self.new said.items) }
         ensures err { IfErr result (λ fault. fault ≡ Fault.OutOfMemory) }
+        ensures kept { OnErr result (self.new.text.items ≡ self.old.text.items) }
     {
         let kept = (self.count as u64).saturating_sub(count);
         let at = bytes_of_lines(self.text.as_slice(), kept);
@@ -113,6 +153,7 @@ impl Session {
     fn redo(&mut self, alloc: Global, count: u64) -> Result<Vec<u8>, Fault>
         ensures ok { IfOk result (λ said. FollowsSo (ObeysCommand (Command.Redo count)) self.old self.new said.items) }
         ensures err { IfErr result (λ fault. fault ≡ Fault.OutOfMemory) }
+        ensures kept { OnErr result (self.new.text.items ≡ self.old.text.items) }
     {
         let at = bytes_of_lines(self.undone.as_slice(), count);
         let (front, back) = self.undone.as_slice().split_at(at);
@@ -133,6 +174,7 @@ impl Session {
     ) -> Result<Vec<u8>, Fault>
         ensures ok { IfOk result (λ said. Becomes first self.old self.new text.items undone.items said.items) }
         ensures err { IfErr result (λ fault. fault ≡ Fault.OutOfMemory) }
+        ensures kept { OnErr result (self.new.text.items ≡ self.old.text.items) }
     {
         match run_behind(alloc, text.as_slice(), first) {
             Ok((running, said)) => {
@@ -153,6 +195,7 @@ impl Session {
     fn expect(&mut self, alloc: Global) -> Result<Vec<u8>, Fault>
         ensures ok { IfOk result (λ said. FollowsSo Expects self.old self.new said.items) }
         ensures err { IfErr result (λ fault. fault ≡ Fault.OutOfMemory) }
+        ensures kept { OnErr result (KeepsText self.old self.new) }
     {
         match replies_of(alloc, self.text.as_slice()) {
             Ok(replies) => {
@@ -168,6 +211,7 @@ impl Session {
         ensures ok { IfOk result (λ said. FollowsSo (λ talk. ExpectsLast talk (option_map (λ line. line.items) found))
             self.old self.new said.items) }
         ensures err { IfErr result (λ fault. fault ≡ Fault.OutOfMemory) }
+        ensures kept { OnErr result (KeepsText self.old self.new) }
     {
         match found {
             None => Ok(no_call_text(alloc)?),
@@ -175,10 +219,39 @@ impl Session {
         }
     }
 
+    /// Takes the claims of the rights that each process has at a path, all at once.
+    fn expect_at(&mut self, alloc: Global, path: &Path) -> Result<Vec<u8>, Fault>
+        ensures ok { IfOk result (λ said. FollowsSo (ExpectsAt path.now) self.old self.new said.items) }
+        ensures err { IfErr result (λ fault. fault ≡ Fault.OutOfMemory) }
+        ensures kept { OnErr result (self.new.text.items ≡ self.old.text.items) }
+    {
+        match table_of(alloc, self.text.as_slice()) {
+            Ok(table) => {
+                let claims = claims_at(alloc, table.as_slice(), path)?;
+                self.take_claims(alloc, claims.as_slice())
+            }
+            Err(fault) => or_no_user(alloc, Err(fault)),
+        }
+    }
+
+    /// Takes claims as lines, if there is one.
+    fn take_claims(&mut self, alloc: Global, claims: &[u8]) -> Result<Vec<u8>, Fault>
+        requires { EndsItsLines claims.now }
+        ensures ok { IfOk result (λ said. FollowsBy ExpectsClaims self.old self.new claims.now said.items) }
+        ensures err { IfErr result (λ fault. fault ≡ Fault.OutOfMemory) }
+        ensures kept { OnErr result (self.new.text.items ≡ self.old.text.items) }
+    {
+        if claims.is_empty() {
+            return Ok(no_entry_text(alloc)?);
+        }
+        self.read_behind(alloc, claims)
+    }
+
     /// Takes a line, behind the process as which it is read if it lacks one.
     fn take_spoken(&mut self, alloc: Global, line: &[u8]) -> Result<Vec<u8>, Fault>
         ensures ok { IfOk result (λ said. FollowsBy AnswersSpoken self.old self.new line.now said.items) }
         ensures err { IfErr result (λ fault. fault ≡ Fault.OutOfMemory) }
+        ensures kept { OnErr result (KeepsText self.old self.new) }
     {
         let read = spoken(alloc, &self.speaker, line)?;
         self.take(alloc, read.as_slice())
@@ -188,6 +261,7 @@ impl Session {
     fn take(&mut self, alloc: Global, line: &[u8]) -> Result<Vec<u8>, Fault>
         ensures ok { IfOk result (λ said. FollowsBy AnswersLine self.old self.new line.now said.items) }
         ensures err { IfErr result (λ fault. fault ≡ Fault.OutOfMemory) }
+        ensures kept { OnErr result (KeepsText self.old self.new) }
     {
         match read_item(alloc, line)? {
             Some(item) => self.take_item(alloc, line, item),
@@ -200,6 +274,7 @@ impl Session {
         requires { item_of line.now ≡ Some item }
         ensures ok { IfOk result (λ said. FollowsBy AnswersLine self.old self.new line.now said.items) }
         ensures err { IfErr result (λ fault. fault ≡ Fault.OutOfMemory) }
+        ensures kept { OnErr result (KeepsText self.old self.new) }
     {
         match item {
             Item::Comment => self.take_comment(alloc, line),
@@ -220,6 +295,7 @@ impl Session {
         requires { item_of line.now ≡ Some (Item.Call process call) }
         ensures ok { IfOk result (λ said. FollowsBy AnswersLine self.old self.new line.now said.items) }
         ensures err { IfErr result (λ fault. fault ≡ Fault.OutOfMemory) }
+        ensures kept { OnErr result (KeepsText self.old self.new) }
     {
         if !self.may_take(line, &call) {
             drop(call);
@@ -240,6 +316,7 @@ impl Session {
         requires { item_of line.now ≡ Some Item.Comment }
         ensures ok { IfOk result (λ said. FollowsBy AnswersLine self.old self.new line.now said.items) }
         ensures err { IfErr result (λ fault. fault ≡ Fault.OutOfMemory) }
+        ensures kept { OnErr result (KeepsText self.old self.new) }
     {
         if !self.may_grow(line) {
             return self.read_again(alloc, line);
@@ -251,7 +328,8 @@ impl Session {
     /// Adds a line to the text.
     fn push_line(&mut self, line: &[u8]) -> Result<(), AllocError>
         requires { HasRoom self.old line.now }
-        ensures { OnOk result (IsPushed self.old self.new line.now) }
+        ensures ok { OnOk result (IsPushed self.old self.new line.now) }
+        ensures kept { OnErr result (self.new.text.items ≡ self.old.text.items) }
     {
         push_line(&mut self.text, line)?;
         self.undone.clear();
@@ -288,8 +366,20 @@ impl Session {
     fn read_again(&mut self, alloc: Global, line: &[u8]) -> Result<Vec<u8>, Fault>
         ensures ok { IfOk result (λ said. FollowsBy AnswersLine self.old self.new line.now said.items) }
         ensures err { IfErr result (λ fault. fault ≡ Fault.OutOfMemory) }
+        ensures kept { OnErr result (self.new.text.items ≡ self.old.text.items) }
     {
-        let longer = with_line(alloc, self.text.as_slice(), line)?;
+        let more = ended(alloc, line)?;
+        self.read_behind(alloc, more.as_slice())
+    }
+
+    /// Reads the session anew with some text behind it, and runs it anew if it is a script.
+    fn read_behind(&mut self, alloc: Global, more: &[u8]) -> Result<Vec<u8>, Fault>
+        requires { EndsItsLines more.now }
+        ensures ok { IfOk result (λ said. FollowsBy AnswersText self.old self.new more.now said.items) }
+        ensures err { IfErr result (λ fault. fault ≡ Fault.OutOfMemory) }
+        ensures kept { OnErr result (self.new.text.items ≡ self.old.text.items) }
+    {
+        let longer = joined(alloc, self.text.as_slice(), more)?;
         match run_behind(alloc, longer.as_slice(), self.count) {
             Ok((running, said)) => {
                 self.restart(longer, Some(running));
@@ -307,6 +397,7 @@ impl Session {
         requires { script_of longer.items ≡ Err (Fault.BadScript bad) }
         ensures ok { IfOk result (λ said. Refuses self.old self.new longer.items bad said.items) }
         ensures err { IfErr result (λ fault. fault ≡ Fault.OutOfMemory) }
+        ensures kept { OnErr result (self.new.text.items ≡ self.old.text.items) }
     {
         if bad as usize > count_lines(longer.as_slice()) {
             self.restart(longer, None);

@@ -1,5 +1,5 @@
 //! The text of a session, which grows by a line.
-ghost use Rattle.std.specs.Prelude.{◌≡◌, ◌++◌, ◌+◌, ◌<◌, ◌≤◌, true, Err, IfErr, IfOk, OnOk, length};
+ghost use Rattle.std.specs.Prelude.{◌≡◌, [], ◌∷◌, ◌++◌, ◌+◌, ◌<◌, ◌≤◌, true, Err, IfErr, IfOk, OnErr, OnOk, length};
 ghost use Rattle.histar_dialogue.specs.Texts.{SaysRule, with_line};
 ghost use Rattle.histar_script.specs.Lines.{lines_of, most_script_bytes, most_script_lines};
 ghost use Rattle.histar_script.specs.Reading.{script_of};
@@ -14,13 +14,13 @@ const MOST_SCRIPT_BYTES: usize = 1_048_576;
 /// The most lines of a script.
 const MOST_SCRIPT_LINES: usize = 16_384;
 
-/// Returns a text with one line more.
-pub(crate) fn with_line(alloc: Global, text: &[u8], line: &[u8]) -> Result<Vec<u8>, AllocError>
-    ensures { IfOk result (λ longer. longer.items ≡ with_line text.now line.now) }
+/// Returns a line with its end.
+pub(crate) fn ended(alloc: Global, line: &[u8]) -> Result<Vec<u8>, AllocError>
+    ensures { IfOk result (λ text. text.items ≡ line.now ++ 10 ∷ []) }
 {
-    let mut longer = Vec::from_slice(alloc, text)?;
-    push_line(&mut longer, line)?;
-    Ok(longer)
+    let mut text = Vec::from_slice(alloc, line)?;
+    text.push(b'\n')?;
+    Ok(text)
 }
 
 /// Returns a text, and another one behind it.
@@ -32,12 +32,18 @@ pub(crate) fn joined(alloc: Global, text: &[u8], more: &[u8]) -> Result<Vec<u8>,
     Ok(whole)
 }
 
-/// Adds a line and its end.
+/// Adds a line and its end, or nothing.
 pub(crate) fn push_line(text: &mut Vec<u8>, line: &[u8]) -> Result<(), AllocError>
-    ensures { OnOk result (text.new.items ≡ with_line text.old.items line.now) }
+    ensures ok { OnOk result (text.new.items ≡ with_line text.old.items line.now) }
+    ensures kept { OnErr result (text.new.items ≡ text.old.items) }
 {
+    let length = text.len();
     text.extend_from_slice(line)?;
-    text.extend_from_slice(b"\n")
+    let done = text.extend_from_slice(b"\n");
+    if done.is_err() {
+        text.truncate(length);
+    }
+    done
 }
 
 /// Returns how many lines a text has.

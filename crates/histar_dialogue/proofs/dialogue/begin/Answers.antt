@@ -6,4 +6,5 @@ use Rattle.histar_dialogue.proofs.dialogue.begin.Goals as goal
 
 pub returns-in-None-clause-ok : goal.returns-in-None-clause-ok
 returns-in-None-clause-ok g c =
-    begins_none (option_copied c.args.first) c.new.result (g.W.Sink.written c.args.writer.now) (ap option_copied c.in-None.is) c.new.ensures
+    begins_none (option_copied c.args.first) c.new.result (g.S.Shelf.saved c.args.shelf.now) (g.W.Sink.written c.args.writer.now)
+    (ap option_copied c.in-None.is) c.new.ensures

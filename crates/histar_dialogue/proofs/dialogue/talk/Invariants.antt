@@ -6,8 +6,8 @@ use Rattle.histar_dialogue.proofs.dialogue.talk.Given as goal
 
 abbrev pub invariant-lines : goal.invariant-lines
 invariant-lines g l = record {
-  going : Going l.prompt (talk_of l.fn.session) (g.R.Source.left l.fn.reader) (g.R.Source.left l.reader)
-      (g.W.Sink.written l.fn.writer) (g.W.Sink.written l.writer) l.input l.session;
+  going : Going l.prompt (talk_of (g.S.Shelf.saved l.fn.shelf) l.fn.session) (g.R.Source.left l.fn.reader) (g.R.Source.left l.reader)
+      (g.W.Sink.written l.fn.writer) (g.W.Sink.written l.writer) (g.S.Shelf.saved l.shelf) l.input l.session;
   reads : g.R.Source.failures l.reader ≡ g.R.Source.failures l.fn.reader;
   writes : g.W.Sink.failures l.writer ≡ g.W.Sink.failures l.fn.writer;
 }

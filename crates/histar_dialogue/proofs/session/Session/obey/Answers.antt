@@ -19,3 +19,8 @@ pub returns-in-Expect-clause-ok : goal.returns-in-Expect-clause-ok
 returns-in-Expect-clause-ok c =
     subst (λ (k : Command). IfOk c.expect.result (λ said. FollowsSo (ObeysCommand k) c.args.self.now c.expect.new.self said.items))
     (sym c.in-Expect.is) c.expect.ensures.ok
+
+pub returns-in-ExpectAt-clause-ok : goal.returns-in-ExpectAt-clause-ok
+returns-in-ExpectAt-clause-ok c =
+    subst (λ (k : Command). IfOk c.expect_at.result (λ said. FollowsSo (ObeysCommand k) c.args.self.now c.expect_at.new.self said.items))
+    (sym c.in-ExpectAt.is) c.expect_at.ensures.ok

@@ -1,22 +1,13 @@
 -- Proves the goals of `read_again` of src/session.rt that the search leaves open.
-use Rattle.std.proofs.Common.{List, ℕ, ap, ◌∙◌, subst, rules}
-use Rattle.std.proofs.lemmas.Result.{IfOk-weaker}
-use Rattle.histar_dialogue.specs.Running.{Ran}
-use Rattle.histar_dialogue.specs.Texts.{with_line}
-use Rattle.histar_dialogue.proofs.Following.{ran_again, refused}
+use Rattle.std.proofs.Common.{List, ℕ, subst, ◌∙◌, inr}
+use Rattle.std.specs.Prelude.{IfOk}
+use Rattle.histar_dialogue.specs.Session.{AnswersText, FollowsBy}
 use Rattle.histar_dialogue.proofs.session.Session.read_again.Goals as goal
 
-pub returns-in-Ok-clause-ok : goal.returns-in-Ok-clause-ok
-returns-in-Ok-clause-ok c =
-    let is = c.in_ok-longer.ensures ∙ ap (λ (l : List ℕ). with_line l c.args.line.now) c.as_slice.ensures.value in
-    ran_again c.args.self.now c.restart.new.self c.args.line.now c.in_ok-longer.longer.items is c.in-Ok.running c.in-Ok.said.items
-    (subst (λ (l : List ℕ). Ran c.args.self.now.count l c.in-Ok.running c.in-Ok.said.items) c.as_slice-2.ensures.value c.in-Ok.ensures)
-    c.restart.ensures
+pub read_behind-requires : goal.read_behind-requires
+read_behind-requires c = inr (c.args.line.now, c.as_slice.ensures.value ∙ c.in_ok-more.ensures)
 
-pub returns-in-Err-BadScript-clause-ok : goal.returns-in-Err-BadScript-clause-ok
-returns-in-Err-BadScript-clause-ok c =
-    let is = c.in_ok-longer.ensures ∙ ap (λ (l : List ℕ). with_line l c.args.line.now) c.as_slice.ensures.value in
-    IfOk-weaker c.refuse.result _ _
-    (λ said h. refused c.args.self.now c.refuse.new.self c.args.line.now c.in_ok-longer.longer.items is c.in-Err-BadScript.bad said.items
-    (search rules) h)
-    c.refuse.ensures.ok
+pub returns-clause-ok : goal.returns-clause-ok
+returns-clause-ok c =
+    subst (λ (l : List ℕ). IfOk c.read_behind.result (λ said. FollowsBy AnswersText c.args.self.now c.read_behind.new.self l said.items))
+    (c.as_slice.ensures.value ∙ c.in_ok-more.ensures) c.read_behind.ensures.ok

@@ -7,4 +7,4 @@ use Rattle.histar_dialogue.proofs.session.Session.take_comment.Goals as goal
 pub returns-clause-ok : goal.returns-clause-ok
 returns-clause-ok c =
     subst (λ (said : List ℕ). FollowsBy AnswersLine c.args.self.now c.push_line.new.self c.args.line.now said) (sym c.new.ensures.items)
-    (comment_taken c.args.self.now c.push_line.new.self c.args.line.now (search rules) c.in_ok-push_line.ensures c.requires)
+    (comment_taken c.args.self.now c.push_line.new.self c.args.line.now (search rules) c.in_ok-push_line.ensures.ok c.requires)
