@@ -6,5 +6,5 @@ pub mod Front
 pub mod Tried
 pub mod TrySession
 pub mod TryLaws
-pub mod Reasoned
-pub mod ReasonedSession
+pub mod Noted
+pub mod NotesLaws

@@ -1,36 +1,41 @@
--- The replies to the calls that are tried, each after its call.
+-- The replies to the calls that are tried, each after its call and before the reason of its refusal.
 use Rattle.std.specs.Prelude.{◌≡◌, ℕ, ◌++◌, ◌∷◌, List, [], nat_lt, if◌then◌else◌}
-use Rattle.std.specs.List.{flat_map}
 use Rattle.histar_flat.specs.declared.calls.CallLine.{CallLine}
-use Rattle.histar_flat.specs.declared.replies.Reply.{Reply}
 use Rattle.histar_flat.specs.Accounts.{Accounts}
 use Rattle.histar_flat.specs.FlatState.{Flat}
-use Rattle.histar_flat.specs.Meaning.{RepliedCall, answered_from, flat_end, meaning}
+use Rattle.histar_flat.specs.FlatCalls.{flat_after, reply_to}
+use Rattle.histar_flat.specs.Meaning.{boot, flat_end}
 use Rattle.histar_flat.specs.Texts.{reply_text}
 use Rattle.histar_script.specs.Script.{ScriptModel}
 use Rattle.histar_shell.specs.Machine.{MachineModel}
-use Rattle.histar_shell.specs.Meaning.{Shows}
+use Rattle.histar_why.specs.Answering.{why_line}
+use Rattle.histar_why.specs.Names.{Knows}
+use Rattle.histar_transcript.specs.declared.tried.Said.{Said}
 use Rattle.histar_transcript.specs.Transcript.{call_and_reply}
 
--- the line of a reply to a call on a line of this number, which is printed as `run --calls` prints it
-abbrev pub tried_line : List (List ℕ) → ℕ → Reply → List ℕ
-tried_line lines number reply = call_and_reply lines number (reply_text reply) ++ 10 ∷ []
+-- what is printed of a call that is tried in a state: its reply, as `run --calls` prints it, and the line of `run --why` if that is a refusal
+abbrev pub tried_line : List (List ℕ) → Accounts → Flat → CallLine → List ℕ
+tried_line lines accounts f c =
+    (call_and_reply lines c.line (reply_text (reply_to accounts f c.process c.call)) ++ 10 ∷ []) ++ why_line accounts f c
 
--- the line of a reply to a line behind the first ones, and nothing for those
-abbrev pub line_behind : ℕ → List (List ℕ) → ℕ → Reply → List ℕ
-line_behind first lines number reply = if nat_lt first number then tried_line lines number reply else []
+-- what is printed of a call on a line behind the first ones, and nothing of one on those
+abbrev pub line_behind : ℕ → List (List ℕ) → Accounts → Flat → CallLine → List ℕ
+line_behind first lines accounts f c = if nat_lt first c.line then tried_line lines accounts f c else []
 
--- the lines of answers to lines behind the first ones of a script
-abbrev pub lines_behind : ℕ → List (List ℕ) → List RepliedCall → List ℕ
-lines_behind first lines answers = flat_map (λ a. line_behind first lines a.call.line a.reply) answers
+-- what is printed of calls that are made one after another from a state
+abbrev pub lines_behind : ℕ → List (List ℕ) → Accounts → Flat → List CallLine → List ℕ
+lines_behind first lines accounts f [] = []
+lines_behind first lines accounts f (c ∷ calls) =
+    line_behind first lines accounts f c ++ lines_behind first lines accounts (flat_after accounts f c.process c.call) calls
 
--- the replies of a script's meaning to the lines behind the first ones
+-- what is printed of the calls of a script
 abbrev pub tried_text : ℕ → List (List ℕ) → ScriptModel → List ℕ
-tried_text first lines script = lines_behind first lines (meaning script.accounts script.calls)
+tried_text first lines script = lines_behind first lines script.accounts (boot script.accounts) script.calls
 
--- For every flat state that the machine represented, it represents the one after these calls, and what was added to a
--- text are the lines of their replies behind the first lines.
-abbrev pub AddsReplies : ℕ → List (List ℕ) → MachineModel → MachineModel → List ℕ → List ℕ → List CallLine → Type 0
-AddsReplies first lines old new before after calls = (accounts : Accounts) (f : Flat) → Shows accounts old f
-    → Shows accounts new (flat_end accounts f calls)
-    × (after ≡ before ++ lines_behind first lines (answered_from accounts f calls))
+-- For each flat state that the machine represented, where the log had the right births, it represents the one after these
+-- calls, the log has the right births, and what is printed of the calls was added.
+pub record AddsReplies (first : ℕ) (lines : List (List ℕ)) (old new : MachineModel) (before after : Said) (calls : List CallLine)
+    : Type 0 where
+  pub each : (accounts : Accounts) (f : Flat) → Knows before.log.births.items accounts old f
+      → (after.text.items ≡ before.text.items ++ lines_behind first lines accounts f calls)
+      × Knows after.log.births.items accounts new (flat_end accounts f calls)

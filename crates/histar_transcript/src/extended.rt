@@ -33,7 +33,7 @@ pub(crate) fn extended_text(
 }
 
 /// Adds lines, each with its end.
-fn push_lines(text: &mut Vec<u8>, lines: &[&[u8]]) -> Result<(), AllocError>
+pub(crate) fn push_lines(text: &mut Vec<u8>, lines: &[&[u8]]) -> Result<(), AllocError>
     ensures { OnOk result (text.new.items
         ≡ text.old.items ++ ended_lines (map (λ line. line.now) lines.now)) }
 {
@@ -44,7 +44,7 @@ fn push_lines(text: &mut Vec<u8>, lines: &[&[u8]]) -> Result<(), AllocError>
 }
 
 /// Adds a line and its end.
-fn push_line(text: &mut Vec<u8>, line: &[u8]) -> Result<(), AllocError>
+pub(crate) fn push_line(text: &mut Vec<u8>, line: &[u8]) -> Result<(), AllocError>
     ensures { OnOk result (text.new.items ≡ text.old.items ++ (line.now ++ 10 ∷ [])) }
 {
     text.extend_from_slice(line)?;

@@ -1,10 +1,11 @@
-//! The output of a run with each reply after its call, and the replies to calls that are tried behind a script.
+//! The output of a run with each reply after its call, and with notes on refused and denied calls; and the replies to
+//! calls that are tried behind a script.
 #![tactic(auto)]
 
 mod extended;
 mod front;
-mod reasoned;
-mod reasoned_session;
+mod noted;
+pub mod notes_laws;
 mod session;
 mod transcript;
 mod tried;
@@ -12,6 +13,5 @@ pub mod try_laws;
 mod try_session;
 
 pub use front::front_before;
-pub use reasoned_session::transcribe_with_reasons;
-pub use session::transcribe;
+pub use session::{Notes, run_with_notes};
 pub use try_session::{Tried, try_calls};

@@ -1,27 +1,44 @@
-//! A run that is printed with its calls, from bytes to bytes.
-ghost use Rattle.std.specs.Prelude.{◌≡◌, false, IfErr, IfSome};
+//! A run that is printed with its calls or with notes, from bytes to bytes.
+ghost use Rattle.std.specs.Prelude.{◌≡◌, false, IfErr, IfOk, IfSome};
 ghost use Rattle.histar_io.specs.Device.{CountsFailure};
 ghost use Rattle.histar_script.specs.Runs.{LeavesSink, RunsInput, is_read_failed, is_write_failed};
-ghost use Rattle.histar_transcript.specs.Session.{GivesOutput, WritesTranscript};
+ghost use Rattle.histar_run_explain.specs.Output.{GivesText};
+ghost use Rattle.histar_transcript.specs.Session.{IsFullOutput, IsNotedOutput, IsPlainOutput};
+ghost use Rattle.histar_transcript.specs.Session.{IsReasonedOutput, WritesNoted, printed_text};
 
+use crate::extended::push_lines;
+use crate::noted::{marked_lines, noted_transcript};
 use crate::transcript::transcript_of;
 use histar_command::{Command, run_command};
 use histar_io::{Sink, Source, write_bytes};
 use histar_run_explain::{explained_output, in_memory};
 use histar_script::Fault;
 use histar_shell::{Counted, Options, run};
-use std::alloc::Global;
+use histar_why::run_with_reasons;
+use std::alloc::{AllocError, Global};
 
-/// Reads a script, runs it as `run` does, or with explanations, and writes the output with the text of its
-/// call before each reply.
+/// What is printed with the replies of a run.
+#[derive(Clone, Copy)]
+pub struct Notes {
+    /// The text of its call before each reply, and the notes behind it.
+    pub calls: bool,
+    /// Why calls were refused, by the rules.
+    pub why: bool,
+    /// Why raw calls were denied.
+    pub explain: bool,
+}
+
+/// Reads a script, runs it as `run` does, and writes the output with these notes.
 ///
-/// It writes once the script has run. It doesn't flush the sink.
-pub fn transcribe<R: Source, W: Sink>(
+/// With `calls` the text of its call is before each reply, and the notes of a call are behind its reply; else they are
+/// behind all else, first those of refused calls, and then those of denied raw calls. It writes once the script has
+/// run. It doesn't flush the sink.
+pub fn run_with_notes<R: Source, W: Sink>(
     alloc: Global,
     reader: &mut R,
     writer: &mut W,
     options: Options,
-    explain: bool,
+    notes: Notes,
 ) -> Result<(), Fault>
     // After a bad script, one that is too long or a failed read, the sink is as it was.
     ensures nothing { IfErr result (LeavesSink writer.old writer.new) }
@@ -31,33 +48,33 @@ pub fn transcribe<R: Source, W: Sink>(
     ensures writes { CountsFailure (W.failures writer.old) (W.failures writer.new) (is_write_failed result) }
 
     // Some bytes of the source were read, to its end but never more than 1,048,577, and run: the fault of
-    // their script is returned, or the output of its run is written, with each reply after its call.
-    ensures runs { RunsInput (WritesTranscript options explain) (R.left reader.old) (R.left reader.new)
+    // their script is returned, or the output of its run is written with these notes.
+    ensures runs { RunsInput (WritesNoted options notes) (R.left reader.old) (R.left reader.new)
         (W.written writer.old) (W.written writer.new) result }
 
     // If the input is known, the script of the whole input was run.
-    ensures known { IfSome (R.left reader.old) (λ input. WritesTranscript options explain input
+    ensures known { IfSome (R.left reader.old) (λ input. WritesNoted options notes input
         (W.written writer.old) (W.written writer.new) result) }
 {
-    run_command(alloc, reader, writer, Transcribing { options, explain })
+    run_command(alloc, reader, writer, Noting { options, notes })
 }
 
-/// The command of `transcribe`.
+/// The command of `run_with_notes`.
 #[derive(Drop)]
-struct Transcribing {
+struct Noting {
     options: Options,
-    explain: bool,
+    notes: Notes,
 }
 
-impl Command for Transcribing {
+impl Command for Noting {
     ghost use Rattle.std.proofs.Common.{rules};
 
     type Answer = ();
 
-    ghost Runs = { λ command. WritesTranscript command.options command.explain };
+    ghost Runs = { λ command. WritesNoted command.options command.notes };
 
     fn on_text<W: Sink>(self, alloc: Global, text: Vec<u8>, writer: &mut W) -> Result<(), Fault> {
-        transcribe_text(alloc, text.as_slice(), writer, self.options, self.explain)
+        run_text(alloc, text.as_slice(), writer, self.options, self.notes)
     }
 
     ghost unread = { Prim.search rules };
@@ -65,40 +82,59 @@ impl Command for Transcribing {
     ghost long = { Prim.search rules };
 }
 
-/// Runs the script in a text, and writes the transcript of its output.
-fn transcribe_text<W: Sink>(
+/// Runs the script in a text, and writes its output with these notes.
+fn run_text<W: Sink>(
     alloc: Global,
     text: &[u8],
     writer: &mut W,
     options: Options,
-    explain: bool,
+    notes: Notes,
 ) -> Result<(), Fault>
     ensures nothing { IfErr result (LeavesSink writer.old writer.new) }
     ensures reads { is_read_failed result ≡ false }
     ensures writes { CountsFailure (W.failures writer.old) (W.failures writer.new) (is_write_failed result) }
-    ensures runs { WritesTranscript options explain text.now (W.written writer.old)
-        (W.written writer.new) result }
+    ensures runs { WritesNoted options notes text.now (W.written writer.old) (W.written writer.new) result }
 {
-    let output = output_of(alloc, text, options, explain)?;
-    let transcript = transcript_of(alloc, text, output.as_slice())?;
-    write_bytes(writer, transcript.as_slice())?;
+    let output = output_of(alloc, text, options, notes)?;
+    let printed = printed_text(alloc, text, output, notes)?;
+    write_bytes(writer, printed.as_slice())?;
     Ok(())
 }
 
-/// Returns the output of a run of the script in a text, with explanations if they are asked for.
-fn output_of(alloc: Global, text: &[u8], options: Options, explain: bool) -> Result<Vec<u8>, Fault>
-    ensures { GivesOutput options explain text.now result }
+/// Returns what is printed of the output of a run of the script in a text, with these notes.
+fn printed_text(
+    alloc: Global,
+    text: &[u8],
+    output: Vec<u8>,
+    notes: Notes,
+) -> Result<Vec<u8>, AllocError>
+    ensures { IfOk result (λ printed. printed.items ≡ printed_text notes text.now output.items) }
 {
-    if explain {
-        explained_output(alloc, text, options)
+    if !notes.calls {
+        return Ok(output);
+    }
+    if notes.why || notes.explain {
+        noted_transcript(alloc, text, output.as_slice())
     } else {
-        plain_output(alloc, text, options)
+        transcript_of(alloc, text, output.as_slice())
+    }
+}
+
+/// Returns the output of a run of the script in a text, with these notes behind all else.
+fn output_of(alloc: Global, text: &[u8], options: Options, notes: Notes) -> Result<Vec<u8>, Fault>
+    ensures { GivesText (IsNotedOutput options notes) text.now result }
+{
+    match (notes.why, notes.explain) {
+        (false, false) => plain_output(alloc, text, options),
+        (true, false) => reasoned_output(alloc, text, options),
+        (false, true) => explained_output(alloc, text, options),
+        (true, true) => full_output(alloc, text, options),
     }
 }
 
 /// Returns the output of a run of the script in a text.
 fn plain_output(alloc: Global, text: &[u8], options: Options) -> Result<Vec<u8>, Fault>
-    ensures { GivesOutput options false text.now result }
+    ensures { GivesText (IsPlainOutput options) text.now result }
 {
     let mut reader = Counted::new(text);
     let mut writer = Counted::new(Vec::new(alloc));
@@ -106,4 +142,28 @@ fn plain_output(alloc: Global, text: &[u8], options: Options) -> Result<Vec<u8>,
         Ok(_trace) => Ok(writer.into_inner()),
         Err(fault) => Err(in_memory(fault)),
     }
+}
+
+/// Returns the output of a run of the script in a text, with the lines of its refused calls.
+fn reasoned_output(alloc: Global, text: &[u8], options: Options) -> Result<Vec<u8>, Fault>
+    ensures { GivesText (IsReasonedOutput options) text.now result }
+{
+    let mut reader = Counted::new(text);
+    let mut writer = Counted::new(Vec::new(alloc));
+    match run_with_reasons(alloc, &mut reader, &mut writer, options) {
+        Ok(()) => Ok(writer.into_inner()),
+        Err(fault) => Err(in_memory(fault)),
+    }
+}
+
+/// Returns the output of a run of the script in a text, with the lines of its refused calls and then those of its
+/// denied raw calls.
+fn full_output(alloc: Global, text: &[u8], options: Options) -> Result<Vec<u8>, Fault>
+    ensures { GivesText (IsFullOutput options) text.now result }
+{
+    let mut output = reasoned_output(alloc, text, options)?;
+    let explained = explained_output(alloc, text, options)?;
+    let denials = marked_lines(alloc, explained.as_slice(), b'?')?;
+    push_lines(&mut output, denials.as_slice())?;
+    Ok(output)
 }

@@ -80,7 +80,7 @@ pub(crate) fn push_reply(
 }
 
 /// Returns the text, or an empty one if there is none.
-fn or_nothing(rest: Option<&[u8]>) -> &[u8]
+pub(crate) fn or_nothing(rest: Option<&[u8]>) -> &[u8]
     ensures { result.now ≡ unwrap_or (option_copied rest.entry) [] }
 {
     match rest {

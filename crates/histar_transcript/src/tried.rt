@@ -1,30 +1,38 @@
-//! The replies to the calls of a script behind its first lines, each after its call.
-ghost use Rattle.std.specs.Prelude.{◌≡◌, ◌++◌, ◌∷◌, [], IfErr, IfOk, OnOk, map};
+//! The replies to the calls of a script behind its first lines, each after its call and before the reason of its refusal.
+ghost use Rattle.std.specs.Prelude.{◌≡◌, ℕ, ◌++◌, ◌∷◌, List, [], IfErr, IfOk, OnOk, codes, decimal, map};
 ghost use Rattle.histar_script.specs.Lines.{lines_of};
 ghost use Rattle.histar_script.specs.Script.{IsDeclared};
-ghost use Rattle.histar_transcript.specs.Tried.{AddsReplies, line_behind, tried_text};
+ghost use Rattle.histar_transcript.specs.Transcript.{call_and_reply};
+ghost use Rattle.histar_transcript.specs.Tried.{AddsReplies, tried_text};
 
-use crate::transcript::{call_on, lines_in, push_reply};
-use histar_flat::{CallLine, Reply};
+use crate::transcript::{call_on, lines_in, or_nothing, push_reply};
+use histar_flat::CallLine;
 use histar_label::{InternStore, LabelStore};
 use histar_prefix::discard;
-use histar_script::{Fault, Script};
-use histar_shell::{Machine, reply_text};
+use histar_script::{Fault, Script, split_word};
+use histar_shell::Machine;
+use histar_why::{Log, answer_with_reason};
 use std::alloc::{AllocError, Global};
 
 /// How many answers of label comparisons are remembered.
 const REMEMBERED_ANSWERS: usize = 256;
 
-/// Where the lines of replies are added: the lines of the script, and how many of them come before the first
-/// one whose reply is added.
+/// Which lines of a script are shown: the lines, and how many of them come before the first one whose reply is added.
 #[derive(Clone, Copy)]
 struct Shown<'a> {
     lines: &'a [&'a [u8]],
     first: usize,
 }
 
+/// The replies so far, and what says why a call was refused.
+#[derive(Drop)]
+pub(crate) struct Said {
+    pub log: Log,
+    pub text: Vec<u8>,
+}
+
 /// Runs the script of a text on a machine of its own, and returns the replies to its calls behind the first
-/// lines, each after its call.
+/// lines, each after its call, and behind it why it was refused.
 pub(crate) fn tried_replies(
     alloc: Global,
     text: &[u8],
@@ -46,9 +54,14 @@ pub(crate) fn tried_replies(
         lines: lines.as_slice(),
         first,
     };
-    let mut replies = Vec::new(alloc);
-    let made = make_calls(alloc, &mut machine, shown, calls, &mut replies);
+    let mut said = Said {
+        log: Log::new(alloc),
+        text: Vec::new(alloc),
+    };
+    let made = make_calls(alloc, &mut machine, &mut said, shown, calls);
     discard(machine);
+    let Said { log, text: replies } = said;
+    drop(log);
     made?;
     Ok(replies)
 }
@@ -57,64 +70,55 @@ pub(crate) fn tried_replies(
 fn make_calls<S: LabelStore + Drop>(
     alloc: Global,
     machine: &mut Machine<S>,
+    said: &mut Said,
     shown: Shown<'_>,
     calls: Vec<CallLine>,
-    replies: &mut Vec<u8>,
 ) -> Result<(), Fault>
     ensures ok { OnOk result (AddsReplies shown.entry.first (map (λ line. line.now) shown.entry.lines.now)
-        machine.old machine.new replies.old.items replies.new.items calls.items) }
+        machine.old machine.new said.old said.new calls.items) }
     ensures faults { IfErr result (λ fault. fault ≡ Fault.OutOfMemory) }
 {
     'calls: for call in calls {
-        make_call(alloc, machine, shown, call, replies)?;
+        make_call(alloc, machine, said, shown, call)?;
     }
     Ok(())
 }
 
-/// Makes a call, and adds the line of its reply unless it is on one of the first lines.
+/// Makes a call, and adds the line of its reply, and why it was refused, unless it is on one of the first lines.
+///
+/// A refusal changes nothing, so the reason is read off the machine after the call.
 fn make_call<S: LabelStore + Drop>(
     alloc: Global,
     machine: &mut Machine<S>,
+    said: &mut Said,
     shown: Shown<'_>,
     call: CallLine,
-    replies: &mut Vec<u8>,
 ) -> Result<(), Fault>
     ensures ok { OnOk result (AddsReplies shown.entry.first (map (λ line. line.now) shown.entry.lines.now)
-        machine.old machine.new replies.old.items replies.new.items (call ∷ [])) }
+        machine.old machine.new said.old said.new (call ∷ [])) }
     ensures faults { IfErr result (λ fault. fault ≡ Fault.OutOfMemory) }
 {
-    let CallLine {
-        line: number,
-        process,
-        call,
-    } = call;
-    let Ok(reply) = machine.step(alloc, number, &process, call) else {
-        return Err(Fault::OutOfMemory);
-    };
-    push_tried(alloc, replies, shown, number, &reply)?;
-    Ok(())
-}
-
-/// Adds the line of a reply to the call on a line of the script, unless that is one of the first lines.
-fn push_tried(
-    alloc: Global,
-    replies: &mut Vec<u8>,
-    shown: Shown<'_>,
-    number: u32,
-    reply: &Reply,
-) -> Result<(), AllocError>
-    ensures { OnOk result (replies.new.items ≡ replies.old.items
-        ++ line_behind shown.entry.first (map (λ line. line.now) shown.entry.lines.now) number reply.now) }
-{
+    let number = call.line;
+    said.log.text.clear();
+    let line = answer_with_reason(alloc, machine, &mut said.log, call)?;
     if number as usize <= shown.first {
         return Ok(());
     }
-    let text = reply_text(alloc, reply)?;
-    push_reply(
-        replies,
-        number as u64,
-        call_on(shown.lines, number as u64),
-        text.as_slice(),
-    )?;
-    Ok(replies.push(b'\n')?)
+    push_answer(&mut said.text, shown.lines, number, line.as_slice())?;
+    Ok(said.text.extend_from_slice(said.log.text.as_slice())?)
+}
+
+/// Adds the number of a line, its call and the reply in an answer, which begins with the number and a space.
+fn push_answer(
+    text: &mut Vec<u8>,
+    lines: &[&[u8]],
+    number: u32,
+    answer: &[u8],
+) -> Result<(), AllocError>
+    ensures { OnOk result ((reply : List ℕ) → answer.now ≡ decimal number ++ codes " " ++ reply
+        → text.new.items ≡ text.old.items ++ call_and_reply (map (λ line. line.now) lines.now) number reply) }
+{
+    let (_, reply) = split_word(answer);
+    let call = call_on(lines, number as u64);
+    push_reply(text, number as u64, call, or_nothing(reply))
 }

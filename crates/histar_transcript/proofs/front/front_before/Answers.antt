@@ -4,13 +4,10 @@ use Rattle.std.proofs.lemmas.List.{length-map}
 use Rattle.std.specs.Borrow.{Bor}
 use Rattle.histar_script.specs.Lines.{lines_of}
 use Rattle.histar_transcript.specs.Front.{IsFront, count_before}
+use Rattle.histar_transcript.proofs.Replies.{line_at}
 use Rattle.histar_transcript.proofs.CutScripts.{cut_is_front, whole_is_front}
 use Rattle.std.proofs.Common.{subst}
 use Rattle.histar_transcript.proofs.front.front_before.Goals as goal
-
--- the line of a reference
-abbrev line_at : Bor (List ℕ) → List ℕ
-line_at line = line.now
 
 -- as many references as a text has lines
 count_is : (items : List (Bor (List ℕ))) (text : List ℕ) → map line_at items ≡ lines_of text → length items ≡ length (lines_of text)

@@ -5,4 +5,4 @@ use Rattle.histar_transcript.proofs.tried.make_calls.Given as goal
 
 abbrev pub invariant-calls : goal.invariant-calls
 invariant-calls g l =
-    AddsReplies l.shown.first (map (λ line. line.now) l.shown.lines.now) l.fn.machine l.machine l.fn.replies.items l.replies.items l.yielded
+    AddsReplies l.shown.first (map (λ line. line.now) l.shown.lines.now) l.fn.machine l.machine l.fn.said l.said l.yielded
