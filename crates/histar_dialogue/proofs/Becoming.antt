@@ -12,7 +12,7 @@ use Rattle.histar_dialogue.specs.declared.running.Running.{Running}
 use Rattle.histar_dialogue.specs.declared.session.Session.{Session}
 use Rattle.histar_dialogue.specs.Running.{Ran}
 use Rattle.histar_dialogue.specs.Session.{Becomes, FollowsSo, IsBegun, IsRight, IsRunning, ObeysCommand, answers_of, talk_of}
-use Rattle.histar_dialogue.specs.Shelf.{SavedFile}
+use Rattle.histar_dialogue.specs.Shelf.{Saved}
 use Rattle.histar_dialogue.specs.Steps.{IsRestarted}
 use Rattle.histar_dialogue.specs.Talk.{bytes_of_lines, cut_at, entered_again, grown_by}
 use Rattle.histar_dialogue.proofs.Fronts.{cut_ends, front_begun, joined_ends, lacks_one}
@@ -101,7 +101,7 @@ module _ (first : ℕ) (old new : Session) (text undone said : List ℕ) where
       longer : text ≡ old.text.items ++ take (bytes_of_lines n old.undone.items) old.undone.items
       longer = front ∙ ap (λ (k : ℕ). old.text.items ++ take k old.undone.items) place
 
-      now : (saved : List SavedFile)
+      now : (saved : Saved)
           → record { text = text; undone = undone; speaker = old.speaker; saved = saved } ≡ entered_again n (talk_of saved old)
       now saved =
           (λ i. record { text = front i; undone = behind i; speaker = old.speaker; saved = saved })

@@ -26,7 +26,7 @@ use Rattle.histar_dialogue.specs.declared.running.Running.{Running}
 use Rattle.histar_dialogue.specs.declared.session.Session.{Session}
 use Rattle.histar_dialogue.specs.Running.{Ran, Represents, answer_text, answers_behind, said_behind}
 use Rattle.histar_dialogue.specs.Session.{AnswersLine, AnswersRead, AnswersText, FollowsBy, IsBegun, IsNew, IsRight, IsRunning, talk_of}
-use Rattle.histar_dialogue.specs.Shelf.{SavedFile}
+use Rattle.histar_dialogue.specs.Shelf.{Saved}
 use Rattle.histar_dialogue.specs.Talk.{with_text}
 use Rattle.histar_dialogue.specs.Steps.{AnswersOn, IsPushed, IsRestarted, MayGrow, Refuses}
 use Rattle.histar_dialogue.specs.Texts.{SaysRule, with_line}
@@ -100,7 +100,7 @@ module _ (old mid : Session) (line : List ℕ) (grows : MayGrow old line) (pushe
 
   -- the answer is that of the longer script
   answered_now : (next : Option Running) (t : ScriptModel) (said : List ℕ) → script_of longer ≡ Ok t
-      → said ≡ said_behind (length (lines_of before)) t → (saved : List SavedFile)
+      → said ≡ said_behind (length (lines_of before)) t → (saved : Saved)
       → AnswersLine (talk_of saved old) line (talk_of saved (record mid { running = next })) said
   answered_now next t said is said_is saved =
       subst (λ (r : Result ScriptModel Fault). AnswersRead (talk_of saved old) longer r (talk_of saved (record mid { running = next })) said)
@@ -110,7 +110,7 @@ module _ (old mid : Session) (line : List ℕ) (grows : MayGrow old line) (pushe
   comment_taken item right = by old.running refl grows.running right.running
     where
       by : (o : Option Running) → old.running ≡ o → is_some o ≡ true → IsRunning before o
-          → ((saved : List SavedFile) → AnswersLine (talk_of saved old) line (talk_of saved mid) []) × IsRight mid
+          → ((saved : Saved) → AnswersLine (talk_of saved old) line (talk_of saved mid) []) × IsRight mid
       by None e some runs = absurd (false≢true some)
       by (Some r) e some runs =
           let s = runs.0 in
@@ -136,7 +136,7 @@ module _ (old mid : Session) (line : List ℕ) (grows : MayGrow old line) (pushe
       where
         by : (o : Option Running) → is_some o ≡ true → IfSome o (λ r. IsTrue (is_declared_call r.accounts call)) → IsRunning before o
             → AnswersOn o next (made mid.count) said
-            → ((saved : List SavedFile) → AnswersLine (talk_of saved old) line (talk_of saved (record mid { running = next })) said)
+            → ((saved : Saved) → AnswersLine (talk_of saved old) line (talk_of saved (record mid { running = next })) said)
             × IsRight (record mid { running = next })
         by None some declared runs answers = absurd (false≢true some)
         by (Some r) some declared runs answers =
@@ -171,7 +171,7 @@ module _ (old mid : Session) (line : List ℕ) (grows : MayGrow old line) (pushe
 module _ (old new : Session) (more text : List ℕ) (is : text ≡ old.text.items ++ more) where
   -- the answer is that of the text
   answered_by : (said : List ℕ) (read : Result ScriptModel Fault) → script_of text ≡ read
-      → ((saved : List SavedFile) → AnswersRead (talk_of saved old) text read (talk_of saved new) said) → (saved : List SavedFile)
+      → ((saved : Saved) → AnswersRead (talk_of saved old) text read (talk_of saved new) said) → (saved : Saved)
       → AnswersText (talk_of saved old) more (talk_of saved new) said
   answered_by said read reads answers saved =
       subst (λ (l : List ℕ). AnswersRead (talk_of saved old) l (script_of l) (talk_of saved new) said) is
@@ -203,7 +203,7 @@ module _ (old new : Session) (more text : List ℕ) (is : text ≡ old.text.item
   )
 
   -- the text was taken for the session, or it stays with a sentence
-  abbrev Either : ℕ → List ℕ → List SavedFile → Bool → Type 0
+  abbrev Either : ℕ → List ℕ → Saved → Bool → Type 0
   Either bad said saved b =
       MatchBool b ((talk_of saved new ≡ with_text (talk_of saved old) text) × (said ≡ []))
       ((talk_of saved new ≡ talk_of saved old) × SaysRule text bad said)
@@ -212,13 +212,13 @@ module _ (old new : Session) (more text : List ℕ) (is : text ≡ old.text.item
       → FollowsBy AnswersText old new more said
   refused bad said more_ends reads refuses right = by (nat_lt (length (lines_of text)) bad) refl refuses
     where
-      by_test : (saved : List SavedFile) (b : Bool) → nat_lt (length (lines_of text)) bad ≡ b → Either bad said saved b
+      by_test : (saved : Saved) (b : Bool) → nat_lt (length (lines_of text)) bad ≡ b → Either bad said saved b
           → Either bad said saved (nat_lt (length (lines_of text)) bad)
       by_test saved b e either = subst (Either bad said saved) (sym e) either
 
       by : (b : Bool) → nat_lt (length (lines_of text)) bad ≡ b
           → MatchBool b (IsRestarted old new text None × (said ≡ [])) ((new ≡ old) × SaysRule text bad said)
-          → ((saved : List SavedFile) → AnswersText (talk_of saved old) more (talk_of saved new) said) × IsRight new
+          → ((saved : Saved) → AnswersText (talk_of saved old) more (talk_of saved new) said) × IsRight new
       by true e here = (
         answered_by said (Err (BadScript bad)) reads (λ saved. by_test saved true e
             ((λ i. record { text = here.0.text i; undone = here.0.undone i; speaker = here.0.speaker i; saved = saved }), here.1)),

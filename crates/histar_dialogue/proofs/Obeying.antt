@@ -13,7 +13,7 @@ use Rattle.histar_dialogue.specs.Parts.{expecting}
 use Rattle.histar_dialogue.specs.Session.{AnswersLine, AnswersSpoken, AnswersText, Expects, ExpectsAt, ExpectsClaims, ExpectsLast}
 use Rattle.histar_dialogue.specs.Session.{Follows, FollowsBy, FollowsSo, Obeys, ObeysCommand}
 use Rattle.histar_dialogue.specs.Session.{Saves, talk_of}
-use Rattle.histar_dialogue.specs.Shelf.{SavedFile}
+use Rattle.histar_dialogue.specs.Shelf.{Saved}
 
 module _ (old new : Session) (said : List ℕ) where
   -- the comment that expects a reply was taken as a line
@@ -30,7 +30,7 @@ module _ (old new : Session) (said : List ℕ) where
       → FollowsSo Expects old new said
   expects_last replies found ran is follows right =
       let done = follows right in
-      let Says : List SavedFile → Option (List ℕ) → Type 0 = λ saved f. ExpectsLast (talk_of saved old) f (talk_of saved new) said in
+      let Says : Saved → Option (List ℕ) → Type 0 = λ saved f. ExpectsLast (talk_of saved old) f (talk_of saved new) said in
       (λ saved. inl (replies, ran, subst (Says saved) is (done.0 saved)), done.1)
 
   -- claims were taken
@@ -44,17 +44,17 @@ module _ (old new : Session) (said : List ℕ) where
       → FollowsBy ExpectsClaims old new claims said → FollowsSo (ExpectsAt path) old new said
   expects_at path table claims is_table is follows right =
       let done = follows right in
-      let Says : List SavedFile → List ℕ → Type 0 = λ saved c. ExpectsClaims (talk_of saved old) c (talk_of saved new) said in
+      let Says : Saved → List ℕ → Type 0 = λ saved c. ExpectsClaims (talk_of saved old) c (talk_of saved new) said in
       (λ saved. inl (table, is_table, subst (Says saved) is (done.0 saved)), done.1)
 
-  module _ (line : List ℕ) (saved : List SavedFile) where
+  module _ (line : List ℕ) (saved : Saved) where
     -- the answer to a line, by whether it begins with a colon
-    abbrev ByColon : List SavedFile → Bool → Type 0
+    abbrev ByColon : Saved → Bool → Type 0
     ByColon more colon =
         MatchBool colon (Obeys (talk_of saved old) line (talk_of more new) said) (AnswersSpoken (talk_of saved old) line (talk_of more new) said)
 
     -- the answer to a line that begins with one, by the file as which it saves the session
-    abbrev ByFile : List SavedFile → Option (List ℕ) → Type 0
+    abbrev ByFile : Saved → Option (List ℕ) → Type 0
     ByFile more file =
         MatchOption file (ObeysCommand (command_of line) (talk_of saved old) (talk_of more new) said)
         (λ name. Saves name (talk_of saved old) (talk_of more new) said)

@@ -24,7 +24,7 @@ use Rattle.histar_dialogue.specs.Exchange.{LeavesText, StopsAnswer, TalksAlong}
 use Rattle.histar_dialogue.specs.Steps.{KeepsText}
 use Rattle.histar_dialogue.specs.Input.{FailsReading, IsEmptyInput, Pulls, TakesNext, WaitsBehind}
 use Rattle.histar_dialogue.specs.Session.{Answers, IsNew, IsRight, talk_of}
-use Rattle.histar_dialogue.specs.Shelf.{SavedFile}
+use Rattle.histar_dialogue.specs.Shelf.{Saved}
 use Rattle.histar_dialogue.specs.Talk.{Talk, nothing_yet}
 
 -- a whole text was written, and then a beginning of what follows, behind which more may come
@@ -105,7 +105,7 @@ no_write left rest (BadScript n) fails = absurd fails
 no_write left rest TooLong fails = absurd fails
 
 -- a dialogue that stopped wrote as much as this says, too
-pub rewritten : (prompt : Bool) (begun : Talk) (left rest : Option (List ℕ)) (held : List SavedFile)
+pub rewritten : (prompt : Bool) (begun : Talk) (left rest : Option (List ℕ)) (held : Saved)
     (Writes Then : Talk → List ℕ → Type 0) → ((end : Talk) (said : List ℕ) → Writes end said → Then end said)
     → TalksFrom prompt begun left rest held StopsAt Writes → TalksFrom prompt begun left rest held StopsAt Then
 rewritten prompt begun left rest held Writes Then says from = record {
@@ -124,7 +124,7 @@ rewritten prompt begun left rest held Writes Then says from = record {
 }
 
 -- a line whose answer was not written as a whole was begun
-pub begins_answer : (before now : Session) (line : List ℕ) (saved held : List SavedFile) (old new : Option (List ℕ)) (fault : Fault)
+pub begins_answer : (before now : Session) (line : List ℕ) (saved held : Saved) (old new : Option (List ℕ)) (fault : Fault)
     → StopsAnswer before now line saved held old new fault → BeginsAnswer before line saved held old new
 begins_answer before now line saved held old new OutOfMemory stops = inl (stops.0, stops.1)
 begins_answer before now line saved held old new WriteFailed stops = inr stops
@@ -133,7 +133,7 @@ begins_answer before now line saved held old new (BadScript n) stops = absurd st
 begins_answer before now line saved held old new TooLong stops = absurd stops
 
 -- how far a dialogue has come
-pub record Going (prompt : Bool) (begun : Talk) (left now : Option (List ℕ)) (old new : Option (List ℕ)) (held : List SavedFile)
+pub record Going (prompt : Bool) (begun : Talk) (left now : Option (List ℕ)) (old new : Option (List ℕ)) (held : Saved)
     (input : Input) (session : Session) : Type 0 where
   pub taken : List ℕ
   pub consumed : Consumes left now taken
@@ -147,7 +147,7 @@ pub record Going (prompt : Bool) (begun : Talk) (left now : Option (List ℕ)) (
   pub written : Appends old new said
 
 -- before the first line
-pub going_first : (prompt : Bool) (left old : Option (List ℕ)) (saved : List SavedFile) (input : Input) (session : Session)
+pub going_first : (prompt : Bool) (left old : Option (List ℕ)) (saved : Saved) (input : Input) (session : Session)
     → IsEmptyInput input → IsRight session → Going prompt (talk_of saved session) left left old old saved input session
 going_first prompt left old saved input session none right = record {
   taken = [];
@@ -164,7 +164,7 @@ going_first prompt left old saved input session none right = record {
   written = Appends-nil old;
 }
 
-module _ (prompt : Bool) (begun : Talk) (left now old new : Option (List ℕ)) (held : List SavedFile) (input : Input) (session : Session)
+module _ (prompt : Bool) (begun : Talk) (left now old new : Option (List ℕ)) (held : Saved) (input : Input) (session : Session)
     (going : Going prompt begun left now old new held input session) where
   abbrev asks : List ℕ
   asks = prompt_text prompt session.text.items
@@ -270,7 +270,7 @@ module _ (prompt : Bool) (begun : Talk) (left now old new : Option (List ℕ)) (
 
         module _ (stays : is_quit line.items ≡ false) where
           -- a line was answered
-          pub talk_goes_on : (session' : Session) (saved : List SavedFile) (last : Option (List ℕ))
+          pub talk_goes_on : (session' : Session) (saved : Saved) (last : Option (List ℕ))
               → AnswersTo session session' line.items held saved mid last → Going prompt begun left rest old last saved after session'
           talk_goes_on session' saved last one = record {
             taken = going.taken ++ next.taken;
@@ -288,16 +288,16 @@ module _ (prompt : Bool) (begun : Talk) (left now old new : Option (List ℕ)) (
           }
 
           -- memory ran out before its answer was written
-          answer_out : (now : Session) (saved : List SavedFile) (last : Option (List ℕ)) → Keeps mid last → saved ≡ held
+          answer_out : (now : Session) (saved : Saved) (last : Option (List ℕ)) → Keeps mid last → saved ≡ held
               → KeepsText session now → TalksAlong prompt begun left rest old last saved now.text.items (Err OutOfMemory)
           answer_out now saved last keeps same text =
-              subst (λ (files : List SavedFile). TalksAlong prompt begun left rest old last files now.text.items (Err OutOfMemory)) (sym same)
+              subst (λ (files : Saved). TalksAlong prompt begun left rest old last files now.text.items (Err OutOfMemory)) (sym same)
               (stops_with rest next.taken next.consumed (line.items ∷ lines_of after.waiting.items) parts_then StopsAt tt
               (λ end said. AppendsFront old last said × IsSessionText end now.text.items)
               (whole_front old last (going.said ++ asks) (Appends-kept old mid last (going.said ++ asks) all_written keeps), text))
 
           -- its answer was not written as a whole
-          answer_stops : (saved : List SavedFile) (last : Option (List ℕ)) → AnswersSome session line.items held saved mid last
+          answer_stops : (saved : Saved) (last : Option (List ℕ)) → AnswersSome session line.items held saved mid last
               → TalksFrom prompt begun left rest saved StopsAt (λ end. AppendsFront old last)
           answer_stops saved last one = record {
             taken = going.taken ++ next.taken;
@@ -320,7 +320,7 @@ module _ (prompt : Bool) (begun : Talk) (left now old new : Option (List ℕ)) (
                 (front_after old mid last (going.said ++ asks) one.said (prompt_text prompt one.after.text) all_written one.written);
           }
 
-          pub answer_fault : (now : Session) (saved : List SavedFile) (last : Option (List ℕ)) (fault : Fault)
+          pub answer_fault : (now : Session) (saved : Saved) (last : Option (List ℕ)) (fault : Fault)
               → StopsAnswer session now line.items held saved mid last fault
               → TalksAlong prompt begun left rest old last saved now.text.items (Err fault)
           answer_fault now saved last OutOfMemory stops = answer_out now saved last stops.0 stops.1 stops.2
@@ -329,7 +329,7 @@ module _ (prompt : Bool) (begun : Talk) (left now old new : Option (List ℕ)) (
           answer_fault now saved last (BadScript n) stops = absurd stops
           answer_fault now saved last TooLong stops = absurd stops
 
-module _ (prompt : Bool) (begun : Talk) (left rest old mid : Option (List ℕ)) (held : List SavedFile) (text : List ℕ) where
+module _ (prompt : Bool) (begun : Talk) (left rest old mid : Option (List ℕ)) (held : Saved) (text : List ℕ) where
   -- the session was written, as far as the fault says, behind a dialogue in which memory ran out
   left_by : (new : Option (List ℕ)) (fault : Fault) → TalksAlong prompt begun left rest old mid held text (Err OutOfMemory)
       → LeavesText mid new text fault → TalksOn prompt begun left rest old new held (Err fault)
@@ -350,7 +350,7 @@ module _ (prompt : Bool) (begun : Talk) (left rest old mid : Option (List ℕ)) 
 -- ---- the lines of the script to begin with
 
 -- how far the lines of a text were answered
-pub record Entering (text rest : List ℕ) (session : Session) (saved held : List SavedFile) (old new : Option (List ℕ)) : Type 0 where
+pub record Entering (text rest : List ℕ) (session : Session) (saved held : Saved) (old new : Option (List ℕ)) : Type 0 where
   pub done : List (List ℕ)
   pub parts : lines_of text ≡ done ++ lines_of rest
   pub said : List ℕ
@@ -359,12 +359,12 @@ pub record Entering (text rest : List ℕ) (session : Session) (saved held : Lis
   pub written : Appends old new said
 
 -- before the first line
-pub entering_first : (text : List ℕ) (session : Session) (saved : List SavedFile) (old : Option (List ℕ)) → IsNew session
+pub entering_first : (text : List ℕ) (session : Session) (saved : Saved) (old : Option (List ℕ)) → IsNew session
     → Entering text text session saved saved old old
 entering_first text session saved old new =
     record { done = []; parts = refl; said = []; converses = (new.0 saved, refl); right = new.1; written = Appends-nil old }
 
-module _ (text rest : List ℕ) (session : Session) (saved held : List SavedFile) (old new : Option (List ℕ))
+module _ (text rest : List ℕ) (session : Session) (saved held : Saved) (old new : Option (List ℕ))
     (entering : Entering text rest session saved held old new) where
   -- all lines were answered
   pub entered : lines_of rest ≡ [] → AnswersLines text session saved held old new
@@ -377,7 +377,7 @@ module _ (text rest : List ℕ) (session : Session) (saved held : List SavedFile
     written = entering.written;
   }
 
-  module _ (line after : List ℕ) (first : lines_of rest ≡ line ∷ lines_of after) (more : List SavedFile) (last : Option (List ℕ)) where
+  module _ (line after : List ℕ) (first : lines_of rest ≡ line ∷ lines_of after) (more : Saved) (last : Option (List ℕ)) where
     -- one line more was answered
     parts_on : lines_of text ≡ (entering.done ++ line ∷ []) ++ lines_of after
     parts_on =
@@ -423,7 +423,7 @@ module _ (text rest : List ℕ) (session : Session) (saved held : List SavedFile
     }
 
 -- before the first line nothing was written, and nothing was saved
-pub nothing_entered : (text : List ℕ) (saved : List SavedFile) (old : Option (List ℕ)) → BeginsLines text saved saved old old
+pub nothing_entered : (text : List ℕ) (saved : Saved) (old : Option (List ℕ)) → BeginsLines text saved saved old old
 nothing_entered text saved old = record {
   lines = [];
   more = lines_of text;
@@ -436,7 +436,7 @@ nothing_entered text saved old = record {
 }
 
 -- a text that is no script
-pub file_fault : (text : List ℕ) (saved : List SavedFile) (old : Option (List ℕ)) (fault : Fault)
+pub file_fault : (text : List ℕ) (saved : Saved) (old : Option (List ℕ)) (fault : Fault)
     → Gives {A = ScriptModel} (Err fault) (script_of text) → BeginsFile text saved saved old old fault
 file_fault text saved old (BadScript n) gives = gives
 file_fault text saved old TooLong gives = gives
@@ -447,7 +447,7 @@ file_fault text saved old WriteFailed gives = absurd gives
 -- ---- the whole dialogue
 
 -- without a script to begin with the session is new
-pub begins_none : (first : Option (List ℕ)) (session : Session) (saved : List SavedFile) (w : Option (List ℕ)) → first ≡ None
+pub begins_none : (first : Option (List ℕ)) (session : Session) (saved : Saved) (w : Option (List ℕ)) → first ≡ None
     → IsNew session → BeginsWith first session saved saved w w
 begins_none first session saved w none new = record {
   greeting = [];

@@ -12,7 +12,7 @@ use Rattle.histar_script.specs.declared.fault.Fault.TheVariants.{OutOfMemory, Re
 use Rattle.histar_script.specs.Lines.{lines_of}
 use Rattle.histar_script.specs.Reading.{script_of}
 use Rattle.histar_dialogue.specs.Session.{Answers}
-use Rattle.histar_dialogue.specs.Shelf.{SavedFile}
+use Rattle.histar_dialogue.specs.Shelf.{Saved}
 use Rattle.histar_dialogue.specs.Texts.{with_line}
 use Rattle.histar_dialogue.specs.Talk.{Talk, nothing_yet}
 
@@ -33,7 +33,7 @@ Converses prompt talk (line ∷ lines) end said =
     × (said ≡ (prompt_text prompt talk.text ++ first) ++ rest)
 
 -- the script to begin with, if there is one, is a script, and its lines were answered without a prompt; these files were saved before
-abbrev pub Begins : Option (List ℕ) → List SavedFile → Talk → List ℕ → Type 0
+abbrev pub Begins : Option (List ℕ) → Saved → Talk → List ℕ → Type 0
 Begins None saved begun said = (begun ≡ nothing_yet saved) × (said ≡ [])
 Begins (Some text) saved begun said = IsOk (script_of text) × Converses false (nothing_yet saved) (lines_of text) begun said
 
@@ -51,7 +51,7 @@ StopsAt more = Unit {0}
 
 -- Bytes were taken from the source. Their first lines, none of which ends the dialogue, were answered, and what is behind them is as `Ends`
 -- says. The files that are held now are those that were saved so. What was said and a last prompt were written as far as `Writes` says.
-pub record TalksFrom (prompt : Bool) (begun : Talk) (left rest : Option (List ℕ)) (held : List SavedFile) (Ends : List (List ℕ)
+pub record TalksFrom (prompt : Bool) (begun : Talk) (left rest : Option (List ℕ)) (held : Saved) (Ends : List (List ℕ)
     → Type 0) (Writes : Talk → List ℕ → Type 0) : Type 0 where
   pub taken : List ℕ
   pub consumed : Consumes left rest taken
@@ -86,7 +86,7 @@ StopsWriting old new end said = AppendsFront old new said ⊎ LeavesSession (λ 
 -- The dialogue from this state on went to its end, or as far as the fault allowed, and these files are held behind it. Where memory ran out
 -- the session was written at last.
 abbrev pub TalksOn : Bool → Talk → Option (List ℕ) → Option (List ℕ) → Option (List ℕ)
-    → Option (List ℕ) → List SavedFile → Result (Unit {0}) Fault → Type 0
+    → Option (List ℕ) → Saved → Result (Unit {0}) Fault → Type 0
 TalksOn prompt begun left rest old new held (Ok u) = TalksFrom prompt begun left rest held (EndsAt rest) (λ end. Appends old new)
 TalksOn prompt begun left rest old new held (Err OutOfMemory) = TalksFrom prompt begun left rest held StopsAt
     (EndsWithSession old new)
@@ -99,7 +99,7 @@ TalksOn prompt begun left rest old new held (Err TooLong) = ⊥
 
 -- The first lines of a text were answered without a prompt, and a beginning of what was said was written. These files were saved before,
 -- and those are held behind it.
-pub record BeginsLines (text : List ℕ) (saved held : List SavedFile) (old new : Option (List ℕ)) : Type 0 where
+pub record BeginsLines (text : List ℕ) (saved held : Saved) (old new : Option (List ℕ)) : Type 0 where
   pub lines : List (List ℕ)
   pub more : List (List ℕ)
   pub parts : lines_of text ≡ lines ++ more
@@ -111,7 +111,7 @@ pub record BeginsLines (text : List ℕ) (saved held : List SavedFile) (old new 
 
 -- the script to begin with was answered, where these files were saved before, and what was said was written, and then the dialogue went on
 -- as this says
-pub record Greets (first : Option (List ℕ)) (old : Option (List ℕ)) (saved : List SavedFile) (GoesOn : Talk → Option (List ℕ)
+pub record Greets (first : Option (List ℕ)) (old : Option (List ℕ)) (saved : Saved) (GoesOn : Talk → Option (List ℕ)
     → Type 0) : Type 0 where
   pub begun : Talk
   pub greeting : List ℕ
@@ -122,14 +122,14 @@ pub record Greets (first : Option (List ℕ)) (old : Option (List ℕ)) (saved :
 
 -- the first lines of the script to begin with were answered, and nothing was read
 abbrev pub StopsFirst : Option (List ℕ) → Option (List ℕ) → Option (List ℕ) → Option (List ℕ) → Option (List ℕ)
-    → List SavedFile → List SavedFile → Type 0
+    → Saved → Saved → Type 0
 StopsFirst first left rest old new saved held =
     (rest ≡ left) × MatchOption first ⊥ (λ text. BeginsLines text saved held old new)
 
 -- The script to begin with was answered, and then the lines of the source; or as many as the fault allowed. These files were saved before,
 -- and those are held behind it.
 abbrev pub Talks : Option (List ℕ) → Bool → Option (List ℕ) → Option (List ℕ) → Option (List ℕ)
-    → Option (List ℕ) → List SavedFile → List SavedFile → Result (Unit {0}) Fault → Type 0
+    → Option (List ℕ) → Saved → Saved → Result (Unit {0}) Fault → Type 0
 Talks first prompt left rest old new saved held (Err (BadScript n)) = HasFault first (BadScript n)
 Talks first prompt left rest old new saved held (Err TooLong) = HasFault first TooLong
 Talks first prompt left rest old new saved held (Err OutOfMemory) =

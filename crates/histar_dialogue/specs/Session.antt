@@ -20,7 +20,7 @@ use Rattle.histar_dialogue.specs.Commands.{no_call_text, not_written_text, too_l
 use Rattle.histar_dialogue.specs.Parts.{expecting, no_entry_text}
 use Rattle.histar_dialogue.specs.Refusals.{Explains}
 use Rattle.histar_dialogue.specs.Running.{HasRun, said_behind}
-use Rattle.histar_dialogue.specs.Shelf.{SavedFile}
+use Rattle.histar_dialogue.specs.Shelf.{Saved}
 use Rattle.histar_dialogue.specs.Talk.{Talk, entered_again, nothing_yet, with_file, spoken, spoken_by, taken_back, with_text}
 use Rattle.histar_dialogue.specs.Texts.{SaysRule}
 
@@ -121,7 +121,7 @@ IsRunning text None = script_of text ≡ Err (BadScript (length (lines_of text) 
 IsRunning text (Some r) = (script : ScriptModel) × HasRun text r script
 
 -- the state of a dialogue that a session is, where these files were saved
-abbrev pub talk_of : List SavedFile → Session → Talk
+abbrev pub talk_of : Saved → Session → Talk
 talk_of saved s = record { text = s.text.items; undone = s.undone.items; speaker = s.speaker; saved = saved }
 
 -- the text is a script, or has no user as yet
@@ -139,27 +139,27 @@ pub record IsRight (s : Session) : Type 0 where
 
 -- a session of no lines
 abbrev pub IsNew : Session → Type 0
-IsNew s = ((saved : List SavedFile) → talk_of saved s ≡ nothing_yet saved) × IsRight s
+IsNew s = ((saved : Saved) → talk_of saved s ≡ nothing_yet saved) × IsRight s
 
 -- a right session was left as this says of a line, whatever was saved, and it is right
 abbrev pub FollowsBy : (Talk → List ℕ → Talk → List ℕ → Type 0) → Session → Session → List ℕ → List ℕ → Type 0
 FollowsBy Says old new line said =
-    IsRight old → ((saved : List SavedFile) → Says (talk_of saved old) line (talk_of saved new) said) × IsRight new
+    IsRight old → ((saved : Saved) → Says (talk_of saved old) line (talk_of saved new) said) × IsRight new
 
 -- a right session was left as this says, whatever was saved, and it is right
 abbrev pub FollowsSo : (Talk → Talk → List ℕ → Type 0) → Session → Session → List ℕ → Type 0
 FollowsSo Says old new said =
-    IsRight old → ((saved : List SavedFile) → Says (talk_of saved old) (talk_of saved new) said) × IsRight new
+    IsRight old → ((saved : Saved) → Says (talk_of saved old) (talk_of saved new) said) × IsRight new
 
 -- a right session answered a line, before and behind which these files were saved, and it is right
-abbrev pub Follows : List SavedFile → List SavedFile → Session → Session → List ℕ → List ℕ → Type 0
+abbrev pub Follows : Saved → Saved → Session → Session → List ℕ → List ℕ → Type 0
 Follows saved more old new line said =
     IsRight old → Answers (talk_of saved old) line (talk_of more new) said × IsRight new
 
 -- the session has this text, and these lines of it were taken back; the answers are those to its calls behind the first lines
 pub record Became (first : ℕ) (old new : Session) (text undone said : List ℕ) : Type 0 where
   pub talk :
-      (saved : List SavedFile)
+      (saved : Saved)
       → talk_of saved new ≡ record { text = text; undone = undone; speaker = old.speaker; saved = saved }
   pub said_so : said ≡ answers_of first (script_of text)
   pub right : IsRight new

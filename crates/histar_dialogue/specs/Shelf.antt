@@ -1,11 +1,20 @@
 -- The files that a dialogue saves.
-use Rattle.std.specs.Prelude.{ℕ, List, [], ◌∷◌, Option, None, Some, map, if◌then◌else◌}
+use Rattle.std.specs.Prelude.{ℕ, List, [], ◌∷◌, ◌++◌, Option, None, Some, map, if◌then◌else◌}
 use Rattle.std.specs.Str.{bytes_eq}
 use Rattle.histar_dialogue.specs.declared.shelf.KeptFile.{KeptFile}
 
 -- a file that was saved: its name and its bytes
 abbrev pub SavedFile : Type 0
 SavedFile = List ℕ × List ℕ
+
+-- the files that were saved so far, in their order, where they are known
+abbrev pub Saved : Type 0
+Saved = Option (List SavedFile)
+
+-- the same, and then this file
+abbrev pub with_saved : SavedFile → Saved → Saved
+with_saved file None = None
+with_saved file (Some files) = Some (files ++ file ∷ [])
 
 -- a file that is kept in memory was saved under its name
 abbrev pub saved_file : KeptFile → SavedFile

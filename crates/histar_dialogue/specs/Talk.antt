@@ -5,7 +5,7 @@ use Rattle.std.specs.Str.{bytes_eq}
 use Rattle.histar_flat.specs.Words.{ProcName, process_of}
 use Rattle.histar_flat.specs.Texts.{process_text}
 use Rattle.histar_script.specs.Lines.{lines_of, split_word}
-use Rattle.histar_dialogue.specs.Shelf.{SavedFile}
+use Rattle.histar_dialogue.specs.Shelf.{Saved, with_saved}
 
 -- the state of a dialogue: the text of the session, the lines that were taken back, each with its end, the process as which a line without
 -- one is read, and the files that were saved
@@ -13,10 +13,10 @@ pub record Talk : Type 0 where
   pub text : List ℕ
   pub undone : List ℕ
   pub speaker : Option ProcName
-  pub saved : List SavedFile
+  pub saved : Saved
 
 -- the state before the first line, where these files were saved
-abbrev pub nothing_yet : List SavedFile → Talk
+abbrev pub nothing_yet : Saved → Talk
 nothing_yet saved = record { text = []; undone = []; speaker = None; saved = saved }
 
 -- the session is this text, and no line of it was taken back
@@ -26,7 +26,7 @@ with_text talk text = record { text = text; undone = []; speaker = talk.speaker;
 -- the session was saved as a file of this name
 abbrev pub with_file : List ℕ → Talk → Talk
 with_file name talk =
-    record { text = talk.text; undone = talk.undone; speaker = talk.speaker; saved = talk.saved ++ (name, talk.text) ∷ [] }
+    record { text = talk.text; undone = talk.undone; speaker = talk.speaker; saved = with_saved (name, talk.text) talk.saved }
 
 -- lines are read as those of this process, or as they are
 abbrev pub spoken_by : Option ProcName → Talk → Talk

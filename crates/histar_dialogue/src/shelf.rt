@@ -1,7 +1,7 @@
 //! Where a dialogue saves its session: new files, each with a name.
-ghost use Rattle.std.specs.Prelude.{◌≡◌, ◌++◌, ◌∷◌, [], List, OnErr, OnOk};
+ghost use Rattle.std.specs.Prelude.{◌≡◌, ◌++◌, ◌∷◌, [], OnErr, OnOk, Some};
 ghost use Rattle.std.specs.Option.{option_copied};
-ghost use Rattle.histar_dialogue.specs.Shelf.{SavedFile, saved_files, text_of};
+ghost use Rattle.histar_dialogue.specs.Shelf.{Saved, saved_files, text_of, with_saved};
 
 use std::alloc::{AllocError, Global};
 
@@ -18,12 +18,12 @@ pub enum SaveFault {
 ///
 /// A shelf takes new files, and never another text for one that is there.
 pub trait Shelf {
-    // The files that were saved so far, in their order.
-    ghost saved: { Self → List SavedFile };
+    // The files that were saved so far, in their order, if the shelf knows them.
+    ghost saved: { Self → Saved };
 
     /// Saves a text as a new file of this name.
     fn save(&mut self, name: &[u8], text: &[u8]) -> Result<(), SaveFault>
-        ensures ok { OnOk result (saved self.new ≡ saved self.old ++ (name.now, text.now) ∷ []) }
+        ensures ok { OnOk result (saved self.new ≡ with_saved (name.now, text.now) (saved self.old)) }
         ensures err { OnErr result (saved self.new ≡ saved self.old) };
 }
 
@@ -81,7 +81,7 @@ impl MemoryShelf {
 }
 
 impl Shelf for MemoryShelf {
-    ghost saved = { λ shelf. saved_files shelf.files.items };
+    ghost saved = { λ shelf. Some (saved_files shelf.files.items) };
 
     fn save(&mut self, name: &[u8], text: &[u8]) -> Result<(), SaveFault> {
         if self.text_of(name).is_some() {
