@@ -2,6 +2,7 @@
 #![tactic(auto)]
 
 mod dress;
+mod folder;
 mod hints;
 mod names;
 mod output;

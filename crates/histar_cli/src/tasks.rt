@@ -4,6 +4,7 @@ ghost use Rattle.std.specs.List.{flat_map, list_all};
 ghost use Rattle.histar_comparison.specs.Jobs.{job_text};
 ghost use Rattle.histar_cli.specs.Checks.{is_same_without};
 
+use crate::folder::Folder;
 use crate::names::shown_name;
 use crate::output::{Dress, Host};
 use histar_access::{DiffOptions, access, access_users, diff};
@@ -26,7 +27,7 @@ use histar_run_explain::explain_script;
 use histar_script::Fault;
 use histar_shell::{Counted, Options, Source, run};
 use histar_test::{TestFile, test};
-use histar_transcript::{Tried, front_before, transcribe, transcribe_with_reasons, try_calls};
+use histar_transcript::{Notes, Tried, front_before, run_with_notes, try_calls};
 use histar_trust::{TrustOptions, flows, trust};
 use histar_why::run_with_reasons;
 use std::alloc::{AllocError, Global};
@@ -62,6 +63,15 @@ fn options_of(flags: RunFlags) -> Options {
     }
 }
 
+/// Returns what a run writes with its replies, by these flags.
+fn notes_of(flags: RunFlags) -> Notes {
+    Notes {
+        calls: flags.calls,
+        why: flags.why,
+        explain: flags.explain,
+    }
+}
+
 /// Checks whether flags ask for nothing but what `run` of `histar_shell` writes.
 fn is_plain(flags: RunFlags) -> bool {
     !flags.calls && !flags.explain && !flags.why
@@ -76,10 +86,8 @@ fn run_source<R: Print, S: Source>(
 ) -> Result<Outcome, Fault> {
     let options = options_of(flags);
     let mut writer = host.page(alloc)?;
-    let done = if flags.calls && flags.why {
-        transcribe_with_reasons(alloc, reader, &mut writer, options)
-    } else if flags.calls {
-        transcribe(alloc, reader, &mut writer, options, flags.explain)
+    let done = if flags.calls || (flags.why && flags.explain) {
+        run_with_notes(alloc, reader, &mut writer, options, notes_of(flags))
     } else if flags.why {
         run_with_reasons(alloc, reader, &mut writer, options)
     } else if flags.explain {
@@ -329,7 +337,8 @@ pub fn shell_file<R: Files + Input + Print>(
     let text = first.as_ref().map(|text| text.as_slice());
     let mut reader = Counted::new(host.rt.reader());
     let mut writer = Counted::new(io::writer(host.rt));
-    converse(alloc, text, &mut reader, &mut writer, prompt)?;
+    let mut shelf = Folder { rt: host.rt };
+    converse(alloc, text, &mut reader, &mut writer, &mut shelf, prompt)?;
     Ok(Outcome::Done)
 }
 

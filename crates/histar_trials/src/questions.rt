@@ -5,7 +5,7 @@ use histar_access::{DiffOptions, access, access_users, diff};
 use histar_attack::{AttackOptions, attack};
 use histar_attack_lint::lint_attack;
 use histar_comparison::{compare_all, explain_comparison};
-use histar_dialogue::converse;
+use histar_dialogue::{MemoryShelf, converse};
 use histar_flat::{Path, ProcName, split_at_first};
 use histar_leak::leak;
 use histar_lint::lint;
@@ -16,7 +16,7 @@ use histar_run_explain::explain_script;
 use histar_script::Fault;
 use histar_shell::{Counted, Options, run};
 use histar_test::{TestFile, test};
-use histar_transcript::{Tried, front_before, transcribe, transcribe_with_reasons, try_calls};
+use histar_transcript::{Notes, Tried, front_before, run_with_notes, try_calls};
 use histar_trust::{TrustOptions, flows, trust};
 use histar_why::run_with_reasons;
 use memchr::memmem;
@@ -33,11 +33,15 @@ pub fn explained(alloc: Global, script: &[u8], options: Options) -> Result<Vec<u
     with_fault(alloc, done, writer.into_inner())
 }
 
-/// Returns what a script writes, with each reply behind its call.
-pub fn with_calls(alloc: Global, script: &[u8], options: Options) -> Result<Vec<u8>, Fault> {
+/// Returns what a script writes, with these notes.
+pub fn with_notes(alloc: Global, script: &[u8], notes: Notes) -> Result<Vec<u8>, Fault> {
     let mut reader = Counted::new(script);
     let mut writer = Counted::new(Vec::new(alloc));
-    let done = transcribe(alloc, &mut reader, &mut writer, options, false);
+    let options = Options {
+        tree: false,
+        trace: false,
+    };
+    let done = run_with_notes(alloc, &mut reader, &mut writer, options, notes);
     with_fault(alloc, done, writer.into_inner())
 }
 
@@ -46,14 +50,6 @@ pub fn with_reasons(alloc: Global, script: &[u8], options: Options) -> Result<Ve
     let mut reader = Counted::new(script);
     let mut writer = Counted::new(Vec::new(alloc));
     let done = run_with_reasons(alloc, &mut reader, &mut writer, options);
-    with_fault(alloc, done, writer.into_inner())
-}
-
-/// Returns what a script writes, with each reply behind its call, and each reason behind its reply.
-pub fn with_both(alloc: Global, script: &[u8], options: Options) -> Result<Vec<u8>, Fault> {
-    let mut reader = Counted::new(script);
-    let mut writer = Counted::new(Vec::new(alloc));
-    let done = transcribe_with_reasons(alloc, &mut reader, &mut writer, options);
     with_fault(alloc, done, writer.into_inner())
 }
 
@@ -174,7 +170,8 @@ pub fn conversation(alloc: Global, text: &[u8]) -> Result<Vec<u8>, Fault> {
     };
     let mut reader = Counted::new(lines);
     let mut writer = Counted::new(Vec::new(alloc));
-    let done = converse(alloc, first, &mut reader, &mut writer, false);
+    let mut shelf = MemoryShelf::new(alloc);
+    let done = converse(alloc, first, &mut reader, &mut writer, &mut shelf, false);
     with_fault(alloc, done, writer.into_inner())
 }
 

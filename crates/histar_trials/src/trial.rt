@@ -4,6 +4,7 @@ use histar_attack::AttackOptions;
 use histar_flat::{Path, ProcName, read_number, read_path, read_process, split_at_first};
 use histar_output::Form;
 use histar_shell::Options;
+use histar_transcript::Notes;
 use histar_trust::TrustOptions;
 use memchr::memmem;
 
@@ -18,10 +19,8 @@ pub enum Kind {
     Explain(Options),
     /// The same, with the reasons of refusals.
     Why(Options),
-    /// The same, with each reply behind its call.
-    Calls(Options),
-    /// The same, with each reason behind its reply.
-    CallsWhy(Options),
+    /// A script, with these notes.
+    Noted(Notes),
     /// A script, compared with the one without this job.
     Check(ProcName),
     /// The same, with what each of the two prints where they differ.
@@ -157,10 +156,21 @@ fn read_run(word: &[u8], rest: Option<&[u8]>) -> Option<Kind> {
         b"run_at" => Some(Kind::RunAt(read_line(rest)?)),
         b"explain" => Some(Kind::Explain(read_options(rest)?)),
         b"why" => Some(Kind::Why(read_options(rest)?)),
-        b"calls" => Some(Kind::Calls(read_options(rest)?)),
-        b"calls_why" => Some(Kind::CallsWhy(read_options(rest)?)),
-        _ => None,
+        _ => read_notes(word),
     }
+}
+
+/// Reads which notes a title asks for.
+fn read_notes(word: &[u8]) -> Option<Kind> {
+    let (calls, why, explain) = match word {
+        b"calls" => (true, false, false),
+        b"calls_why" => (true, true, false),
+        b"calls_explain" => (true, false, true),
+        b"calls_why_explain" => (true, true, true),
+        b"why_explain" => (false, true, true),
+        _ => return None,
+    };
+    Some(Kind::Noted(Notes { calls, why, explain }))
 }
 
 /// Reads which comparison a title asks for, by its first word and the job behind it.
