@@ -7,6 +7,7 @@ use std::rt::Files;
 use std::str;
 
 /// New files, by paths from the folder in which the program was called.
+#[derive(Clone, Copy)]
 pub struct Folder<'a, R> {
     pub rt: &'a R,
 }
@@ -30,7 +31,10 @@ impl<R: Files> Shelf for Folder<'_, R> {
 
 /// Writes a new file, or none: where a write fails the file is removed.
 fn write_new<R: Files>(rt: &R, path: &str, text: &[u8]) -> io::Result<()> {
-    let mut file = OpenOptions::new().write(true).create_new(true).open(rt, path)?;
+    let mut file = OpenOptions::new()
+        .write(true)
+        .create_new(true)
+        .open(rt, path)?;
     let done = file.write_all(text);
     if done.is_err() {
         let _ = fs::remove_file(rt, path);

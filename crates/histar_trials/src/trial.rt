@@ -170,7 +170,11 @@ fn read_notes(word: &[u8]) -> Option<Kind> {
         b"why_explain" => (false, true, true),
         _ => return None,
     };
-    Some(Kind::Noted(Notes { calls, why, explain }))
+    Some(Kind::Noted(Notes {
+        calls,
+        why,
+        explain,
+    }))
 }
 
 /// Reads which comparison a title asks for, by its first word and the job behind it.
