@@ -65,8 +65,8 @@ module _ (options : DiffOptions) where
   are_changes {ds = ds} c =
       let old = c.is_before.script in
       let new = c.is_after.script in
-      differences_are_changes old.accounts new.accounts (calls_before options.old_at old.calls) (calls_before options.new_at new.calls) c.before c.after ds
-      c.is_before.shows c.is_after.shows c.exact
+      differences_are_changes old.accounts new.accounts (calls_before options.old_at old.calls)
+      (calls_before options.new_at new.calls) c.before c.after ds c.is_before.shows c.is_after.shows c.exact
 
   -- the lines of the differences to be shown were written
   pub changes_written : {a b : List ℕ} {ds lines : List Difference} {old new : Option (List ℕ)} → AreCompared a b ds
