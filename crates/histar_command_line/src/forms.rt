@@ -77,12 +77,13 @@ pub(crate) fn try_calls<'a>() -> Form<'a>
     Form {
         name: "try",
         about: "Run a script, make more calls behind it, and print the replies to these alone",
-        after_help: "Each CALL is a line of a script. It is printed with its number and its reply, as `run --calls` prints it.
+        after_help: "Each CALL is a line of a script. It is printed with its number and its reply, as `run --calls --why` prints it.
 
 Example:
   histar try --at 21 examples/scan.histar '0.2 read /tmp/letters' '0.2 stat /tmp/letters'
 prints
   21  0.2 read /tmp/letters  EACCES
+  !21 EACCES: 0.2 (bob) may not read /tmp/letters: it is private, of alice
   22  0.2 stat /tmp/letters  ok file alice private",
         arguments: &[
             Argument::Valued("WHEN", "color", COLOR),
