@@ -64,7 +64,8 @@ expects_no_call line text (Some (items.Call p c)) says is =
     let none : expectation_of line ≡ None = (no_comment line (call_says line p c says)).1 in
     absurd cc
 
-module _ (n : ℕ) (last : Option Bool) (line : List ℕ) (asked text : Option (List ℕ)) (a : asked_of line ≡ asked) (e : expectation_of line ≡ text) where
+module _ (n : ℕ) (last : Option Bool) (line : List ℕ) (asked text : Option (List ℕ))
+    (a : asked_of line ≡ asked) (e : expectation_of line ≡ text) where
   -- the step of a line with this question or claim and this expectation
   step_is : step_of n line ≡ step_by n line asked text (call_in n (item_of line))
   step_is = ap₂ (λ (x y : Option (List ℕ)). step_by n line x y (call_in n (item_of line))) a e
@@ -228,7 +229,8 @@ line_at [] back line = refl
 line_at (other ∷ front) back line = line_at front back line
 
 -- the sentence on a line behind others
-said_at : (front back : List (List ℕ)) (line : List ℕ) → sentence_at (front ++ line ∷ back) (length front + 1) ≡ line_fault (last_behind None front) line
+said_at : (front back : List (List ℕ)) (line : List ℕ)
+    → sentence_at (front ++ line ∷ back) (length front + 1) ≡ line_fault (last_behind None front) line
 said_at front back line =
     let all = front ++ line ∷ back in
     let number : length front + 1 - 1 ≡ length front = omega arith in

@@ -66,7 +66,8 @@ module _ (n : ℕ) (text : List ℕ) where
   -- a question with this path, this process and these rights, if they are there, given what is behind the rights
   abbrev Words : Option Path → Option ProcName → Option (List ℕ) → Option Rights → Type 0
   Words path process more rights =
-      is_none (cond (not (is_none more)) (Some no_form) (cond (is_none path) (Some (kind_text APath)) (cond (is_none process) (Some (kind_text Process))
+      is_none (cond (not (is_none more)) (Some no_form) (cond (is_none path) (Some (kind_text APath))
+      (cond (is_none process) (Some (kind_text Process))
       (cond (is_none rights) (Some no_rights) None))))
       ≡ is_some (option_and_then (λ (p : Path). option_and_then (question_with p) (option_and_then (λ (o : ProcName). paired o rights) process)) path)
 
@@ -99,7 +100,8 @@ module _ (n : ℕ) (text : List ℕ) where
 
   abbrev Whole : Option Path → Option (List ℕ) → Type 0
   Whole path rest =
-      is_none (cond (not (is_some rest && (is_some (after_word (unwrap_or rest [])) && is_none (after_word (rest_of (unwrap_or rest [])))))) (Some no_form)
+      is_none (cond (not (is_some rest && (is_some (after_word (unwrap_or rest [])) && is_none (after_word (rest_of (unwrap_or rest []))))))
+      (Some no_form)
       (cond (is_none path) (Some (kind_text APath)) (cond (is_none (process_of (word_of (unwrap_or rest [])))) (Some (kind_text Process))
       (cond (is_none (rights_spelled (rest_of (unwrap_or rest [])))) (Some no_rights) None))))
       ≡ is_some (option_and_then (λ (p : Path).
@@ -150,7 +152,8 @@ module _ (n : ℕ) (text : List ℕ) where
       option_and_then (λ (wanted : List ℕ). let claim : Option Claim = Some (record { line = n; said = text; path = path; wanted = wanted }) in claim)
       claimed
 
-  names_judged : (path : Path) (names : Option (List ℕ)) → is_none (first_sentence (claimed_rules names)) ≡ is_some (claim_with path (claimed_of names))
+  names_judged : (path : Path) (names : Option (List ℕ))
+      → is_none (first_sentence (claimed_rules names)) ≡ is_some (claim_with path (claimed_of names))
   names_judged path None = refl
   names_judged path (Some names) = ap is_none (words_said (slice_split (λ b. b == 32) names)) ∙ by (are_processes names)
     where
@@ -168,8 +171,10 @@ module _ (n : ℕ) (text : List ℕ) where
   abbrev Rest : Option (List ℕ) → Type 0
   Rest rest =
       is_none (cond (length (unwrap_or rest []) == 0) (Some (codes "a claim is `#trusted PATH PROC PROC ..`"))
-      (cond (is_none (path_of (word_of (unwrap_or rest [])))) (Some (kind_text APath)) (first_sentence (claimed_rules (after_word (unwrap_or rest []))))))
-      ≡ is_some (option_and_then (λ (l : List ℕ). option_and_then (λ (p : Path). claim_with p (claimed_of (after_word l))) (path_of (word_of l))) rest)
+      (cond (is_none (path_of (word_of (unwrap_or rest [])))) (Some (kind_text APath))
+      (first_sentence (claimed_rules (after_word (unwrap_or rest []))))))
+      ≡ is_some (option_and_then (λ (l : List ℕ).
+      option_and_then (λ (p : Path). claim_with p (claimed_of (after_word l))) (path_of (word_of l))) rest)
 
   rest_judged : (rest : Option (List ℕ)) → Rest rest
   unfolding split_at_first

@@ -17,8 +17,8 @@ returns-in-Some c =
     let says : line_fault c.lines.last line ≡ Some c.in-Some.said.now = search rules in
     let broken : is_none (line_fault c.lines.last line) ≡ false = ap is_none says in
     let whole = found line rest c.split_line.ensures.first c.lines.invariant.is_behind broken ∙ says in
-    says_same c.copied.result (Some c.in-Some.said.now) (fault_in (lines_of c.args.text.now) (steps_from 1 false (lines_of c.args.text.now))) (sym whole)
-    c.copied.ensures
+    let lines = lines_of c.args.text.now in
+    says_same c.copied.result (Some c.in-Some.said.now) (fault_in lines (steps_from 1 false lines)) (sym whole) c.copied.ensures
 
 pub lines-preserved : goal.lines-preserved
 lines-preserved c =
