@@ -9,3 +9,5 @@ pub mod ShownTrusted
 pub mod ChildNames
 pub mod ClaimNames
 pub mod FileLemmas
+pub mod FaultLemmas
+pub mod FaultLaws

@@ -31,7 +31,7 @@ module _ (n : ℕ) (is_open : Bool) (line : List ℕ) (lines : List (List ℕ)) 
   by_step step is = ap (λ (s : Result (Option Step) ℕ). steps_by n is_open s (λ opened. steps_from (n + 1) opened lines)) is
 
   -- the same, by whether a call is open after it
-  by_open : (step : Step) (opened : Option Bool) → step_of n line ≡ Ok (Some step) → open_after is_open step ≡ opened
+  pub by_open : (step : Step) (opened : Option Bool) → step_of n line ≡ Ok (Some step) → open_after is_open step ≡ opened
       → steps_from n is_open (line ∷ lines) ≡ step_then n step opened (λ o. steps_from (n + 1) o lines)
   by_open step opened is may =
       by_step (Ok (Some step)) is ∙ ap (λ (o : Option Bool). step_then n step o (λ o. steps_from (n + 1) o lines)) may

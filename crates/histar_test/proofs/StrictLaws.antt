@@ -63,7 +63,7 @@ strict_tests_keep_the_checks test = kept test.accounts (boot test.accounts) None
 -- ---- lines without an expectation
 
 -- a call has the same place among the items, whatever its number
-any_number : (n : ℕ) (item : Option Item) → is_some (call_in 0 item) ≡ is_some (call_in n item)
+pub any_number : (n : ℕ) (item : Option Item) → is_some (call_in 0 item) ≡ is_some (call_in n item)
 any_number n None = refl
 any_number n (Some (items.Call p c)) = refl
 any_number n (Some (items.User u)) = refl
@@ -79,7 +79,7 @@ none_called n line None None None misses nothing e = refl
 none_called n line None None (Some c) misses nothing e = absurd cc
 
 -- a question or a claim makes no call
-asks_no_call : (n : ℕ) (line a : List ℕ) (item : Option Item) → item_of line ≡ item → asked_of line ≡ Some a → call_in n item ≡ None
+pub asks_no_call : (n : ℕ) (line a : List ℕ) (item : Option Item) → item_of line ≡ item → asked_of line ≡ Some a → call_in n item ≡ None
 asks_no_call n line a None says asked = refl
 asks_no_call n line a (Some (items.User u)) says asked = refl
 asks_no_call n line a (Some (items.Group g)) says asked = refl
@@ -87,7 +87,7 @@ asks_no_call n line a (Some items.Comment) says asked = refl
 asks_no_call n line a (Some (items.Call p c)) says asked = absurd (none-some a (sym (no_comment line (call_says line p c says)).0 ∙ asked))
 
 -- a question or a claim is no expectation
-asks_nothing_more : (line a : List ℕ) → asked_of line ≡ Some a → expectation_of line ≡ None
+pub asks_nothing_more : (line a : List ℕ) → asked_of line ≡ Some a → expectation_of line ≡ None
 asks_nothing_more line a asked = by (bytes_eq (take 3 line) (codes "#= ")) refl
   where
     by : (b : Bool) → bytes_eq (take 3 line) (codes "#= ") ≡ b → (if b then Some (drop 3 line) else None) ≡ None

@@ -4,3 +4,4 @@ pub mod Checks
 pub mod Running
 pub mod Session
 pub mod Laws
+pub mod Faults

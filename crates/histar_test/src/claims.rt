@@ -67,7 +67,7 @@ fn are_all(words: &[&[u8]]) -> bool
 }
 
 /// Checks whether the words of a text are processes, with one space between two.
-fn are_processes(alloc: Global, text: &[u8]) -> Result<bool, AllocError>
+pub(crate) fn are_processes(alloc: Global, text: &[u8]) -> Result<bool, AllocError>
     ensures { IfOk result (λ are. are ≡ are_processes text.now) }
 {
     let words = split_at_spaces(alloc, text)?;

@@ -10,6 +10,7 @@
 mod asking;
 mod checks;
 mod claims;
+mod faults;
 mod questions;
 mod running;
 mod session;
@@ -19,6 +20,7 @@ pub mod test_laws;
 pub use asking::Asking;
 pub use checks::{Check, Made};
 pub use claims::Claim;
+pub use faults::fault_sentence;
 pub use questions::Question;
 pub use session::{TestFile, test};
 pub use steps::{Step, TestScript, read_test};

@@ -171,7 +171,7 @@ fn call_in(number: u32, item: Item) -> Option<CallLine>
 }
 
 /// Returns the reply that a line expects of the call before it, if it is an expectation.
-fn expectation_of(line: &[u8]) -> Option<&[u8]>
+pub(crate) fn expectation_of(line: &[u8]) -> Option<&[u8]>
     ensures { option_copied result ≡ expectation_of line.now }
 {
     line.strip_prefix(b"#= ".as_slice())

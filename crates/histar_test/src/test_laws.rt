@@ -1,4 +1,5 @@
 //! What a test checks. Each law is the contract of a function that does nothing.
+ghost use Rattle.histar_test.specs.Faults.{EachBadTestHasASentence, EachRefusedLineBreaksOne, NoTakenLineBreaksOne};
 ghost use Rattle.histar_test.specs.Laws.{ChecksAreOfTheMeaning, ClaimsAreMet, ExpectationsAreChecked};
 ghost use Rattle.histar_test.specs.Laws.{QuestionsAreOfReplies, StrictTestsAreMet};
 ghost use Rattle.histar_test.specs.Laws.{StrictTestsKeepTheChecks, TestsMakeTheCalls};
@@ -49,4 +50,19 @@ pub fn unexpected_refusals_are_checked()
 /// call that nobody speaks of is refused.
 pub fn strict_tests_are_met()
     ensures { StrictTestsAreMet }
+{}
+
+/// Shows that each line that a test may not have at its place breaks a rule of those that sentences are for.
+pub fn each_refused_line_breaks_one()
+    ensures { EachRefusedLineBreaksOne }
+{}
+
+/// Shows that no line that a test may have at its place breaks one of these rules.
+pub fn no_taken_line_breaks_one()
+    ensures { NoTakenLineBreaksOne }
+{}
+
+/// Shows that each script that is no test has a sentence on its first bad line.
+pub fn each_bad_test_has_a_sentence()
+    ensures { EachBadTestHasASentence }
 {}
