@@ -1,12 +1,15 @@
 //! The line behind a fault or a refusal that says more to a person at a terminal.
 use crate::BadWord;
+use crate::names::shown_name;
 use histar_attack_lint::lint_attack;
 use histar_command_line::{LintKind, Request, Task};
 use histar_console::open;
+use histar_io::read_input;
 use histar_lint::lint;
 use histar_raw_lint::lint_raw;
 use histar_script::Fault;
 use histar_shell::Counted;
+use histar_test::fault_sentence;
 use std::alloc::{AllocError, Global};
 use std::io::{self, Read};
 use std::rt::Files;
@@ -34,13 +37,26 @@ fn files_of<'a>(alloc: Global, task: &Task<'a>) -> Result<Vec<&'a str>, AllocErr
     }
 }
 
-/// Returns of which kind the files of a task are.
-fn kind_of(task: &Task<'_>) -> LintKind {
+/// What the files of a task are.
+#[derive(Clone, Copy)]
+enum Kind {
+    /// Scripts.
+    Script,
+    /// Scripts that say what they expect.
+    Test,
+    /// Sessions of raw calls.
+    Raw,
+    /// Scripts with raw calls between their lines.
+    Attack,
+}
+
+/// Returns what the files of a task are.
+fn kind_of(task: &Task<'_>) -> Kind {
     match task {
-        Task::Raw(_, _) => LintKind::Raw,
-        Task::Attack(_, _, _) => LintKind::Attack,
-        Task::Lint(_, kind, _) => *kind,
-        _ => LintKind::Script,
+        Task::Test(_, _) => Kind::Test,
+        Task::Raw(_, _) | Task::Lint(_, LintKind::Raw, _) => Kind::Raw,
+        Task::Attack(_, _, _) | Task::Lint(_, LintKind::Attack, _) => Kind::Attack,
+        _ => Kind::Script,
     }
 }
 
@@ -49,17 +65,46 @@ fn sentence_of<R: Files + Input>(
     rt: &R,
     alloc: Global,
     path: &str,
-    kind: LintKind,
+    kind: Kind,
 ) -> Result<Vec<u8>, Fault> {
     let mut reader = open(rt, path)?;
     let mut writer = Counted::new(Vec::new(alloc));
-    let name = path.as_bytes();
+    let name = shown_name(alloc, path.as_bytes())?;
+    let name = name.as_slice();
     let _is_right = match kind {
-        LintKind::Raw => lint_raw(alloc, name, &mut reader, &mut writer)?,
-        LintKind::Attack => lint_attack(alloc, name, &mut reader, &mut writer)?,
-        LintKind::Script | LintKind::Policy => lint(alloc, name, &mut reader, &mut writer)?,
+        Kind::Raw => lint_raw(alloc, name, &mut reader, &mut writer)?,
+        Kind::Attack => lint_attack(alloc, name, &mut reader, &mut writer)?,
+        Kind::Script | Kind::Test => lint(alloc, name, &mut reader, &mut writer)?,
     };
     Ok(writer.into_inner())
+}
+
+/// Returns the sentence on the first line of a right script that says badly what it expects, if there is one.
+fn expectation_of<R: Files + Input>(
+    rt: &R,
+    alloc: Global,
+    path: &str,
+) -> Result<Option<Vec<u8>>, Fault> {
+    let mut reader = open(rt, path)?;
+    let input = read_input(alloc, &mut reader)?;
+    Ok(fault_sentence(alloc, input.as_slice())?)
+}
+
+/// Writes what is wrong with the expectations of a right script, whose bad line has this number, and returns whether
+/// anything is.
+fn say_expectation<R: Files + Input + Eprint>(
+    rt: &R,
+    alloc: Global,
+    path: &str,
+    line: u32,
+) -> bool {
+    let Ok(Some(sentence)) = expectation_of(rt, alloc, path) else {
+        return false;
+    };
+    if let Ok(sentence) = str::from_utf8(sentence.as_slice()) {
+        let _ = eprintln!(rt; "{path}:{line}: {sentence}");
+    }
+    true
 }
 
 /// Writes why a file is bad or can't be read, and returns whether it is or can't.
@@ -67,11 +112,14 @@ fn say_of<R: Files + Input + Eprint>(
     rt: &R,
     alloc: Global,
     path: &str,
-    kind: LintKind,
+    kind: Kind,
     fault: &Fault,
 ) -> bool {
     match (sentence_of(rt, alloc, path, kind), fault) {
-        (Ok(line), Fault::BadScript(_)) => say_text(rt, line.as_slice()),
+        (Ok(line), Fault::BadScript(number)) => {
+            say_text(rt, line.as_slice())
+                || matches!(kind, Kind::Test) && say_expectation(rt, alloc, path, *number)
+        }
         (Err(Fault::TooLong), Fault::TooLong) => {
             let _ = eprintln!(rt; "{path}: script too long");
             true
