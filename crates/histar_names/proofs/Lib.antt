@@ -3,3 +3,4 @@ pub mod Parts
 pub mod Remembering
 pub mod NamedCategories
 pub mod NamedObjects
+pub mod RightUsers

@@ -1,9 +1,10 @@
 -- The names of objects and categories are right in a state that represents a flat state.
-use Rattle.std.specs.Prelude.{◌≡◌, ℕ, ◌-◌, ◌+◌, ◌*◌, ◌≤◌, ◌⊎◌, true, false, ◌∷◌, [], length, nat_le, Some, if◌then◌else◌}
+use Rattle.std.specs.Prelude.{◌≡◌, ℕ, ◌-◌, ◌+◌, ◌*◌, ◌≤◌, ◌⊎◌, true, false, ◌∷◌, [], length, nat_le, Some, option_map, if◌then◌else◌}
 use Rattle.histar_flat.specs.Words.{ProcName}
 use Rattle.histar_flat.specs.Accounts.{Accounts, has}
 use Rattle.histar_flat.specs.Classes.{Process}
 use Rattle.histar_flat.specs.FlatState.{Flat}
+use Rattle.histar_flat.specs.FlatCalls.{running}
 use Rattle.histar_object.specs.State.{State}
 use Rattle.histar_layout.specs.UserTable.{without_passwords}
 use Rattle.histar_programs.specs.Start.{roots_of}
@@ -20,6 +21,7 @@ use Rattle.histar_names.specs.declared.location.Location.{Location}
 use Rattle.histar_names.specs.declared.location.Location.TheVariants.{Root, Password, Gate, Users, At, Part}
 use Rattle.histar_names.specs.Purposes.{purpose_of}
 use Rattle.histar_names.specs.Location.{location_of}
+use Rattle.histar_names.specs.Runners.{user_at}
 
 -- ---- categories
 
@@ -82,3 +84,11 @@ LocationsAreRight =
     (accounts : Accounts) (s : State) (f : Flat) (l : ObjectsMatch accounts s f) (clue : Clue) (q : ℕ) (location : Location)
     → location_of (without_passwords accounts) (roots_of (length accounts.users)) s clue q ≡ Some location
     → StandsAs accounts s f l q location
+
+-- ---- processes
+
+-- The user given for a process is that of the flat state: there is one exactly if the process runs.
+abbrev pub UsersAreRight : Type 0
+UsersAreRight =
+    (accounts : Accounts) (s : State) (f : Flat) → ObjectsMatch accounts s f → (me : ProcName)
+    → user_at (without_passwords accounts) s (roots_of (length accounts.users)).home me ≡ option_map (λ (p : Process). p.user) (running f me)

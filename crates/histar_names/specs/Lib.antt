@@ -3,5 +3,6 @@ pub mod Births
 pub mod Clues
 pub mod Purposes
 pub mod Location
+pub mod Runners
 pub mod NamedWords
 pub mod Laws

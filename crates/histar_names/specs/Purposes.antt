@@ -111,7 +111,7 @@ owner_name accounts i =
 
 -- what a category is for
 abbrev pub purpose_text : Accounts → Purpose → List ℕ
-purpose_text accounts Boot = codes "boot"
+purpose_text accounts Boot = codes "the kernel's own category"
 purpose_text accounts (Reads i) = codes "read:" ++ owner_name accounts i
 purpose_text accounts (Writes i) = codes "write:" ++ owner_name accounts i
 purpose_text accounts (ReadsProcess me) = codes "own-read:" ++ process_text me

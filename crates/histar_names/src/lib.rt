@@ -12,6 +12,7 @@ mod location;
 mod named_words;
 mod names;
 mod purposes;
+mod runners;
 
 pub use births::note_births;
 pub use clues::{Clue, clue_of};

@@ -7,11 +7,13 @@ ghost use Rattle.histar_syscall.specs.KernelModel.{state};
 ghost use Rattle.histar_names.specs.Purposes.{name_of_group, owner_name, purpose_text};
 ghost use Rattle.histar_names.specs.Location.{location_text};
 ghost use Rattle.histar_names.specs.NamedWords.{category_text, words_at};
+ghost use Rattle.histar_names.specs.Runners.{runner_text};
 
 use crate::location::{Location, location_of};
 use crate::names::Names;
 use crate::purposes::{Purpose, purpose_of};
-use histar_flat::ProcName;
+use crate::runners::user_at;
+use histar_flat::{Name, ProcName};
 use histar_label::{Category, LabelStore};
 use histar_layout::UserTable;
 use histar_object::ObjId;
@@ -67,13 +69,25 @@ fn push_purpose(text: &mut Vec<u8>, users: &UserTable, purpose: &Purpose) -> Res
     ensures { OnOk result (text.new.items ≡ text.old.items ++ purpose_text users.now purpose.now) }
 {
     match purpose {
-        Purpose::Boot => text.extend_from_slice(b"boot"),
+        Purpose::Boot => text.extend_from_slice(b"the kernel's own category"),
         Purpose::Reads(owner) => push_owned(text, b"read:", users, *owner),
         Purpose::Writes(owner) => push_owned(text, b"write:", users, *owner),
         Purpose::ReadsProcess(process) => push_of(text, b"own-read:", process),
         Purpose::WritesProcess(process) => push_of(text, b"own-write:", process),
         Purpose::Job(process) => push_of(text, b"job:", process),
     }
+}
+
+/// Adds the user of a process in brackets, if the process runs.
+fn push_runner(text: &mut Vec<u8>, user: Option<Name>) -> Result<(), AllocError>
+    ensures { OnOk result (text.new.items ≡ text.old.items ++ runner_text user) }
+{
+    let Some(user) = user else {
+        return Ok(());
+    };
+    text.extend_from_slice(b" (")?;
+    text.extend_from_slice(user.as_bytes())?;
+    text.extend_from_slice(b")")
 }
 
 /// Adds what an object is.
@@ -112,7 +126,8 @@ impl<'k, S: LabelStore + Drop> Wording for Names<'k, S> {
     ghost words = { λ n. words_at n.users.now n.roots.now (state n.kernel.now) n.clue.now n.births.now };
 
     fn push_thread(&self, text: &mut Vec<u8>, _thread: ObjId) -> Result<(), AllocError> {
-        push_process(text, &self.clue.caller)
+        push_process(text, &self.clue.caller)?;
+        push_runner(text, user_at(self, &self.clue.caller))
     }
 
     fn push_object(&self, text: &mut Vec<u8>, object: ObjId) -> Result<(), AllocError> {
@@ -128,5 +143,12 @@ impl<'k, S: LabelStore + Drop> Wording for Names<'k, S> {
 
     fn push_listed(&self, text: &mut Vec<u8>, category: Category) -> Result<(), AllocError> {
         self.push_category_name(text, category)
+    }
+
+    fn push_made(&self, text: &mut Vec<u8>, kind: &str) -> Result<(), AllocError> {
+        if self.clue.path.names().is_empty() {
+            return ByNumber.push_made(text, kind);
+        }
+        push_path(text, &self.clue.path)
     }
 }

@@ -1,5 +1,5 @@
 -- The parts of the lines that each subcommand writes.
-use Rattle.std.specs.Prelude.{ℕ, Bool, true, false, List, [], ◌∷◌, codes, if◌then◌else◌}
+use Rattle.std.specs.Prelude.{ℕ, ◌||◌, Bool, true, false, List, [], ◌∷◌, ◌++◌, codes, if◌then◌else◌}
 use Rattle.histar_output.specs.declared.forms.Form.{Form}
 use Rattle.histar_output.specs.declared.forms.Form.TheVariants.{Run, Access, Trust, Flows, Check, CheckAll, Diff, Test, Lint}
 use Rattle.histar_output.specs.declared.parts.Kind.TheVariants as kinds
@@ -46,6 +46,21 @@ call_parts line =
 abbrev pub reply_parts : List ℕ → List Part
 reply_parts line = if has_call line then call_parts line else count (codes "line") ∷ word (codes "reply") ∷ ending (codes "value") ∷ []
 
+-- what explains a denial has the user of the process, in brackets
+abbrev pub has_user : List ℕ → Bool
+has_user line = begins (codes "(") (behind (codes " ") (behind (codes " ") line))
+
+-- whose denial is explained: a process with its user, or without one, or a thread
+abbrev pub denied_parts : Bool → List Part
+denied_parts true = word (codes "process") ∷ past (codes "(") ∷ text (codes "user") (codes ") may not ") ∷ []
+denied_parts false = text (codes "process") (codes " may not ") ∷ []
+
+-- a line that explains a denial
+abbrev pub denial_parts : List ℕ → List Part
+denial_parts line =
+    past (codes "?") ∷ count (codes "line") ∷ denied_parts (has_user line)
+    ++ text (codes "denied") (codes ": ") ∷ ending (codes "because") ∷ []
+
 -- a line of `run`, `try` or `raw`: of the tree, of the trace, a reason, an explanation, or a reply
 abbrev pub run_parts : List ℕ → List Part
 run_parts line =
@@ -54,14 +69,18 @@ run_parts line =
     past (codes "@") ∷ count (codes "line") ∷ count (codes "thread") ∷ text (codes "call") (codes " = ") ∷ ending (codes "outcome") ∷ []
     else if begins (codes "!") line then
     past (codes "!") ∷ count (codes "line") ∷ text (codes "reply") (codes ": ") ∷ ending (codes "why") ∷ []
-    else if begins (codes "?") line then
-    past (codes "?") ∷ count (codes "line") ∷ text (codes "process") (codes " may not ") ∷ text (codes "denied") (codes ": ")
-    ∷ ending (codes "because") ∷ []
+    else if begins (codes "?") line then denial_parts line
     else reply_parts line
 
--- a line of `access`
-abbrev pub access_parts : List Part
-access_parts = entry_parts (codes " ") (rest (codes "rights") kinds.Rights ∷ [])
+-- a line of `access` shows what is at its path
+abbrev pub has_kind : List ℕ → Bool
+has_kind line = begins (codes "dir ") (behind (codes " ") line) || begins (codes "file ") (behind (codes " ") line)
+
+-- a line of `access`: with what is at the path, or, of `access --ever`, without
+abbrev pub access_parts : List ℕ → List Part
+access_parts line =
+    if has_kind line then entry_parts (codes " ") (rest (codes "rights") kinds.Rights ∷ [])
+    else word (codes "path") ∷ rest (codes "rights") kinds.Rights ∷ []
 
 -- a line of `trust`: what is at the path, or who has which role
 abbrev pub trust_parts : List ℕ → List Part
@@ -96,9 +115,12 @@ check_parts line =
 abbrev pub check_all_parts : List ℕ → List Part
 check_all_parts line = word (codes "job") ∷ check_parts (behind (codes " ") line)
 
--- a line of `diff`
-abbrev pub diff_parts : List Part
-diff_parts = word (codes "path") ∷ word (codes "process") ∷ word (codes "user") ∷ word (codes "old") ∷ ending (codes "new") ∷ []
+-- a line of `diff`: a process that one side lacks, or the rights of a process at a path
+abbrev pub diff_parts : List ℕ → List Part
+diff_parts line =
+    if begins (codes "process ") line then
+    past (codes " ") ∷ word (codes "process") ∷ word (codes "user") ∷ ending (codes "change") ∷ []
+    else word (codes "path") ∷ word (codes "process") ∷ word (codes "user") ∷ word (codes "old") ∷ ending (codes "new") ∷ []
 
 -- what follows the first words of a check of `test`
 abbrev pub met_parts : List Part
@@ -119,11 +141,11 @@ lint_parts = text (codes "place") (codes ": ") ∷ ending (codes "sentence") ∷
 -- the parts of a line in this form
 abbrev pub parts_of : Form → List ℕ → List Part
 parts_of Run line = run_parts line
-parts_of Access line = access_parts
+parts_of Access line = access_parts line
 parts_of Trust line = trust_parts line
 parts_of Flows line = flows_parts line
 parts_of Check line = check_parts line
 parts_of CheckAll line = check_all_parts line
-parts_of Diff line = diff_parts
+parts_of Diff line = diff_parts line
 parts_of Test line = test_parts line
 parts_of Lint line = lint_parts

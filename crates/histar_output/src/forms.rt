@@ -1,7 +1,8 @@
 //! The parts of the lines that each subcommand writes.
 ghost use Rattle.std.specs.Prelude.{◌≡◌, Some, map};
 ghost use Rattle.json.specs.Tree.{members_tokens};
-ghost use Rattle.histar_output.specs.Forms.{access_parts, call_parts, check_all_parts, check_parts, diff_parts, flows_parts, has_call, is_read};
+ghost use Rattle.histar_output.specs.Forms.{access_parts, call_parts, check_all_parts, check_parts, denial_parts, diff_parts, flows_parts};
+ghost use Rattle.histar_output.specs.Forms.{has_call, has_kind, has_user, is_read};
 ghost use Rattle.histar_output.specs.Forms.{lint_parts, parts_of, reply_parts, run_parts, test_parts, trust_parts};
 ghost use Rattle.histar_output.specs.Parts.{members_of};
 ghost use Rattle.histar_output.specs.Written.{Adds, part_of};
@@ -43,12 +44,12 @@ pub(crate) fn write_fact(writer: &mut Writer, form: Form, line: &str) -> Result<
 {
     let parts = match form {
         Form::Run => run_parts(line),
-        Form::Access => access_parts(),
+        Form::Access => access_parts(line),
         Form::Trust => trust_parts(line),
         Form::Flows => flows_parts(line),
         Form::Check => check_parts(line),
         Form::CheckAll => return write_check_all(writer, line),
-        Form::Diff => diff_parts(),
+        Form::Diff => diff_parts(line),
         Form::Test => test_parts(line),
         Form::Lint => lint_parts(),
     };
@@ -97,6 +98,34 @@ fn run_parts(line: &str) -> &'static [Part]
             Rest("why", Text),
         ]
     } else if begins(line, "?") {
+        denial_parts(line)
+    } else {
+        reply_parts(line)
+    }
+}
+
+/// Checks whether what explains a denial has the user of the process, in brackets.
+fn has_user(line: &str) -> bool
+    ensures { result ≡ has_user line.now }
+{
+    begins(behind(behind(line, " "), " "), "(")
+}
+
+/// Returns the parts of a line that explains a denial.
+fn denial_parts(line: &str) -> &'static [Part]
+    ensures { map part_of result.now ≡ denial_parts line.now }
+{
+    if has_user(line) {
+        &[
+            Past("?"),
+            Upto("line", Number, " "),
+            Upto("process", Text, " "),
+            Past("("),
+            Upto("user", Text, ") may not "),
+            Upto("denied", Text, ": "),
+            Rest("because", Text),
+        ]
+    } else {
         &[
             Past("?"),
             Upto("line", Number, " "),
@@ -104,8 +133,6 @@ fn run_parts(line: &str) -> &'static [Part]
             Upto("denied", Text, ": "),
             Rest("because", Text),
         ]
-    } else {
-        reply_parts(line)
     }
 }
 
@@ -161,17 +188,29 @@ fn call_parts(line: &str) -> &'static [Part]
     }
 }
 
-/// Returns the parts of a line of `access`.
-fn access_parts() -> &'static [Part]
-    ensures { map part_of result.now ≡ access_parts }
+/// Checks whether a line of `access` shows what is at its path.
+fn has_kind(line: &str) -> bool
+    ensures { result ≡ has_kind line.now }
 {
-    &[
-        Upto("path", Text, " "),
-        Upto("kind", Text, " "),
-        Upto("owner", Text, " "),
-        Upto("mode", Text, " "),
-        Rest("rights", Rights),
-    ]
+    let more = behind(line, " ");
+    begins(more, "dir ") || begins(more, "file ")
+}
+
+/// Returns the parts of a line of `access`.
+fn access_parts(line: &str) -> &'static [Part]
+    ensures { map part_of result.now ≡ access_parts line.now }
+{
+    if has_kind(line) {
+        &[
+            Upto("path", Text, " "),
+            Upto("kind", Text, " "),
+            Upto("owner", Text, " "),
+            Upto("mode", Text, " "),
+            Rest("rights", Rights),
+        ]
+    } else {
+        &[Upto("path", Text, " "), Rest("rights", Rights)]
+    }
 }
 
 /// Returns the parts of a line of `trust`.
@@ -247,16 +286,25 @@ fn check_parts(line: &str) -> &'static [Part]
 }
 
 /// Returns the parts of a line of `diff`.
-fn diff_parts() -> &'static [Part]
-    ensures { map part_of result.now ≡ diff_parts }
+fn diff_parts(line: &str) -> &'static [Part]
+    ensures { map part_of result.now ≡ diff_parts line.now }
 {
-    &[
-        Upto("path", Text, " "),
-        Upto("process", Text, " "),
-        Upto("user", Text, " "),
-        Upto("old", Text, " "),
-        Rest("new", Text),
-    ]
+    if begins(line, "process ") {
+        &[
+            Past(" "),
+            Upto("process", Text, " "),
+            Upto("user", Text, " "),
+            Rest("change", Text),
+        ]
+    } else {
+        &[
+            Upto("path", Text, " "),
+            Upto("process", Text, " "),
+            Upto("user", Text, " "),
+            Upto("old", Text, " "),
+            Rest("new", Text),
+        ]
+    }
 }
 
 /// Returns the parts of a line of `test`.

@@ -52,11 +52,13 @@ fn a_trace_and_reasons(rt: HostRuntime) -> Result<(), Fail> {
     let text = "@0 2 make_category = ok\n\
                 @10 16 read 18 20 = Observe\n\
                 !14 EPERM: user carol is not in group team\n\
-                ?11 0.1 may not modify /: at write:alice the thread has 1, the object 0\n";
+                ?11 0.1 may not modify /: at write:alice the thread has 1, the object 0\n\
+                ?12 0.1 (bob) may not observe /a: at read:alice the object has 3, the thread 1\n";
     let wanted = "{\"line\":0,\"thread\":2,\"call\":\"make_category\",\"outcome\":\"ok\"}\n\
                   {\"line\":10,\"thread\":16,\"call\":\"read 18 20\",\"outcome\":\"Observe\"}\n\
                   {\"line\":14,\"reply\":\"EPERM\",\"why\":\"user carol is not in group team\"}\n\
-                  {\"line\":11,\"process\":\"0.1\",\"denied\":\"modify /\",\"because\":\"at write:alice the thread has 1, the object 0\"}\n";
+                  {\"line\":11,\"process\":\"0.1\",\"denied\":\"modify /\",\"because\":\"at write:alice the thread has 1, the object 0\"}\n\
+                  {\"line\":12,\"process\":\"0.1\",\"user\":\"bob\",\"denied\":\"observe /a\",\"because\":\"at read:alice the object has 3, the thread 1\"}\n";
     assert!(rt; is_written(rt.alloc(), Form::Run, text.as_bytes(), wanted)?);
     Ok(())
 }
@@ -77,10 +79,12 @@ fn calls_with_replies(rt: HostRuntime) -> Result<(), Fail> {
 #[test]
 fn access(rt: HostRuntime) -> Result<(), Fail> {
     let text = "/ dir root readable 0:srw- 0.1:sr--\n\
-                /tmp dir - open\n";
+                /tmp dir - open\n\
+                /tmp/dir 0:---- 0.1:s---\n";
     let wanted =
         "{\"path\":\"/\",\"kind\":\"dir\",\"owner\":\"root\",\"mode\":\"readable\",\"rights\":{\"0\":\"srw-\",\"0.1\":\"sr--\"}}\n\
-                  {\"path\":\"/tmp\",\"kind\":\"dir\",\"owner\":\"-\",\"mode\":\"open\"}\n";
+                  {\"path\":\"/tmp\",\"kind\":\"dir\",\"owner\":\"-\",\"mode\":\"open\"}\n\
+                  {\"path\":\"/tmp/dir\",\"rights\":{\"0\":\"----\",\"0.1\":\"s---\"}}\n";
     assert!(rt; is_written(rt.alloc(), Form::Access, text.as_bytes(), wanted)?);
     Ok(())
 }
@@ -154,9 +158,10 @@ fn check_all(rt: HostRuntime) -> Result<(), Fail> {
 
 #[test]
 fn diff(rt: HostRuntime) -> Result<(), Fail> {
-    let text = "/home/alice/diary 0 root ---- s--d\n";
-    let wanted =
-        "{\"path\":\"/home/alice/diary\",\"process\":\"0\",\"user\":\"root\",\"old\":\"----\",\"new\":\"s--d\"}\n";
+    let text = "process 0.2 bob gone\n\
+                /home/alice/diary 0 root .... s--d\n";
+    let wanted = "{\"process\":\"0.2\",\"user\":\"bob\",\"change\":\"gone\"}\n\
+                  {\"path\":\"/home/alice/diary\",\"process\":\"0\",\"user\":\"root\",\"old\":\"....\",\"new\":\"s--d\"}\n";
     assert!(rt; is_written(rt.alloc(), Form::Diff, text.as_bytes(), wanted)?);
     Ok(())
 }

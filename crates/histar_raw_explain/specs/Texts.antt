@@ -1,5 +1,6 @@
 -- The text of the explanation of a denied call.
-use Rattle.std.specs.Prelude.{ℕ, ◌==◌, List, [], ◌++◌, length, Option, None, Some, codes, decimal, if◌then◌else◌}
+use Rattle.std.specs.Prelude.{ℕ, ◌==◌, ◌&&◌, ◌||◌, not, Bool, true, false, List, [], ◌∷◌, ◌++◌, length}
+use Rattle.std.specs.Prelude.{Option, None, Some, is_some, codes, decimal, if◌then◌else◌}
 use Rattle.std.specs.List.{flat_map}
 use Rattle.histar_level.specs.declared.level.Level.{Level}
 use Rattle.histar_rawtext.specs.RawText.{level_text}
@@ -15,12 +16,13 @@ use Rattle.histar_explain.specs.declared.reasons.Party.TheVariants.{ThreadCleara
 use Rattle.histar_explain.specs.declared.reasons.Party.TheVariants.{AnySegment, AnyContainer}
 use Rattle.histar_explain.specs.declared.reasons.Reason.{Reason}
 
--- the wording of threads, objects and categories, and of categories in a list of several
+-- the wording of threads, objects and categories, of categories in a list of several, and of an object of this kind that a call would make
 pub record Words : Type 0 where
   pub thread : ℕ → List ℕ
   pub object : ℕ → List ℕ
   pub category : ℕ → List ℕ
   pub listed : ℕ → List ℕ
+  pub made : List ℕ → List ℕ
 
 -- the wording of each by its number
 abbrev pub raw_words : Words
@@ -29,6 +31,7 @@ raw_words = record {
   object = λ q. codes "object " ++ decimal q;
   category = λ c. codes "category " ++ decimal c;
   listed = decimal;
+  made = λ kind. codes "that " ++ kind;
 }
 
 -- a verb and an object
@@ -47,8 +50,8 @@ act_text words (acts.Write q) = object_text words (codes "write") q
 act_text words acts.TakeLabel = codes "take that label"
 act_text words acts.TakeClearance = codes "take that clearance"
 act_text words acts.MakeCategory = codes "make that category"
-act_text words acts.MakeSegment = codes "make that segment"
-act_text words acts.MakeContainer = codes "make that container"
+act_text words acts.MakeSegment = codes "make " ++ words.made (codes "segment")
+act_text words acts.MakeContainer = codes "make " ++ words.made (codes "container")
 act_text words acts.MakeThread = codes "make that thread"
 act_text words acts.MakeGate = codes "make that gate"
 
@@ -115,34 +118,59 @@ unmade_line words opening c = opening ++ words.category c ++ codes " was never m
 abbrev pub place_text : Words → List ℕ → ℕ → List ℕ
 place_text words opening c = opening ++ codes "at " ++ words.category c ++ codes " "
 
+-- the comparison of a reason fails at some category
+abbrev pub fails : Reason → Bool
+fails r = not (length r.named.items == 0) || is_some r.elsewhere
+
+-- both tests of a denial to modify fail: to write the object, and to read it, which writing needs
+abbrev pub both_fail : List Reason → Bool
+both_fail (a ∷ b ∷ []) = fails a && fails b
+both_fail reasons = false
+
+-- the end of each line of a reason: which test it is of, if both tests of a denial to modify fail
+abbrev pub test_text : Bool → Party → Party → List ℕ
+test_text true Thread Object = codes " (to write it)"
+test_text true Object Thread = codes " (to read it, which writing needs)"
+test_text both lower upper = []
+
+-- the end of a line of a reason: the two levels, which test they are of, and a line end
+abbrev pub levels_line : Bool → Party → Party → Level → Level → List ℕ
+levels_line both lower upper l m = excess_text lower upper l m ++ test_text both lower upper ++ codes "\n"
+
 -- the line of a listed category at which a comparison fails
-abbrev pub difference_line : Words → List ℕ → Party → Party → Difference → List ℕ
-difference_line words opening lower upper d = place_text words opening d.category ++ excess_text lower upper d.lower d.upper ++ codes "\n"
+abbrev pub difference_line : Words → List ℕ → Bool → Party → Party → Difference → List ℕ
+difference_line words opening both lower upper d = place_text words opening d.category ++ levels_line both lower upper d.lower d.upper
 
 -- a category that is spared, with a space before it
 abbrev pub spared_text : Words → Difference → List ℕ
 spared_text words d = codes " " ++ words.listed d.category
 
--- all other categories except the spared ones
+-- all categories except the spared ones
 abbrev pub but_text : Words → List Difference → List ℕ
-but_text words spared = codes "other category but" ++ flat_map (spared_text words) spared
+but_text words spared = codes "but" ++ flat_map (spared_text words) spared
 
--- all categories that no label lists, or all others except the spared ones
+-- all categories that no label names, or all except the spared ones
 unfoldable pub elsewhere_text : Words → List Difference → List ℕ
-elsewhere_text words spared = if length spared == 0 then codes "category that neither lists" else but_text words spared
+elsewhere_text words spared = if length spared == 0 then codes "that neither label names" else but_text words spared
 
 -- the beginning of the line of all other categories
 abbrev pub every_text : Words → List ℕ → List Difference → List ℕ
-every_text words opening spared = opening ++ codes "at every " ++ elsewhere_text words spared ++ codes " "
+every_text words opening spared = opening ++ codes "at all categories " ++ elsewhere_text words spared ++ codes ": "
 
 -- the line of all other categories, where the comparison fails for the defaults
-abbrev pub elsewhere_line : Words → List ℕ → Party → Party → List Difference → Option (Level × Level) → List ℕ
-elsewhere_line words opening lower upper spared None = []
-elsewhere_line words opening lower upper spared (Some levels) = every_text words opening spared ++ excess_text lower upper levels.0 levels.1 ++ codes "\n"
+abbrev pub elsewhere_line : Words → List ℕ → Bool → Reason → Option (Level × Level) → List ℕ
+elsewhere_line words opening both r None = []
+elsewhere_line words opening both r (Some levels) =
+    every_text words opening r.spared.items ++ levels_line both r.lower r.upper levels.0 levels.1
 
 -- the lines of a reason: its listed categories by rising number, and then all others
-abbrev pub reason_lines : Words → List ℕ → Reason → List ℕ
-reason_lines words opening r = flat_map (difference_line words opening r.lower r.upper) r.named.items ++ elsewhere_line words opening r.lower r.upper r.spared.items r.elsewhere
+abbrev pub reason_lines : Words → List ℕ → Bool → Reason → List ℕ
+reason_lines words opening both r =
+    flat_map (difference_line words opening both r.lower r.upper) r.named.items ++ elsewhere_line words opening both r r.elsewhere
+
+-- the lines of reasons
+abbrev pub all_reason_lines : Words → List ℕ → List Reason → List ℕ
+all_reason_lines words opening reasons = flat_map (reason_lines words opening (both_fail reasons)) reasons
 
 -- the line of the obstacle, if there is one
 abbrev pub obstacle_lines : List ℕ → Option Obstacle → List ℕ
@@ -151,7 +179,8 @@ obstacle_lines opening (Some obstacle) = opening ++ obstacle_text obstacle ++ co
 
 -- the lines of an explanation, each with the same beginning
 abbrev pub explanation_lines : Words → List ℕ → Explanation → List ℕ
-explanation_lines words opening e = flat_map (unmade_line words opening) e.unmade.items ++ flat_map (reason_lines words opening) e.reasons.items ++ obstacle_lines opening e.obstacle
+explanation_lines words opening e =
+    flat_map (unmade_line words opening) e.unmade.items ++ all_reason_lines words opening e.reasons.items ++ obstacle_lines opening e.obstacle
 
 -- the lines that explain why the call of a thread on a line was denied
 abbrev pub explanation_text : Words → ℕ → ℕ → Explanation → List ℕ

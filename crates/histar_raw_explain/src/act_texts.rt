@@ -1,5 +1,5 @@
 //! The words for the action that a denied call tried, and for its obstacle.
-ghost use Rattle.std.specs.Prelude.{◌≡◌, ◌++◌, OnOk};
+ghost use Rattle.std.specs.Prelude.{◌≡◌, ◌++◌, OnOk, codes};
 ghost use Rattle.histar_raw_explain.specs.Texts.{act_text, not_linked_text, object_text, obstacle_text, plain_text, too_long_text};
 
 use crate::wording::Wording;
@@ -20,6 +20,15 @@ fn push_object<V: Wording>(
     text.extend_from_slice(verb.as_bytes())?;
     text.extend_from_slice(b" ")?;
     words.push_object(text, object)
+}
+
+/// Adds that the call would make an object of this kind.
+fn push_making<V: Wording>(text: &mut Vec<u8>, words: &V, kind: &str) -> Result<(), AllocError>
+    ensures { OnOk result (text.new.items ≡ text.old.items
+        ++ (codes "make " ++ (V.words words.now).made kind.now)) }
+{
+    text.extend_from_slice(b"make ")?;
+    words.push_made(text, kind)
 }
 
 /// Adds the action that a denied call tried.
@@ -44,8 +53,8 @@ pub(crate) fn push_act<V: Wording>(
         Act::TakeLabel => text.extend_from_slice(b"take that label"),
         Act::TakeClearance => text.extend_from_slice(b"take that clearance"),
         Act::MakeCategory => text.extend_from_slice(b"make that category"),
-        Act::MakeSegment => text.extend_from_slice(b"make that segment"),
-        Act::MakeContainer => text.extend_from_slice(b"make that container"),
+        Act::MakeSegment => push_making(text, words, "segment"),
+        Act::MakeContainer => push_making(text, words, "container"),
         Act::MakeThread => text.extend_from_slice(b"make that thread"),
         Act::MakeGate => text.extend_from_slice(b"make that gate"),
     }

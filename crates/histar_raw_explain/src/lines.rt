@@ -2,13 +2,14 @@
 ghost use Rattle.std.specs.Prelude.{◌≡◌, ◌++◌, IfOk, OnOk};
 ghost use Rattle.std.specs.List.{flat_map};
 ghost use Rattle.histar_raw_explain.specs.Texts.{opening_text, unmade_line, place_text, but_text, spared_text, elsewhere_text};
-ghost use Rattle.histar_raw_explain.specs.Texts.{every_text, difference_line, elsewhere_line, reason_lines, obstacle_lines};
+ghost use Rattle.histar_raw_explain.specs.Texts.{every_text, difference_line, elsewhere_line, levels_line, reason_lines};
+ghost use Rattle.histar_raw_explain.specs.Texts.{all_reason_lines, both_fail, fails, obstacle_lines, test_text};
 ghost use Rattle.histar_raw_explain.specs.Texts.{explanation_lines, explanation_text};
 
 use crate::act_texts::{push_act, push_obstacle};
 use crate::party_texts::push_excess;
 use crate::wording::Wording;
-use histar_explain::{Act, Difference, Explanation, Obstacle, Reason};
+use histar_explain::{Act, Difference, Explanation, Obstacle, Party, Reason};
 use histar_label::{Category, Level};
 use histar_object::ObjId;
 use histar_rawtext::push_number;
@@ -101,41 +102,86 @@ fn push_place<V: Wording>(
     text.extend_from_slice(b" ")
 }
 
+/// Checks whether the comparison of a reason fails at some category.
+fn fails(reason: &Reason) -> bool
+    ensures { result ≡ fails reason.now }
+{
+    !reason.named.is_empty() || reason.elsewhere.is_some()
+}
+
+/// Checks whether these are the tests of a denial to modify, and both fail.
+fn both_fail(reasons: &[Reason]) -> bool
+    ensures { result ≡ both_fail reasons.now }
+{
+    match reasons {
+        [first, second] => fails(first) && fails(second),
+        _ => false,
+    }
+}
+
+/// Returns which test the lines of a reason are of, if both tests of a denial to modify fail.
+fn test_text(both: bool, reason: &Reason) -> &'static str
+    ensures { result.now ≡ test_text both reason.now.lower reason.now.upper }
+{
+    match (both, reason.lower, reason.upper) {
+        (true, Party::Thread, Party::Object) => " (to write it)",
+        (true, Party::Object, Party::Thread) => " (to read it, which writing needs)",
+        _ => "",
+    }
+}
+
+/// Adds how the two levels of a reason's comparison differ, and the end of the line.
+fn push_levels(
+    text: &mut Vec<u8>,
+    reason: &Reason,
+    lower: Level,
+    upper: Level,
+    both: bool,
+) -> Result<(), AllocError>
+    ensures { OnOk result (text.new.items ≡ text.old.items
+        ++ levels_line both reason.now.lower reason.now.upper lower upper) }
+{
+    push_excess(text, reason.lower, reason.upper, lower, upper)?;
+    text.extend_from_slice(test_text(both, reason).as_bytes())?;
+    text.extend_from_slice(b"\n")
+}
+
+/// The beginning of each line of an explanation, and whether both tests of a denial to modify fail.
+#[derive(Clone, Copy)]
+struct Frame<'a> {
+    opening: &'a [u8],
+    both: bool,
+}
+
 /// Adds the line of a category at which a reason's comparison fails.
 fn push_difference<V: Wording>(
     text: &mut Vec<u8>,
     words: &V,
-    opening: &[u8],
+    frame: Frame,
     reason: &Reason,
     difference: Difference,
 ) -> Result<(), AllocError>
     ensures { OnOk result (text.new.items ≡ text.old.items
-        ++ difference_line (V.words words.now) opening.now reason.now.lower reason.now.upper difference) }
+        ++ difference_line (V.words words.now) frame.entry.opening.now frame.entry.both
+        reason.now.lower reason.now.upper difference) }
 {
-    push_place(text, words, opening, difference.category)?;
-    push_excess(
-        text,
-        reason.lower,
-        reason.upper,
-        difference.lower,
-        difference.upper,
-    )?;
-    text.extend_from_slice(b"\n")
+    push_place(text, words, frame.opening, difference.category)?;
+    push_levels(text, reason, difference.lower, difference.upper, frame.both)
 }
 
 /// Adds the lines of the categories at which a reason's comparison fails and that a label lists.
 fn push_differences<V: Wording>(
     text: &mut Vec<u8>,
     words: &V,
-    opening: &[u8],
+    frame: Frame,
     reason: &Reason,
 ) -> Result<(), AllocError>
     ensures { OnOk result (text.new.items ≡ text.old.items
-        ++ flat_map (difference_line (V.words words.now) opening.now reason.now.lower
-        reason.now.upper) reason.now.named.items) }
+        ++ flat_map (difference_line (V.words words.now) frame.entry.opening.now frame.entry.both
+        reason.now.lower reason.now.upper) reason.now.named.items) }
 {
     for difference in &reason.named {
-        push_difference(text, words, opening, reason, *difference)?;
+        push_difference(text, words, frame, reason, *difference)?;
     }
     Ok(())
 }
@@ -156,7 +202,7 @@ fn push_spared<V: Wording>(
     Ok(())
 }
 
-/// Adds that a reason is about all other categories except the spared ones.
+/// Adds that a reason is about all categories except the spared ones.
 fn push_but<V: Wording>(
     text: &mut Vec<u8>,
     words: &V,
@@ -164,12 +210,11 @@ fn push_but<V: Wording>(
 ) -> Result<(), AllocError>
     ensures { OnOk result (text.new.items ≡ text.old.items ++ but_text (V.words words.now) spared.now) }
 {
-    text.extend_from_slice(b"other category but")?;
+    text.extend_from_slice(b"but")?;
     push_spared(text, words, spared)
 }
 
-/// Adds the last categories that a reason is about: all that no label lists, or all others except the spared
-/// ones.
+/// Adds the last categories that a reason is about: all that no label names, or all except the spared ones.
 #[tactic(auto, unfolding(crate::specs::Texts::elsewhere_text))]
 fn push_elsewhere<V: Wording>(
     text: &mut Vec<u8>,
@@ -179,7 +224,7 @@ fn push_elsewhere<V: Wording>(
     ensures { OnOk result (text.new.items ≡ text.old.items ++ elsewhere_text (V.words words.now) spared.now) }
 {
     if spared.is_empty() {
-        text.extend_from_slice(b"category that neither lists")
+        text.extend_from_slice(b"that neither label names")
     } else {
         push_but(text, words, spared)
     }
@@ -196,42 +241,41 @@ fn push_every<V: Wording>(
         ++ every_text (V.words words.now) opening.now spared.now) }
 {
     text.extend_from_slice(opening)?;
-    text.extend_from_slice(b"at every ")?;
+    text.extend_from_slice(b"at all categories ")?;
     push_elsewhere(text, words, spared)?;
-    text.extend_from_slice(b" ")
+    text.extend_from_slice(b": ")
 }
 
 /// Adds the last line of a reason, where its comparison fails for the defaults of both labels.
 fn push_elsewhere_line<V: Wording>(
     text: &mut Vec<u8>,
     words: &V,
-    opening: &[u8],
+    frame: Frame,
     reason: &Reason,
 ) -> Result<(), AllocError>
     ensures { OnOk result (text.new.items ≡ text.old.items
-        ++ elsewhere_line (V.words words.now) opening.now reason.now.lower reason.now.upper
-        reason.now.spared.items reason.now.elsewhere) }
+        ++ elsewhere_line (V.words words.now) frame.entry.opening.now frame.entry.both reason.now
+        reason.now.elsewhere) }
 {
     let Some((lower, upper)) = reason.elsewhere else {
         return Ok(());
     };
-    push_every(text, words, opening, reason.spared.as_slice())?;
-    push_excess(text, reason.lower, reason.upper, lower, upper)?;
-    text.extend_from_slice(b"\n")
+    push_every(text, words, frame.opening, reason.spared.as_slice())?;
+    push_levels(text, reason, lower, upper, frame.both)
 }
 
 /// Adds the lines of a reason.
 fn push_reason<V: Wording>(
     text: &mut Vec<u8>,
     words: &V,
-    opening: &[u8],
+    frame: Frame,
     reason: &Reason,
 ) -> Result<(), AllocError>
     ensures { OnOk result (text.new.items ≡ text.old.items
-        ++ reason_lines (V.words words.now) opening.now reason.now) }
+        ++ reason_lines (V.words words.now) frame.entry.opening.now frame.entry.both reason.now) }
 {
-    push_differences(text, words, opening, reason)?;
-    push_elsewhere_line(text, words, opening, reason)
+    push_differences(text, words, frame, reason)?;
+    push_elsewhere_line(text, words, frame, reason)
 }
 
 /// Adds the lines of reasons.
@@ -242,10 +286,14 @@ fn push_reasons<V: Wording>(
     reasons: &[Reason],
 ) -> Result<(), AllocError>
     ensures { OnOk result (text.new.items ≡ text.old.items
-        ++ flat_map (reason_lines (V.words words.now) opening.now) reasons.now) }
+        ++ all_reason_lines (V.words words.now) opening.now reasons.now) }
 {
+    let frame = Frame {
+        opening,
+        both: both_fail(reasons),
+    };
     for reason in reasons {
-        push_reason(text, words, opening, reason)?;
+        push_reason(text, words, frame, reason)?;
     }
     Ok(())
 }

@@ -27,6 +27,10 @@ pub trait Wording {
     /// Adds a category in a list of several.
     fn push_listed(&self, text: &mut Vec<u8>, category: Category) -> Result<(), AllocError>
         ensures { OnOk result (text.new.items ≡ text.old.items ++ (words self.now).listed category) };
+
+    /// Adds an object of this kind that the call would make.
+    fn push_made(&self, text: &mut Vec<u8>, kind: &str) -> Result<(), AllocError>
+        ensures { OnOk result (text.new.items ≡ text.old.items ++ (words self.now).made kind.now) };
 }
 
 /// Writes each one by its number.
@@ -53,5 +57,10 @@ impl Wording for ByNumber {
 
     fn push_listed(&self, text: &mut Vec<u8>, category: Category) -> Result<(), AllocError> {
         push_number(text, category.number())
+    }
+
+    fn push_made(&self, text: &mut Vec<u8>, kind: &str) -> Result<(), AllocError> {
+        text.extend_from_slice(b"that ")?;
+        text.extend_from_slice(kind.as_bytes())
     }
 }

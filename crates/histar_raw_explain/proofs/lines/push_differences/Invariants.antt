@@ -8,5 +8,5 @@ abbrev pub invariant-loop-difference : goal.invariant-loop-difference
 invariant-loop-difference g l =
     l.text.items
     ≡ l.fn.text.items
-    ++ flat_map (difference_line (g.V.Wording.words l.words) l.opening l.reason.lower l.reason.upper)
+    ++ flat_map (difference_line (g.V.Wording.words l.words) l.frame.opening.now l.frame.both l.reason.lower l.reason.upper)
     (take l.difference-index l.difference-items)
