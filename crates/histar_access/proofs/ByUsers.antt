@@ -1,24 +1,21 @@
 -- The table by users of a machine: line by line, and that it is the table of the flat state that the machine represents.
-use Rattle.std.proofs.Common.{◌≡◌, ℕ, ◌&&◌, Bool, true, false, List, [], ◌∷◌, ◌++◌, take}
+use Rattle.std.proofs.Common.{◌≡◌, ℕ, true, List, [], ◌∷◌, ◌++◌, take}
 use Rattle.std.proofs.Common.{length, sym, ap, ◌∙◌, refl, append_assoc}
 use Rattle.std.proofs.Common.{append-nil, get_or, ◌+◌}
 use Rattle.std.specs.Prelude.{map, slice_get, suc, ◌≤◌, Option, None, Some}
-use Rattle.std.specs.List.{list_all}
 use Rattle.std.proofs.lemmas.List.{map-append, take-map, take_more}
 use Rattle.std.proofs.lemmas.Option.{get_or_from_slice_get, slice_get_within}
 use Rattle.histar_flat.specs.declared.calls.User.{User}
-use Rattle.histar_flat.specs.Words.{Name, Path, ProcName, most_names}
-use Rattle.histar_base.specs.Paths.{same}
-use Rattle.histar_flat.specs.Accounts.{Accounts, is_member}
+use Rattle.histar_flat.specs.Words.{Name, Path, most_names}
+use Rattle.histar_flat.specs.Accounts.{Accounts}
 use Rattle.histar_flat.specs.Files.{get}
-use Rattle.histar_flat.specs.Classes.{Class, knows, may_read, may_write, nobody}
-use Rattle.histar_flat.specs.Classes.Class.{Private, Readable, Open, Scratch, Grouped}
+use Rattle.histar_flat.specs.Classes.{Class, may_read, may_write, nobody}
 use Rattle.histar_flat.specs.FlatState.{Flat, IsTree, Node, is_there}
 use Rattle.histar_flat.specs.FlatState.Content.{Dir}
 use Rattle.histar_layout.specs.declared.class.Class.{Class as NumberedClass}
 use Rattle.histar_layout.specs.UserTable.{called, without_password, without_passwords}
 use Rattle.histar_refinement.specs.Categories.{Categories}
-use Rattle.histar_refinement.specs.NumberedClasses.{job_numbers, numbered_class}
+use Rattle.histar_refinement.specs.NumberedClasses.{numbered_class}
 use Rattle.histar_refinement.proofs.Agreeing.{root_is_dir}
 use Rattle.histar_object.specs.State.{State}
 use Rattle.histar_syscall.specs.KernelModel.{state}
@@ -37,10 +34,11 @@ use Rattle.histar_readout.proofs.OneTree.{states_have_one_tree}
 use Rattle.histar_shell.specs.Ending.{IsTreeIn}
 use Rattle.histar_shell.specs.Machine.{MachineModel}
 use Rattle.histar_prefix.proofs.Listed.{flat_tree, tree_here}
+use Rattle.histar_cells.specs.ByClass.{class_reads, class_writes, from_above, user_below}
+use Rattle.histar_cells.proofs.ClassesAlike.{reads_alike, writes_alike}
 use Rattle.histar_cells.proofs.FlatTrees.{are_tree, few_bytes}
 use Rattle.histar_access.specs.Rows.{last_or, rows_from}
-use Rattle.histar_access.specs.Users.{IsUsersText, class_reads, class_writes, from_above, is_none, starting, user_below, users_below}
-use Rattle.histar_access.specs.Users.{users_from, users_line_at}
+use Rattle.histar_access.specs.Users.{IsUsersText, starting, users_below, users_from, users_line_at}
 use Rattle.histar_access.proofs.Descent.{descent, found_above, found_at}
 use Rattle.histar_access.proofs.Tables.{last_made, map_twice}
 
@@ -91,33 +89,6 @@ names_more users place name is =
     ∙ map-append (λ (u : User). from_above u.name) (take place users) (get_or users place (called name) ∷ [])
     ∙ ap (λ (u : User). map (λ (v : User). from_above v.name) (take place users) ++ from_above u.name ∷ [])
     (get_or_from_slice_get users place (called name) (called name) is)
-
--- ---- classes
-
-with_true : (b : Bool) → b ≡ (b && true)
-with_true true = refl
-with_true false = refl
-
-module _ (accounts : Accounts) (category : Categories) (user : Name) where
-  no_jobs : (jobs : List ProcName) → is_none (job_numbers category jobs) ≡ list_all (knows (process_of user)) jobs
-  no_jobs [] = refl
-  no_jobs (job ∷ jobs) = refl
-
-  -- the classes of nodes allow a user what the flat rules do
-  reads_alike : (c : Class) → class_reads (without_passwords accounts) user (numbered_class category c) ≡ may_read accounts (process_of user) c
-  reads_alike (Private owner) = refl
-  reads_alike (Readable owner) = refl
-  reads_alike Open = refl
-  reads_alike (Scratch owner jobs) = ap (λ b. same user owner && b) (no_jobs jobs)
-  reads_alike (Grouped group) = refl
-
-  writes_alike : (c : Class) → class_writes (without_passwords accounts) user (numbered_class category c) ≡ may_write accounts (process_of user) c
-  writes_alike (Private owner) = with_true (same user owner)
-  writes_alike (Readable owner) = with_true (same user owner)
-  writes_alike Open = refl
-  writes_alike (Scratch owner jobs) =
-      ap (λ b. same user owner && b) (no_jobs jobs) ∙ with_true (same user owner && list_all (knows (process_of user)) jobs)
-  writes_alike (Grouped group) = with_true (is_member accounts user group)
 
 -- ---- the table of a flat state
 

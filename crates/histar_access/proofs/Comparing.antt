@@ -1,6 +1,6 @@
 -- The contract of `diff`, put together from those of its parts.
-use Rattle.std.proofs.Common.{◌≡◌, ℕ, true, false, List, [], ◌∷◌, length, Option, Some, None, Result, Ok, Err, refl, sym, ap, subst, ◌∙◌}
-use Rattle.std.proofs.Common.{arith, inl, inr}
+use Rattle.std.proofs.Common.{◌≡◌, ℕ, true, false, List, [], ◌∷◌, length, Option, Some, None, Result, Ok, Err, refl, sym, ap, subst}
+use Rattle.std.proofs.Common.{◌∙◌, arith, inl, inr}
 use Rattle.std.specs.Prelude.{◌↔◌, ◌==◌, Bool, IfSome, IsOk, MatchResult, is_ok}
 use Rattle.std.specs.Io.KnownBytes.{Appends, Keeps}
 use Rattle.std.proofs.lemmas.Bool.{false≢true}
@@ -14,7 +14,8 @@ use Rattle.histar_io.specs.Writing.{AppendsFront}
 use Rattle.histar_script.specs.declared.fault.Fault.{Fault}
 use Rattle.histar_script.specs.declared.fault.Fault.TheVariants.{BadScript, TooLong, OutOfMemory, ReadFailed, WriteFailed}
 use Rattle.histar_script.specs.Outcome.{input_fault}
-use Rattle.histar_script.specs.Runs.{IsOutputFault, is_read_failed}
+use Rattle.histar_script.specs.Runs.{is_read_failed}
+use Rattle.histar_diff.specs.declared.lone.Lone.{Lone}
 use Rattle.histar_diff.specs.declared.differences.Difference.{Difference}
 use Rattle.histar_diff.specs.declared.table.Table.{Table}
 use Rattle.histar_diff.specs.Differences.{AreDifferences}
@@ -22,9 +23,10 @@ use Rattle.histar_diff.specs.Tables.{IsTable}
 use Rattle.histar_diff.specs.Texts.{differences_text}
 use Rattle.histar_diff.proofs.Changes.{differences_are_changes}
 use Rattle.histar_diff.proofs.ShownTables.{shown_tables_rise}
-use Rattle.histar_access.specs.Diff.{AreChangesOf, BeginsChanges, ChangesAtFault, ComparesInputs, ComparesTaken, ComparesTexts}
-use Rattle.histar_access.specs.Diff.{CountsOneFailure, Inputs, IsFaultOf, IsTableOf, Scripts, StopsAtInput, both_read, scripts_of}
-use Rattle.histar_access.specs.Diff.{WritesChanges, shown}
+use Rattle.histar_diff.proofs.TextLemmas.{no_text}
+use Rattle.histar_access.specs.Diff.{ChangesAtFault, ComparesInputs, ComparesTaken, ComparesTexts, CountsOneFailure, Inputs}
+use Rattle.histar_access.specs.Diff.{IsFaultOf, IsTableOf, IsTextBetween, Scripts, StopsAtInput, WritesChanges, both_read, lone_shown}
+use Rattle.histar_access.specs.Diff.{scripts_of, shown}
 use Rattle.histar_access.specs.declared.changes.DiffOptions.{DiffOptions}
 use Rattle.histar_prefix.specs.Prefix.{calls_before}
 use Rattle.histar_command.proofs.KnownInputs.{same_script}
@@ -41,73 +43,59 @@ module _ (at : Option ℕ) where
   table_rises text t is = shown_tables_rise is.script.accounts (calls_before at is.script.calls) t is.shows
 
 module _ (options : DiffOptions) where
-  -- ---- a text that is no script
-
-  module _ (a b : List ℕ) (w : Option (List ℕ)) where
-    -- the contract if memory runs out before anything was written
-    pub no_memory : ComparesTexts options a b w w (Err OutOfMemory)
-    no_memory = record { faults = tt; writes = inl (Keeps-refl w) }
-
   -- ---- two tables
 
-  -- the tables of two texts, and exactly their differences
-  pub record AreCompared (a b : List ℕ) (ds : List Difference) : Type 0 where
+  -- the tables of two texts, and exactly what differs between them
+  pub record AreCompared (a b : List ℕ) (lone : List Lone) (ds : List Difference) : Type 0 where
     pub before : Table
     pub after : Table
     pub is_before : IsTableOf options.old_at a before
     pub is_after : IsTableOf options.new_at b after
-    pub exact : AreDifferences before after ds
+    pub exact : AreDifferences before after lone ds
 
-  both_are : {a b : List ℕ} {ds : List Difference} → (c : AreCompared a b ds) → scripts_of a b ≡ Ok (c.is_before.script, c.is_after.script)
-  both_are c = λ i. both_read (c.is_before.is_read i) (c.is_after.is_read i)
-
-  are_changes : {a b : List ℕ} {ds : List Difference} → (c : AreCompared a b ds) → AreChangesOf options (c.is_before.script, c.is_after.script) ds
-  are_changes {ds = ds} c =
+  -- the text of what is to be shown is that of what changed
+  pub text_between : {a b : List ℕ} {lone : List Lone} {ds : List Difference} → AreCompared a b lone ds
+      → (text : List ℕ) → text ≡ differences_text (lone_shown options.more lone) (shown options.more ds) → IsTextBetween options a b text
+  text_between {lone = lone} {ds = ds} c text is =
       let old = c.is_before.script in
       let new = c.is_after.script in
-      differences_are_changes old.accounts new.accounts (calls_before options.old_at old.calls)
-      (calls_before options.new_at new.calls) c.before c.after ds c.is_before.shows c.is_after.shows c.exact
+      record {
+        scripts = (old, new);
+        are_read = λ i. both_read (c.is_before.is_read i) (c.is_after.is_read i);
+        is_text = record {
+          lone = lone;
+          changes = ds;
+          are_changes = differences_are_changes old.accounts new.accounts (calls_before options.old_at old.calls)
+              (calls_before options.new_at new.calls) c.before c.after lone ds c.is_before.shows c.is_after.shows c.exact;
+          is = is;
+          none = subst (λ (t : List ℕ). (t ≡ []) ↔ ((lone_shown options.more lone ≡ []) × (shown options.more ds ≡ []))) (sym is)
+              (no_text (lone_shown options.more lone) (shown options.more ds));
+        };
+      }
 
-  -- the lines of the differences to be shown were written
-  pub changes_written : {a b : List ℕ} {ds lines : List Difference} {old new : Option (List ℕ)} → AreCompared a b ds
-      → lines ≡ shown options.more ds → (none : Bool) → (none ≡ true) ↔ (lines ≡ [])
-      → Appends old new (differences_text lines) → ComparesTexts options a b old new (Ok none)
-  changes_written {ds = ds} {old = old} {new = new} c are none answered written = record {
-    faults = ap is_ok (both_are c);
-    writes = record {
-      scripts = (c.is_before.script, c.is_after.script);
-      are_read = both_are c;
-      changes = ds;
-      are_changes = are_changes c;
-      written = subst (λ cs. Appends old new (differences_text cs)) are written;
-      answered = subst (λ cs. (none ≡ true) ↔ (cs ≡ [])) are answered;
-    };
-  }
+  -- ---- the text
 
-  begins : {a b : List ℕ} {ds : List Difference} {old new : Option (List ℕ)} → AreCompared a b ds
-      → AppendsFront old new (differences_text (shown options.more ds))
-      → BeginsChanges options old new (scripts_of a b)
-  begins {ds = ds} c front = record {
-    scripts = (c.is_before.script, c.is_after.script);
-    are_read = both_are c;
-    changes = ds;
-    are_changes = are_changes c;
-    written = front;
-  }
+  module _ (a b text : List ℕ) (is : IsTextBetween options a b text) (old new : Option (List ℕ)) where
+    -- the text was written
+    pub text_written : (none : Bool) → (none ≡ true) ↔ (text ≡ []) → Appends old new text → ComparesTexts options a b old new (Ok none)
+    text_written none answered written = record {
+      faults = ap is_ok is.are_read;
+      writes = record {
+        scripts = is.scripts;
+        are_read = is.are_read;
+        text = text;
+        is_text = is.is_text;
+        written = written;
+        answered = answered;
+      };
+    }
 
-  -- a beginning of the lines was written
-  pub changes_begun : {a b : List ℕ} {ds lines : List Difference} {old new : Option (List ℕ)} → AreCompared a b ds
-      → lines ≡ shown options.more ds → (f : Fault) → IsOutputFault f
-      → AppendsFront old new (differences_text lines) → ComparesTexts options a b old new (Err f)
-  changes_begun {a = a} {b = b} {old = old} {new = new} c are f h front =
-      by f h (begins c (subst (λ cs. AppendsFront old new (differences_text cs)) are front))
-    where
-      by : (f : Fault) → IsOutputFault f → BeginsChanges options old new (scripts_of a b) → ComparesTexts options a b old new (Err f)
-      by (BadScript n) h begun = absurd h
-      by TooLong h begun = absurd h
-      by OutOfMemory h begun = record { faults = tt; writes = inr begun }
-      by ReadFailed h begun = absurd h
-      by WriteFailed h begun = record { faults = ap is_ok (both_are c); writes = begun }
+    -- a beginning of the text was written
+    pub text_begun : AppendsFront old new text → ComparesTexts options a b old new (Err WriteFailed)
+    text_begun front = record {
+      faults = ap is_ok is.are_read;
+      writes = record { scripts = is.scripts; are_read = is.are_read; text = text; is_text = is.is_text; written = front };
+    }
 
   -- ---- inputs that are taken
 
@@ -177,13 +165,13 @@ module _ (options : DiffOptions) where
 
 -- ---- no changes
 
--- no change is listed exactly if the list has length 0
-pub none_listed : (cs : List Difference) (none : Bool) → none ≡ (length cs == 0) → (none ≡ true) ↔ (cs ≡ [])
-none_listed [] none is = (λ _. refl, λ _. is)
-none_listed (c ∷ cs) none is = (
+-- a text is empty exactly if it has length 0
+pub none_written : (text : List ℕ) (none : Bool) → none ≡ (length text == 0) → (none ≡ true) ↔ (text ≡ [])
+none_written [] none is = (λ _. refl, λ _. is)
+none_written (c ∷ text) none is = (
   λ none_is.
       let e = sym is ∙ none_is in
-      let zero : length (c ∷ cs) ≡ 0 = grind (arith, nat_tests, e) in
+      let zero : length (c ∷ text) ≡ 0 = grind (arith, nat_tests, e) in
       absurd (omega (arith, zero)),
   λ empty. absurd (cc),
 )
@@ -203,6 +191,7 @@ new_fails input.OutOfMemory a b c d kept counts = (false, kept, counts)
 new_fails input.ReadFailed a b c d kept counts = (false, kept, counts)
 
 -- no failed read
-pub none_fails : (a b c d : ℕ) (failed : Bool) → CountsFailure a b false → CountsFailure c d false → failed ≡ false → CountsOneFailure a b c d failed
+pub none_fails : (a b c d : ℕ) (failed : Bool) → CountsFailure a b false → CountsFailure c d false → failed ≡ false
+    → CountsOneFailure a b c d failed
 none_fails a b c d true kept held none = absurd (false≢true (sym none))
 none_fails a b c d false kept held none = (true, kept, held)

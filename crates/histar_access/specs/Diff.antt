@@ -1,5 +1,7 @@
 -- The result of `diff` and what it writes, by the inputs from which the two scripts are read.
-use Rattle.std.specs.Prelude.{◌≡◌, ◌↔◌, ℕ, ◌⊎◌, Bool, true, not, ◌&&◌, List, [], Option, Result, Ok, Err, IsOk, MatchResult, if◌then◌else◌}
+use Rattle.std.specs.Prelude.{◌≡◌, ◌↔◌, ℕ, ◌⊎◌, Bool, true, not, ◌&&◌, List, [], Option, Result, Ok, Err, IsOk, MatchResult}
+use Rattle.std.specs.Prelude.{if◌then◌else◌}
+use Rattle.std.specs.Global.{Vec}
 use Rattle.std.specs.Io.KnownBytes.{Appends, Keeps}
 use Rattle.histar_io.specs.Device.{CountsFailure}
 use Rattle.histar_io.specs.Input.{TakesAll, TakesSome}
@@ -9,10 +11,11 @@ use Rattle.histar_script.specs.Outcome.{Gives}
 use Rattle.histar_script.specs.Reading.{script_of}
 use Rattle.histar_script.specs.declared.fault.Fault.{Fault}
 use Rattle.histar_script.specs.declared.fault.Fault.TheVariants.{OutOfMemory, ReadFailed, WriteFailed}
+use Rattle.histar_diff.specs.declared.lone.Lone.{Lone}
 use Rattle.histar_diff.specs.declared.differences.Difference.{Difference}
 use Rattle.histar_diff.specs.declared.table.Table.{Table}
 use Rattle.histar_diff.specs.Changes.{AreChanges}
-use Rattle.histar_diff.specs.Gains.{gains}
+use Rattle.histar_diff.specs.Gains.{gains, new_ones}
 use Rattle.histar_diff.specs.Shown.{ShowsRights}
 use Rattle.histar_diff.specs.Texts.{differences_text}
 use Rattle.histar_prefix.specs.Prefix.{state_before}
@@ -34,36 +37,49 @@ both_read (Err fault) new = Err fault
 abbrev pub scripts_of : List ℕ → List ℕ → Result Scripts Fault
 scripts_of old new = both_read (script_of old) (script_of new)
 
--- these are exactly the changes between the flat states of two scripts, each after its calls before the line that is given for it
-abbrev pub AreChangesOf : DiffOptions → Scripts → List Difference → Type 0
-AreChangesOf options scripts cs =
+-- these are exactly the processes that run in one only of the flat states of two scripts, each after its calls before the line that is
+-- given for it, and exactly the changes of those that run in both
+abbrev pub AreChangesOf : DiffOptions → Scripts → List Lone → List Difference → Type 0
+AreChangesOf options scripts lone cs =
     AreChanges scripts.0.accounts (state_before options.old_at scripts.0)
-    scripts.1.accounts (state_before options.new_at scripts.1) cs
+    scripts.1.accounts (state_before options.new_at scripts.1) lone cs
+
+-- the lone processes that are written: all, or only the new ones
+abbrev pub lone_shown : Bool → List Lone → List Lone
+lone_shown more lone = if more then new_ones lone else lone
 
 -- the changes that are written: all, or only those that give a letter that wasn't there
 abbrev pub shown : Bool → List Difference → List Difference
 shown more cs = if more then gains cs else cs
 
+-- the text has the lines of exactly the lone processes and the changes to be shown, and it is empty exactly if there is none
+pub record IsTextOfChanges (options : DiffOptions) (scripts : Scripts) (text : List ℕ) : Type 0 where
+  pub lone : List Lone
+  pub changes : List Difference
+  pub are_changes : AreChangesOf options scripts lone changes
+  pub is : text ≡ differences_text (lone_shown options.more lone) (shown options.more changes)
+  pub none : (text ≡ []) ↔ ((lone_shown options.more lone ≡ []) × (shown options.more changes ≡ []))
+
 -- ---- what is written
 
--- both are scripts, the lines of exactly the changes to be shown were written, and the result is true exactly if there is none
+-- both are scripts, the text of exactly the changes to be shown was written, and the result is true exactly if there is none
 pub record WritesChanges (options : DiffOptions) (old new : Option (List ℕ)) (read : Result Scripts Fault) (none : Bool) : Type 0 where
   pub scripts : Scripts
   pub are_read : read ≡ Ok scripts
-  pub changes : List Difference
-  pub are_changes : AreChangesOf options scripts changes
-  pub written : Appends old new (differences_text (shown options.more changes))
-  pub answered : (none ≡ true) ↔ (shown options.more changes ≡ [])
+  pub text : List ℕ
+  pub is_text : IsTextOfChanges options scripts text
+  pub written : Appends old new text
+  pub answered : (none ≡ true) ↔ (text ≡ [])
 
--- both are scripts, and a beginning of those lines was written
+-- both are scripts, and a beginning of that text was written
 pub record BeginsChanges (options : DiffOptions) (old new : Option (List ℕ)) (read : Result Scripts Fault) : Type 0 where
   pub scripts : Scripts
   pub are_read : read ≡ Ok scripts
-  pub changes : List Difference
-  pub are_changes : AreChangesOf options scripts changes
-  pub written : AppendsFront old new (differences_text (shown options.more changes))
+  pub text : List ℕ
+  pub is_text : IsTextOfChanges options scripts text
+  pub written : AppendsFront old new text
 
--- At a failed write a beginning of the lines was written, if memory runs out that or nothing, at other faults nothing.
+-- At a failed write a beginning of the text was written, if memory runs out that or nothing, at other faults nothing.
 abbrev pub ChangesAtFault : DiffOptions → Option (List ℕ) → Option (List ℕ) → Result Scripts Fault → Fault → Type 0
 ChangesAtFault options old new read OutOfMemory = Keeps old new ⊎ BeginsChanges options old new read
 ChangesAtFault options old new read WriteFailed = BeginsChanges options old new read
@@ -76,7 +92,7 @@ IsFaultOf read ReadFailed = Unit {0}
 IsFaultOf read WriteFailed = IsOk read
 IsFaultOf read fault = read ≡ Err fault
 
--- The texts were read as scripts: the first fault of the two is returned, or exactly the lines of the changes between them were written.
+-- The texts were read as scripts: the first fault of the two is returned, or exactly the lines of what changed between them were written.
 pub record ComparesTexts (options : DiffOptions) (a b : List ℕ) (old new : Option (List ℕ)) (result : Result Bool Fault) : Type 0 where
   pub faults : MatchResult result (λ _. IsOk (scripts_of a b)) (IsFaultOf (scripts_of a b))
   pub writes : MatchResult result (WritesChanges options old new (scripts_of a b)) (ChangesAtFault options old new (scripts_of a b))
@@ -134,3 +150,14 @@ pub record IsTableOf (at : Option ℕ) (text : List ℕ) (t : Table) : Type 0 wh
 abbrev pub ReadsTable : Option ℕ → List ℕ → Result Table Fault → Type 0
 ReadsTable at text (Ok t) = IsTableOf at text t
 ReadsTable at text (Err fault) = Gives {A = ScriptModel} (Err fault) (script_of text)
+
+-- both texts are scripts, and the bytes are the text of what changed between them
+pub record IsTextBetween (options : DiffOptions) (a b bytes : List ℕ) : Type 0 where
+  pub scripts : Scripts
+  pub are_read : scripts_of a b ≡ Ok scripts
+  pub is_text : IsTextOfChanges options scripts bytes
+
+-- the texts were read as scripts, and this is the text of what changed between them, or the first fault of the two is the result
+abbrev pub ReadsChanges : DiffOptions → List ℕ → List ℕ → Result (Vec ℕ) Fault → Type 0
+ReadsChanges options a b (Ok text) = IsTextBetween options a b text.items
+ReadsChanges options a b (Err fault) = Gives {A = Scripts} (Err fault) (scripts_of a b)

@@ -1,14 +1,10 @@
 -- The table of rights by users, computed from the classes of files and directories.
-use Rattle.std.specs.Prelude.{◌≡◌, ℕ, Bool, true, false, ◌&&◌, List, [], ◌∷◌, ◌++◌, length, map, take}
+use Rattle.std.specs.Prelude.{◌≡◌, ℕ, List, [], ◌∷◌, ◌++◌, length, map, take}
 use Rattle.histar_flat.specs.declared.calls.User.{User}
-use Rattle.histar_flat.specs.Words.{Name}
-use Rattle.histar_flat.specs.Accounts.{Accounts, is_member}
-use Rattle.histar_base.specs.Paths.{same}
+use Rattle.histar_flat.specs.Accounts.{Accounts}
 use Rattle.histar_flat.specs.Classes.{nobody}
 use Rattle.histar_flat.specs.FlatState.{Flat}
 use Rattle.histar_layout.specs.declared.class.Class.{Class}
-use Rattle.histar_layout.specs.declared.class.Class.TheVariants.{Private, Readable, Open, Scratch, Group}
-use Rattle.histar_rights.specs.Rights.{above_root, rights_below}
 use Rattle.histar_rights.specs.Running.{HaveShownNames}
 use Rattle.histar_rights.specs.declared.users.UserRights.{UserRights}
 use Rattle.histar_rights.specs.Users.{UsersLine, users_table, users_text}
@@ -16,39 +12,14 @@ use Rattle.histar_readout.specs.declared.tree.TreeNode.{TreeNode}
 use Rattle.histar_readout.specs.TreeLines.{node_stat}
 use Rattle.histar_shell.specs.Machine.{MachineModel}
 use Rattle.histar_shell.specs.Meaning.{Shows}
+use Rattle.histar_cells.specs.ByClass.{from_above, user_below}
 use Rattle.histar_access.specs.Rows.{last_or}
 
--- the list is empty
-abbrev pub is_none : List ℕ → Bool
-is_none [] = true
-is_none (x ∷ xs) = false
-
--- a process of this user, in no job and with none, may read what is of a class: what is of a job it may not
-abbrev pub class_reads : Accounts → Name → Class → Bool
-class_reads users user (Private owner) = same user owner
-class_reads users user (Readable owner) = true
-class_reads users user Open = true
-class_reads users user (Scratch owner jobs) = same user owner && is_none jobs
-class_reads users user (Group group) = is_member users user group
-
--- the same process may write it: what it may read, but a readable file only as its owner
-abbrev pub class_writes : Accounts → Name → Class → Bool
-class_writes users user (Readable owner) = same user owner
-class_writes users user class = class_reads users user class
-
--- a user with the rights that each process has above `/`
-abbrev pub from_above : Name → UserRights
-from_above user = record { user = user; rights = above_root }
-
--- nobody and each user of these, with those rights
+-- nobody and each user of these, with the rights that each process has above `/`
 abbrev pub starting : Accounts → List UserRights
 starting users = from_above nobody ∷ map (λ (u : User). from_above u.name) users.users
 
--- the rights of a user at an entry of this class, by those at its directory
-abbrev pub user_below : Accounts → Class → UserRights → UserRights
-user_below users class u = record u { rights = rights_below u.rights (class_reads users u.user class) (class_writes users u.user class) }
-
--- the same of several users
+-- the rights of several users at an entry of this class, by those at its directory
 abbrev pub users_below : Accounts → Class → List UserRights → List UserRights
 users_below users class above = map (user_below users class) above
 

@@ -1,15 +1,13 @@
 //! What changed between two scripts, from bytes to bytes.
-ghost use Rattle.std.specs.Prelude.{◌≡◌, false, IfErr, IfSome, OnErr, OnOk};
-ghost use Rattle.std.specs.Io.KnownBytes.{Appends};
+ghost use Rattle.std.specs.Prelude.{◌≡◌, false, IfErr, IfSome};
 ghost use Rattle.histar_io.specs.Device.{CountsFailure};
-ghost use Rattle.histar_io.specs.Writing.{AppendsFront};
-ghost use Rattle.histar_script.specs.Runs.{IsOutputFault, LeavesSink, is_read_failed, is_write_failed};
-ghost use Rattle.histar_diff.specs.Texts.{differences_text};
-ghost use Rattle.histar_access.specs.Diff.{ComparesInputs, ComparesTexts, CountsOneFailure, ReadsTable};
-ghost use Rattle.histar_access.specs.Diff.{shown as shown_changes};
+ghost use Rattle.histar_script.specs.Runs.{LeavesSink, is_read_failed, is_write_failed};
+ghost use Rattle.histar_access.specs.Diff.{ComparesInputs, ComparesTexts, CountsOneFailure};
+ghost use Rattle.histar_access.specs.Diff.{ReadsChanges, ReadsTable};
+ghost use Rattle.histar_access.specs.Diff.{lone_shown, shown as shown_changes};
 
 use crate::rights_table::table_of;
-use histar_diff::{Difference, Table, differences_between, keep_gains, push_difference};
+use histar_diff::{Differences, Table, differences_between, keep_gains, text_of};
 use histar_io::{Sink, Source, read_input, write_bytes};
 use histar_prefix::{discard, machine_before};
 use histar_script::Fault;
@@ -22,16 +20,18 @@ pub struct DiffOptions {
     pub old_at: Option<u32>,
     /// The same of the new script.
     pub new_at: Option<u32>,
-    /// Whether it writes only the lines where the new script gives a letter that the old one doesn't.
+    /// Whether it writes only the lines of new processes, and those where the new script gives a letter that
+    /// the old one doesn't.
     pub more: bool,
 }
 
 /// Reads two scripts, runs each on a machine of its own, and writes what changed from the old one to the new
-/// one: a line for each path and process whose rights differ, or only those that the options ask for. It
-/// returns whether no line was to be written.
+/// one: a line for each process that runs after one of them only, and a line for each path and process that
+/// runs after both whose letters differ, or only those that the options ask for. It returns whether no line was
+/// to be written.
 ///
-/// Both scripts are read whole before the first call of either, and both tables are computed before the first
-/// line is written. It doesn't flush the sink.
+/// Both scripts are read whole before the first call of either, and all lines are computed before the first one
+/// is written. It doesn't flush the sink.
 pub fn diff<R: Source, Q: Source, W: Sink>(
     alloc: Global,
     old_script: &mut R,
@@ -48,13 +48,13 @@ pub fn diff<R: Source, Q: Source, W: Sink>(
     ensures writes { CountsFailure (W.failures writer.old) (W.failures writer.new) (is_write_failed result) }
 
     // Some bytes of each source were read, to its end but never more than 1,048,577: the first fault of their
-    // scripts is returned, or exactly the lines of the changes between their flat states that the options ask for
+    // scripts is returned, or exactly the lines of what changed between their flat states that the options ask for
     // are written.
     ensures runs { ComparesInputs options
         (R.left old_script.old, Q.left new_script.old) (R.left old_script.new, Q.left new_script.new)
         (W.written writer.old) (W.written writer.new) result }
 
-    // If both inputs are known, these are the changes from the script of the old one to that of the new one.
+    // If both inputs are known, this is what changed from the script of the old one to that of the new one.
     ensures known { IfSome (R.left old_script.old) (λ a. IfSome (Q.left new_script.old) (λ b.
         ComparesTexts options a b (W.written writer.old) (W.written writer.new) result)) }
 {
@@ -77,18 +77,32 @@ fn compare_texts<W: Sink>(
     ensures runs { ComparesTexts options old.now new.now
         (W.written writer.old) (W.written writer.new) result }
 {
+    let text = changes_text(alloc, old, new, options)?;
+    let lines = text.as_slice();
+    write_bytes(writer, lines)?;
+    Ok(lines.is_empty())
+}
+
+/// Returns the lines of what changed between the scripts in two texts.
+fn changes_text(
+    alloc: Global,
+    old: &[u8],
+    new: &[u8],
+    options: DiffOptions,
+) -> Result<Vec<u8>, Fault>
+    ensures { ReadsChanges options old.now new.now result }
+{
     let before = table_before(alloc, old, options.old_at)?;
     let after = table_before(alloc, new, options.new_at)?;
     let differences = differences_between(alloc, &before, &after)?;
     let differences = shown(differences, options.more);
-    let lines = differences.as_slice();
-    write_differences(alloc, lines, writer)?;
-    Ok(lines.is_empty())
+    Ok(text_of(alloc, &differences)?)
 }
 
 /// Returns these differences, or only those that give more.
-fn shown(mut differences: Vec<Difference>, more: bool) -> Vec<Difference>
-    ensures { result.items ≡ shown_changes more differences.items }
+fn shown(mut differences: Differences, more: bool) -> Differences
+    ensures lone { result.lone.items ≡ lone_shown more differences.lone.items }
+    ensures pairs { result.pairs.items ≡ shown_changes more differences.pairs.items }
 {
     if more {
         keep_gains(&mut differences);
@@ -104,25 +118,4 @@ fn table_before(alloc: Global, text: &[u8], at: Option<u32>) -> Result<Table, Fa
     let table = table_of(alloc, &machine);
     discard(machine);
     Ok(table?)
-}
-
-/// Writes a line for each of these differences.
-fn write_differences<W: Sink>(
-    alloc: Global,
-    differences: &[Difference],
-    writer: &mut W,
-) -> Result<(), Fault>
-    ensures ok { OnOk result (Appends (W.written writer.old) (W.written writer.new)
-        (differences_text differences.now)) }
-    ensures err { OnErr result (AppendsFront (W.written writer.old) (W.written writer.new)
-        (differences_text differences.now)) }
-    ensures faults { IfErr result IsOutputFault }
-    ensures count { CountsFailure (W.failures writer.old) (W.failures writer.new) (is_write_failed result) }
-{
-    'lines: for difference in differences {
-        let mut line = Vec::new(alloc);
-        push_difference(&mut line, difference)?;
-        write_bytes(writer, line.as_slice())?;
-    }
-    Ok(())
 }

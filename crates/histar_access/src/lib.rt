@@ -10,4 +10,5 @@ mod table;
 mod users;
 
 pub use changes::{DiffOptions, diff};
+pub use rights_table::table_of;
 pub use session::{access, access_users};

@@ -1,19 +1,16 @@
 //! The table of rights by users.
 ghost use Rattle.std.specs.Prelude.{◌≡◌, ◌++◌, IfOk, OnOk, [], map};
 ghost use Rattle.std.specs.List.{flat_map};
-ghost use Rattle.histar_flat.specs.Accounts.{is_member as has_member};
-ghost use Rattle.histar_flat.specs.Classes.{nobody};
 ghost use Rattle.histar_rights.specs.Users.{user_text, users_line_text, users_text};
 ghost use Rattle.histar_access.specs.Shown.{IsShown};
-ghost use Rattle.histar_access.specs.Users.{IsUsersText, class_reads, class_writes, from_above, is_none, starting, user_below};
-ghost use Rattle.histar_access.specs.Users.{users_below, users_from, users_line_at};
+ghost use Rattle.histar_access.specs.Users.{IsUsersText, starting, users_below, users_from, users_line_at};
 
 use crate::table::last_row;
-use histar_flat::{Name, read_name};
-use histar_label::{Category, LabelStore};
+use histar_cells::{from_above, nobody, user_below};
+use histar_label::LabelStore;
 use histar_layout::{Class, UserTable};
 use histar_readout::TreeNode;
-use histar_rights::{Rights, UserRights};
+use histar_rights::UserRights;
 use histar_shell::{Machine, push_stat};
 use histar_texts::push_path;
 use std::alloc::{AllocError, Global};
@@ -44,23 +41,6 @@ fn starting(alloc: Global, users: &UserTable) -> Result<Vec<UserRights>, AllocEr
         start.push(from_above(users.name_at(place)))?;
     }
     Ok(start)
-}
-
-/// Returns a user with the rights that each process has above `/`.
-fn from_above(user: Name) -> UserRights
-    ensures { result ≡ from_above user }
-{
-    UserRights {
-        user,
-        rights: Rights::ABOVE_ROOT,
-    }
-}
-
-/// Returns the name of nobody.
-fn nobody() -> Name
-    ensures { result ≡ nobody }
-{
-    read_name(b"nobody".as_slice()).unwrap()
 }
 
 /// Returns the lines of files and directories, each after that of its directory.
@@ -98,60 +78,6 @@ fn users_below(
         row.push(user_below(users, class, *user))?;
     }
     Ok(row)
-}
-
-/// Returns the rights of a user at an entry of a directory, given those at the directory.
-fn user_below(users: &UserTable, class: &Class, above: UserRights) -> UserRights
-    ensures { result ≡ user_below users.now class.now above }
-{
-    let reads = reads(users, above.user, class);
-    let writes = writes(users, above.user, class);
-    UserRights {
-        user: above.user,
-        rights: above.rights.below(reads, writes),
-    }
-}
-
-/// Checks whether a process of this user, in no job and with none, may read what is of a class.
-fn reads(users: &UserTable, user: Name, class: &Class) -> bool
-    ensures { result ≡ class_reads users.now user class.now }
-{
-    match class {
-        Class::Private(owner) => user == *owner,
-        Class::Readable(_) | Class::Open => true,
-        Class::Scratch(owner, jobs) => user == *owner && is_none(jobs.as_slice()),
-        Class::Group(group) => is_member(users, user, *group),
-    }
-}
-
-/// Checks whether the same process may write it.
-fn writes(users: &UserTable, user: Name, class: &Class) -> bool
-    ensures { result ≡ class_writes users.now user class.now }
-{
-    match class {
-        Class::Readable(owner) => user == *owner,
-        _ => reads(users, user, class),
-    }
-}
-
-/// Checks whether there are no jobs.
-fn is_none(jobs: &[Category]) -> bool
-    ensures { result ≡ is_none jobs.now }
-{
-    match jobs {
-        [] => true,
-        _ => false,
-    }
-}
-
-/// Checks whether the user is a member of the group.
-fn is_member(users: &UserTable, user: Name, group: Name) -> bool
-    ensures { result ≡ has_member users.now user group }
-{
-    users
-        .groups()
-        .iter()
-        .any(|g| g.name() == group && g.has(user))
 }
 
 /// Adds the line of a file or a directory, with the rights of users there.

@@ -1,39 +1,27 @@
 -- The rights that are computed on the way to a path are those of the flat state that the machine represents.
-use Rattle.std.specs.Prelude.{◌≡◌, ℕ, false, is_some, [], ◌∷◌, length, Option, None, Some, MatchOption, option_and_then, option_map, refl}
+use Rattle.std.specs.Prelude.{◌≡◌, ℕ, false, is_some, [], ◌∷◌, length, Option, None, Some, MatchOption, option_map, refl}
 use Rattle.std.proofs.Common.{ap, inl, sym, ◌∙◌, subst}
 use Rattle.std.proofs.lemmas.Bool.{true≢false}
 use Rattle.std.proofs.lemmas.Option.{none-some, same_Some}
-use Rattle.std.specs.FinMap as map
 use Rattle.histar_flat.specs.Words.{Path, ProcName}
 use Rattle.histar_flat.specs.Accounts.{Accounts}
 use Rattle.histar_flat.specs.Files.{get}
-use Rattle.histar_flat.specs.Classes.{Class, Process}
-use Rattle.histar_flat.specs.FlatState.{Content, Flat, Node, is_dir, is_some_and}
-use Rattle.histar_flat.specs.FlatState.Content.{Dir, File}
+use Rattle.histar_flat.specs.Classes.{Process}
+use Rattle.histar_flat.specs.FlatState.{Flat, Node, is_dir, is_some_and}
 use Rattle.histar_flat.specs.FlatCalls.{running}
-use Rattle.histar_syscall.specs.KernelModel.{lent_bytes, KernelModel, state}
+use Rattle.histar_syscall.specs.KernelModel.{KernelModel, state}
 use Rattle.histar_object.specs.State.{State}
-use Rattle.histar_layout.specs.Directory.{Entries}
 use Rattle.histar_layout.specs.Listing.{object_of}
-use Rattle.histar_layout.specs.declared.entry.Target.{Target}
-use Rattle.histar_layout.specs.declared.entry.Target.TheVariants as targets
-use Rattle.histar_layout.proofs.DirectoryLemmas.{same_directory}
 use Rattle.histar_programs.specs.declared.roots.Roots.{Roots}
 use Rattle.histar_programs.specs.declared.caller.Caller.{Caller}
 use Rattle.histar_programs.specs.Caller.{caller_at}
 use Rattle.histar_programs.specs.Start.{roots_of}
 use Rattle.histar_refinement.specs.Addresses.{address_of}
-use Rattle.histar_refinement.specs.Addresses.Step.{Listing, Slash}
-use Rattle.histar_refinement.specs.Directories.{directory_of, target_for}
+use Rattle.histar_refinement.specs.Addresses.Step.{Slash}
 use Rattle.histar_refinement.specs.Represents.{ObjectsMatch}
-use Rattle.histar_refinement.specs.Lines.{IsDirectoryAt}
 use Rattle.histar_refinement.specs.Accounts.{AreAccounts}
 use Rattle.histar_refinement.proofs.CallerFound.{callers_are_found, callers_are_there}
 use Rattle.histar_refinement.proofs.ClassLaws.{modifies_path, observes_path}
-use Rattle.histar_refinement.proofs.DirectoryLaws.{get_directory}
-use Rattle.histar_refinement.proofs.LinesMatched.{directory_back}
-use Rattle.histar_refinement.proofs.Lent.{shows_directory, held}
-use Rattle.histar_refinement.proofs.SameLines.{container_in, listing_in}
 use Rattle.histar_refinement.proofs.Agreeing.{parent_is_dir}
 use Rattle.histar_rights.specs.declared.rights.Rights.{Rights}
 use Rattle.histar_rights.specs.Laws.{HaveFewBytes, rights_above, rights_or}
@@ -44,14 +32,14 @@ use Rattle.histar_diff.specs.Tables.{no_rights}
 use Rattle.histar_readout.specs.Laws.{LeadsToNode}
 use Rattle.histar_readout.specs.Resolve.{LeadsNowhere}
 use Rattle.histar_readout.proofs.PathsMatched.{flat_states_are_resolved}
-use Rattle.histar_readout.proofs.TreeMatched.{led_to_directory, led_to_file}
 use Rattle.histar_shell.specs.Machine.{MachineModel}
 use Rattle.histar_shell.proofs.Users.{is_accounts}
 use Rattle.histar_cells.specs.declared.cells.Cell.{Cell}
 use Rattle.histar_cells.specs.declared.one_path.Spot.{Spot}
 use Rattle.histar_cells.specs.Cells.{cell_below, visitor, visitor_at}
-use Rattle.histar_cells.specs.OnePath.{AreRightsOf, FindsSpot, Lists, Reaches}
+use Rattle.histar_cells.specs.OnePath.{AreRightsOf, FindsSpot, Reaches}
 use Rattle.histar_cells.proofs.FlatTrees.{are_tree, few_bytes}
+use Rattle.histar_cells.proofs.Numbers.{numbered_at}
 use Rattle.histar_cells.proofs.Spots.{leads_there}
 use Rattle.histar_cells.proofs.Visiting.{Visitor, runs_there, start_cell}
 
@@ -60,56 +48,6 @@ module _ (accounts : Accounts) (s : State) where
   roots = roots_of (length accounts.users)
 
   module _ (f : Flat) (l : ObjectsMatch accounts s f) where
-    -- the spot of a directory is where the directory segments list it
-    directory_reached : (start : Cell) (q : Path) (spot : Spot) → Reaches s roots start q spot → (c g : ℕ) → spot.target ≡ targets.Directory c g
-        → IsDirectoryAt accounts s q c g
-    directory_reached start [] spot is c g at =
-        let slash = sym at ∙ ap (λ (x : Spot). x.target) is in
-        (ap container_in slash, ap listing_in slash)
-    directory_reached start (n ∷ d) spot is c g at = by is.0.target refl is.3 (directory_reached start d is.0 is.2)
-      where
-        by : (above : Target) → is.0.target ≡ above → Lists s above n is.1
-            → ((container listing : ℕ) → is.0.target ≡ targets.Directory container listing → IsDirectoryAt accounts s d container listing)
-            → IsDirectoryAt accounts s (n ∷ d) c g
-        by (targets.File file) same lists there = absurd lists
-        by (targets.Directory container listing) same lists there = (
-          container,
-          listing,
-          lists.0,
-          there container listing same,
-          held accounts s f l d container listing lists.0 (there container listing same) lists.1,
-          lists.2 ∙ ap (λ (t : Target). Some t) (sym (ap (λ (x : Spot). x.target) is.4) ∙ at),
-        )
-
-    -- an object that is reached at a path has the number of the path's node
-    number_led : (q : Path) (class : Class) (content : Content) (target : Target)
-        → target_for l.naming.number (q, record { class = class; content = content }) ≡ Some target
-        → l.naming.number (address_of q) ≡ Some (object_of target)
-    number_led q class Dir target leads =
-        let to = led_to_directory (l.naming.number (address_of q)) (l.naming.number (Listing ∷ address_of q)) target leads in
-        to.3 ∙ ap (λ (t : Target). Some (object_of t)) to.2
-    number_led q class (File bytes) target leads =
-        let to = led_to_file (l.naming.number (address_of q)) target leads in
-        to.2 ∙ ap (λ (t : Target). Some (object_of t)) to.1
-
-    -- the object of a spot has the number of the path's node
-    number_reached : (start : Cell) (q : Path) (spot : Spot) → Reaches s roots start q spot → (node : Node) → get f.files q ≡ Some node
-        → l.naming.number (address_of q) ≡ Some (object_of spot.target)
-    number_reached start [] spot is node at =
-        l.as_booted (Slash ∷ []) _ refl ∙ ap (λ (x : Spot). Some (object_of x.target)) (sym is)
-    number_reached start (n ∷ d) spot is node at = by is.0.target refl is.3
-      where
-        by : (above : Target) → is.0.target ≡ above → Lists s above n is.1 → l.naming.number (address_of (n ∷ d)) ≡ Some (object_of spot.target)
-        by (targets.File file) same lists = absurd lists
-        by (targets.Directory container listing) same lists =
-            let back = directory_back accounts s f l d container listing (directory_reached start d is.0 is.2 container listing same) in
-            let dirs = same_directory (lent_bytes s listing) (directory_of f.files l.naming.number d) lists.0
-            (shows_directory accounts s f l d listing back.0 back.2) lists.1 in
-            let leads : target_for l.naming.number (n ∷ d, node) ≡ Some is.1 =
-            sym (ap (option_and_then (λ (there : Node). target_for l.naming.number (n ∷ d, there))) at)
-            ∙ sym (get_directory f.files l.naming.number d n) ∙ ap (λ (dir : Entries). map.get dir n) dirs ∙ lists.2 in
-            number_led (n ∷ d) node.class node.content is.1 leads ∙ ap (λ (x : Spot). Some (object_of x.target)) (sym is.4)
-
     module _ (small : HaveFewBytes f) (ok : AreAccounts accounts) (v : Visitor accounts s f l) where
       -- the process with these rights
       abbrev cell : Rights → Cell
@@ -132,7 +70,9 @@ module _ (accounts : Accounts) (s : State) where
       rights_reached (n ∷ d) spot is node at = by (get f.files d) refl (rights_reached d is.0 is.2)
         where
           numbered : l.naming.number (address_of (n ∷ d)) ≡ Some (object_of is.1)
-          numbered = number_reached (start_cell accounts s f l v) (n ∷ d) spot is node at ∙ ap (λ (x : Spot). Some (object_of x.target)) is.4
+          numbered =
+              numbered_at accounts s f l (n ∷ d) spot.target (leads_there s roots (start_cell accounts s f l v) (n ∷ d) spot is) node at
+              ∙ ap (λ (x : Spot). Some (object_of x.target)) is.4
 
           by : (o : Option Node) → get f.files d ≡ o
               → ((above : Node) → get f.files d ≡ Some above → is.0.cell ≡ cell (rights_at accounts f v.name v.process d above))

@@ -54,7 +54,8 @@ module _ (s : State) (above : Target) (name : Name) (container listing : ℕ) (i
 
 module _ (s : State) (roots : Roots) where
   -- a path leads to the object with which its last name is listed
-  led_on : (name : Name) (d : Path) (above target : Target) → LeadsTo s roots d above → Lists s above name target → LeadsTo s roots (name ∷ d) target
+  pub led_on : (name : Name) (d : Path) (above target : Target) → LeadsTo s roots d above → Lists s above name target
+      → LeadsTo s roots (name ∷ d) target
   led_on name d (File file) target leads lists = absurd lists
   led_on name d (Directory container listing) target leads lists = (container, listing, lists.0, leads, lists.1, lists.2)
 
@@ -66,7 +67,7 @@ module _ (s : State) (roots : Roots) where
       (led_on name d is.0.target is.1 (leads_there start d is.0 is.2) is.3)
 
   -- a path that leads on is listed where the path above leads
-  listed_on : (name : Name) (d : Path) (above target : Target) → LeadsTo s roots d above → LeadsTo s roots (name ∷ d) target
+  pub listed_on : (name : Name) (d : Path) (above target : Target) → LeadsTo s roots d above → LeadsTo s roots (name ∷ d) target
       → Lists s above name target
   listed_on name d above target leads led =
       subst (λ (t : Target). Lists s t name target) (paths_lead_to_one_target s roots d (Directory led.0 led.1) above led.3 leads)
@@ -77,7 +78,7 @@ abbrev pub names_above : Path → Path
 names_above q = take (length q - 1) (drop 1 q)
 
 -- a path is its last name and the names above
-parts : (q : Path) (name : Name) → 1 ≤ length q → name ≡ get_or q 0 name → name ∷ names_above q ≡ q
+pub parts : (q : Path) (name : Name) → 1 ≤ length q → name ≡ get_or q 0 name → name ∷ names_above q ≡ q
 parts [] name some first = absurd (omega arith)
 parts (n ∷ d) name some first =
     let whole : take (length (n ∷ d) - 1) d ≡ d = take_all (length (n ∷ d) - 1) d (omega arith) in

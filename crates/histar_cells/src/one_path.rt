@@ -70,7 +70,11 @@ fn spot_below<S: LabelStore + Drop>(kernel: &Kernel<S>, above: &Cell, target: Ta
 }
 
 /// Returns where the entry of this name leads, if the directory has it.
-fn entry_at<S: LabelStore + Drop>(kernel: &Kernel<S>, above: &Target, name: &Name) -> Option<Target>
+pub(crate) fn entry_at<S: LabelStore + Drop>(
+    kernel: &Kernel<S>,
+    above: &Target,
+    name: &Name,
+) -> Option<Target>
     ensures { FindsEntry (state kernel.now) above.now name.now result }
 {
     let Target::Directory(_, listing) = above else {

@@ -1,150 +1,145 @@
--- Differences of tables are changes between flat states, and what follows if there is none.
-use Rattle.std.specs.Prelude.{◌≡◌, ℕ, ◌+◌, ◌&&◌, Bool, true, false, is_some, cond, if◌then◌else◌, List, [], ◌∷◌, map, Option, None, Some, option_map}
-use Rattle.std.specs.Prelude.{refl}
-use Rattle.std.proofs.Common.{ap, sym, ◌∙◌, subst}
+-- Differences of tables are changes between flat states, and what changes mean.
+use Rattle.std.specs.Prelude.{◌≡◌, Bool, true, false, List, [], Option, None, Some, is_some, option_map, refl}
+use Rattle.std.proofs.Common.{ap, sym, subst}
 use Rattle.std.proofs.lemmas.Bool.{true≢false}
-use Rattle.std.proofs.lemmas.Option.{none-some}
-use Rattle.std.specs.Bool.{beq}
-use Rattle.std.specs.Ordering.{eq_by_cmp}
-use Rattle.std.specs.FinMap.Entries.{same_entries}
-use Rattle.std.specs.FinMap.{find}
 use Rattle.histar_flat.specs.declared.calls.CallLine.{CallLine}
-use Rattle.histar_flat.specs.Words.{Name, Path, ProcName}
+use Rattle.histar_flat.specs.declared.replies.Errno.TheVariants.{ENOENT}
+use Rattle.histar_flat.specs.Words.{Path, ProcName}
 use Rattle.histar_flat.specs.Accounts.{Accounts}
 use Rattle.histar_flat.specs.Files.{get}
 use Rattle.histar_flat.specs.Classes.{Process}
-use Rattle.histar_flat.specs.FlatState.{Flat, Node}
+use Rattle.histar_flat.specs.FlatState.{Flat, Node, is_dir, is_some_and, is_there}
 use Rattle.histar_flat.specs.FlatCalls.{running}
 use Rattle.histar_flat.specs.Meaning.{boot, flat_end}
-use Rattle.histar_rights.specs.declared.rights.Rights.{Rights}
-use Rattle.histar_rights.specs.Running.{Named, process_cmp, running_in}
+use Rattle.histar_flat.proofs.Trees.{paths_are_a_tree}
 use Rattle.histar_rights.proofs.Answered.{letters_are_replies}
-use Rattle.histar_rights.proofs.Listed.{running_are_listed}
-use Rattle.histar_diff.specs.Tables.{Placed, by_process, no_rights, process_in}
+use Rattle.histar_rights.proofs.Passing.{passes_same}
 use Rattle.histar_diff.specs.declared.table.Table.{Table}
-use Rattle.histar_diff.specs.declared.differences.Difference.{Difference}
-use Rattle.histar_diff.specs.Lines.{same_rights}
-use Rattle.histar_diff.specs.Differences.{Pair, by_pair, newer_user, pair_cmp}
-use Rattle.histar_diff.specs.Shown.{ShowsRights, rights_if, rights_of, runner}
-use Rattle.histar_diff.specs.Changes.{AreChanges, AnswersAre, IsAnsweredBy, change, user_now}
-use Rattle.histar_diff.specs.Laws.{ChangesAreListed, ChangesAreOneList, DifferencesAreChanges, NobodyIsAnsweredOtherwise}
-use Rattle.histar_diff.proofs.ShownTables.{pair_cmp_exact, pair_cmp_total, same_rights_are, tables_show_rights, without_pairs}
+use Rattle.histar_diff.specs.Sides.{AreBetween, Side, letters}
+use Rattle.histar_diff.specs.Tables.{no_rights}
+use Rattle.histar_diff.specs.Shown.{ShowsRights, flat_side, letters_of, rights_if, rights_of, user_of}
+use Rattle.histar_diff.specs.Differences.{table_side}
+use Rattle.histar_diff.specs.Changes.{AnswersAre, IsAnsweredBy}
+use Rattle.histar_diff.specs.Laws.{ChangesAreListed, ChangesAreOneList, DifferencesAreChanges, GainsAreListed, LoneAreListed, NewAreListed}
+use Rattle.histar_diff.specs.Laws.{NoGainIsNoMore, NobodyIsAnsweredMore, NobodyIsAnsweredOtherwise, NothingHasChanged}
+use Rattle.histar_diff.proofs.ShownTables.{letters_shown, users_shown}
+use Rattle.histar_diff.proofs.Sides.{Held, gain_listed, lone_listed, new_listed, no_gain_of, no_more_of, nothing_listed, one_list, pair_listed}
+use Rattle.histar_diff.proofs.Sides.{same_letters_of, same_processes}
 
--- ---- users
+-- ---- states as sides
 
--- the user at a place
-abbrev user_at : Option Placed → Option Name
-user_at o = option_map (λ (at : Placed). at.user) o
+-- a process of a flat state runs
+abbrev runs : Flat → ProcName → Bool
+runs f p = is_some (running f p)
 
--- the optional user of an optional process
-abbrev user_of : Option Process → Option Name
-user_of o = option_map (λ (p : Process). p.user) o
+running_user : (o : Option Process) → is_some (user_of o) ≡ is_some o
+running_user None = refl
+running_user (Some p) = refl
 
--- the user that a table has for a process is the process's own
-users_found : (p : ProcName) (i : ℕ) (ns : List Named) → user_at (find process_cmp p (by_process i (map runner ns))) ≡ user_of (find process_cmp p ns)
-users_found p i [] = refl
-users_found p i (n ∷ ns) = by (eq_by_cmp process_cmp p n.0) (users_found p (i + 1) ns)
-  where
-    by : (t : Bool) → user_at (find process_cmp p (by_process (i + 1) (map runner ns))) ≡ user_of (find process_cmp p ns)
-        → user_at (cond t (Some (record { place = i; user = n.1.user })) (find process_cmp p (by_process (i + 1) (map runner ns))))
-        ≡ user_of (cond t (Some n.1) (find process_cmp p ns))
-    by true later = refl
-    by false later = later
+module _ (accounts : Accounts) (f : Flat) where
+  -- the letters of a flat state are its rights
+  letters_held : (q : Path) (p : ProcName) → letters (letters_of accounts f q p) ≡ rights_of accounts f q p
+  letters_held q p = by (get f.files q) (running f p)
+    where
+      by : (node : Option Node) (process : Option Process)
+          → letters (option_map (λ n. rights_if accounts f q p node process) node) ≡ rights_if accounts f q p node process
+      by None None = refl
+      by None (Some process) = refl
+      by (Some n) process = refl
 
--- a table has the users of the running processes
-users_shown : (accounts : Accounts) (calls : List CallLine) (t : Table) → ShowsRights accounts (flat_end accounts (boot accounts) calls) t
-    → (p : ProcName) → user_at (process_in t p) ≡ user_of (running (flat_end accounts (boot accounts) calls) p)
-users_shown accounts calls t shows p =
-    ap (λ rs. user_at (find process_cmp p (by_process 0 rs))) shows.processes ∙ users_found p 0 (running_in (flat_end accounts (boot accounts) calls))
-    ∙ ap user_of ((running_are_listed accounts calls).each p)
+  -- a process that doesn't run has no rights
+  blank : (q : Path) (p : ProcName) → runs f p ≡ false → rights_of accounts f q p ≡ no_rights
+  blank q p e = by (get f.files q) (running f p) e
+    where
+      by : (node : Option Node) (process : Option Process) → is_some process ≡ false → rights_if accounts f q p node process ≡ no_rights
+      by None None e = refl
+      by (Some node) None e = refl
+      by x (Some process) e = absurd (true≢false e)
 
--- the newer of two users
-newer_is : (c d : Option Placed) (a b : Option Process) → user_at c ≡ user_of a → user_at d ≡ user_of b → newer_user c d ≡ user_now a b
-newer_is c None a None m n = m
-newer_is c None a (Some b) m n = absurd (none-some b.user n)
-newer_is c (Some d) a None m n = absurd (none-some d.user (sym n))
-newer_is c (Some d) a (Some b) m n = n
+  -- a flat state, as laws name its parts
+  abbrev held : Held
+  held = record {
+    side = flat_side accounts f;
+    runs = runs f;
+    rights = rights_of accounts f;
+    user = λ p. running_user (running f p);
+    letters = letters_held;
+    blank = blank;
+  }
 
--- ---- changes
+-- ---- tables
+
+-- two sides that have the same users and letters are the same
+same_side : (a b : Side) → ((p : ProcName) → a.user p ≡ b.user p) → ((q : Path) (p : ProcName) → a.letters q p ≡ b.letters q p)
+    → a ≡ b
+same_side a b users letters = λ i. record { user = λ p. users p i; letters = λ q p. letters q p i }
+
+-- a table that shows the rights after calls is the side of the state
+sides_shown : (accounts : Accounts) (calls : List CallLine) (t : Table) → ShowsRights accounts (flat_end accounts (boot accounts) calls) t
+    → table_side t ≡ flat_side accounts (flat_end accounts (boot accounts) calls)
+sides_shown accounts calls t shows =
+    same_side (table_side t) (flat_side accounts (flat_end accounts (boot accounts) calls)) (users_shown accounts calls t shows)
+    (letters_shown accounts calls t shows)
 
 -- differences are changes
 pub differences_are_changes : DifferencesAreChanges
-differences_are_changes accounts later calls more old new ds a b are = record {
-  rising = are.rising;
-  each = λ q p.
-      let before = tables_show_rights accounts calls old a q p in
-      let after = tables_show_rights later more new b q p in
-      let user = newer_is (process_in old p) (process_in new p) _ _ (users_shown accounts calls old a p) (users_shown later more new b p) in
-      are.each q p
-      ∙ (λ i. if same_rights (before i) (after i) then None
-      else option_map (λ (name : Name). record { path = q; process = p; user = name; before = before i; after = after i }) (user i));
-}
+differences_are_changes accounts later calls more old new lone ds a b are =
+    subst (λ (sides : Side × Side). AreBetween sides.0 sides.1 lone ds)
+    (λ i. (sides_shown accounts calls old a i, sides_shown later more new b i)) are
 
--- a process that doesn't run has no rights
-pub none_runs : (q : Path) (p : ProcName) (accounts : Accounts) (f : Flat) (node : Option Node) → rights_if accounts f q p node None ≡ no_rights
-none_runs q p accounts f None = refl
-none_runs q p accounts f (Some node) = refl
-
-module _ (accounts : Accounts) (f : Flat) (later : Accounts) (g : Flat) (q : Path) (p : ProcName) where
-  -- rights that are not listed as changed are the same
-  unchanged : (x y : Option Node) (c d : Option Process) (a b : Rights) → a ≡ rights_if accounts f q p x c → b ≡ rights_if later g q p y d
-      → (same : Bool) → same_rights a b ≡ same → None ≡ (if same then None else option_map (change accounts f later g q p) (user_now c d)) → a ≡ b
-  unchanged x y c d a b m n true e none = same_rights_are a b e
-  unchanged x y None None a b m n false e none = m ∙ none_runs q p accounts f x ∙ sym (n ∙ none_runs q p later g y)
-  unchanged x y (Some c) None a b m n false e none = absurd (none-some (change accounts f later g q p c.user) none)
-  unchanged x y None (Some d) a b m n false e none = absurd (none-some (change accounts f later g q p d.user) none)
-  unchanged x y (Some c) (Some d) a b m n false e none = absurd (none-some (change accounts f later g q p d.user) none)
-
-  -- if nothing has changed, the rights are the same
-  pub same_where_none : AreChanges accounts f later g [] → rights_of accounts f q p ≡ rights_of later g q p
-  same_where_none none =
-      unchanged _ _ (running f p) (running g p) (rights_of accounts f q p) (rights_of later g q p) refl refl
-      (same_rights (rights_of accounts f q p) (rights_of later g q p)) refl (none.each q p)
-
--- rights are the same as themselves
-same_bit_itself : (a : Bool) → beq a a ≡ true
-same_bit_itself true = refl
-same_bit_itself false = refl
-
-same_itself : (r : Rights) → same_rights r r ≡ true
-same_itself r = λ i. same_bit_itself r.stat i && same_bit_itself r.read i && same_bit_itself r.write i && same_bit_itself r.remove i
-
-module _ (accounts : Accounts) (f : Flat) (later : Accounts) (g : Flat) (q : Path) (p : ProcName) where
-  -- rights that are the same are no change
-  no_change : (a b : Rights) (user : Option Name) → a ≡ b → (if same_rights a b then None else option_map (change accounts f later g q p) user) ≡ None
-  no_change a b user e =
-      ap (λ (r : Rights). if same_rights a r then None else option_map (change accounts f later g q p) user) (sym e)
-      ∙ ap (λ t. if t then None else option_map (change accounts f later g q p) user) (same_itself a)
-
-  -- rights that differ are a change
-  a_change : (x y : Option Node) (c d : Option Process) (a b : Rights) → a ≡ rights_if accounts f q p x c → b ≡ rights_if later g q p y d
-      → (same : Bool) → same_rights a b ≡ same → (a ≡ b → ⊥) → is_some
-      (if same then None else option_map (change accounts f later g q p) (user_now c d)) ≡ true
-  a_change x y c d a b m n true e differ = absurd (differ (same_rights_are a b e))
-  a_change x y None None a b m n false e differ =
-      absurd (differ (m ∙ none_runs q p accounts f x ∙ sym (n ∙ none_runs q p later g y)))
-  a_change x y (Some c) None a b m n false e differ = refl
-  a_change x y None (Some d) a b m n false e differ = refl
-  a_change x y (Some c) (Some d) a b m n false e differ = refl
-
--- a pair is a change exactly if its rights differ
-pub changes_are_listed : ChangesAreListed
-changes_are_listed accounts f later g cs are q p =
-    let a = rights_of accounts f q p in
-    let b = rights_of later g q p in (
-      λ listed same. true≢false (sym listed
-          ∙ ap is_some (are.each q p ∙ no_change accounts f later g q p a b (user_now (running f p) (running g p)) same)),
-      λ differ. ap is_some (are.each q p)
-          ∙ a_change accounts f later g q p (get f.files q) (get g.files q) (running f p) (running g p) a b refl refl (same_rights a b) refl differ,
+pub nothing_has_changed : NothingHasChanged
+nothing_has_changed accounts later calls more old new a b =
+    let f = held accounts (flat_end accounts (boot accounts) calls) in
+    let g = held later (flat_end later (boot later) more) in (
+      λ none.
+          let changes = differences_are_changes accounts later calls more old new [] [] a b none in
+          record { processes = same_processes f g changes; rights = same_letters_of f g changes },
+      λ same. subst (λ (sides : Side × Side). AreBetween sides.0 sides.1 [] [])
+          (λ i. (sym (sides_shown accounts calls old a) i, sym (sides_shown later more new b) i))
+          (nothing_listed f g same.processes same.rights),
     )
 
--- two lists of exactly the changes are the same list
+-- ---- what is listed
+
+pub changes_are_listed : ChangesAreListed
+changes_are_listed accounts f later g lone cs are q p = pair_listed (held accounts f) (held later g) lone cs are q p
+
+pub lone_are_listed : LoneAreListed
+lone_are_listed accounts f later g lone cs are p = lone_listed (held accounts f) (held later g) lone cs are p
+
+pub gains_are_listed : GainsAreListed
+gains_are_listed accounts f later g lone cs are q p = gain_listed (held accounts f) (held later g) lone cs are q p
+
+pub new_are_listed : NewAreListed
+new_are_listed accounts f later g lone cs are p = new_listed (held accounts f) (held later g) lone cs are p
+
 pub changes_are_one_list : ChangesAreOneList
-changes_are_one_list accounts f later g cs ds a b =
-    sym (without_pairs cs)
-    ∙ ap (map (λ (e : Pair × Difference). e.1))
-    (same_entries pair_cmp pair_cmp_total pair_cmp_exact (by_pair cs) (by_pair ds) a.rising b.rising (λ k. a.each k.0 k.1 ∙ sym (b.each k.0 k.1)))
-    ∙ without_pairs ds
+changes_are_one_list accounts f later g lone others cs ds a b = one_list (flat_side accounts f) (flat_side later g) lone others cs ds a b
+
+-- ---- gains
+
+-- each process that runs may ask for `/`
+asks_for_root : (accounts : Accounts) (calls : List CallLine) (p : ProcName) → runs (flat_end accounts (boot accounts) calls) p ≡ true
+    → (rights_of accounts (flat_end accounts (boot accounts) calls) [] p).stat ≡ true
+asks_for_root accounts calls p = by (get f.files []) refl (running f p) (paths_are_a_tree accounts calls).root
+  where
+    f : Flat
+    f = flat_end accounts (boot accounts) calls
+
+    by : (node : Option Node) → get f.files [] ≡ node → (process : Option Process) → is_some_and node is_dir ≡ true
+        → is_some process ≡ true
+        → (rights_if accounts f [] p node process).stat ≡ true
+    by None m process dir e = absurd (true≢false (sym dir))
+    by (Some node) m None dir e = absurd (true≢false (sym e))
+    by (Some node) m (Some process) dir e = passes_same None (is_there f []) ENOENT (ap (λ o. is_some_and o (λ n. true)) m)
+
+pub no_gain_is_no_more : NoGainIsNoMore
+no_gain_is_no_more accounts later calls more lone cs are =
+    let f = held accounts (flat_end accounts (boot accounts) calls) in
+    let g = held later (flat_end later (boot later) more) in
+    (no_more_of f g lone cs are, no_gain_of f g [] (asks_for_root later more) lone cs are)
+
+-- ---- answers
 
 -- the rights after calls are the answers to the four questions
 rights_answer : (accounts : Accounts) (calls : List CallLine) (me : ProcName) (q : Path) (node : Option Node) (process : Option Process)
@@ -167,8 +162,21 @@ pub nobody_is_answered_otherwise : NobodyIsAnsweredOtherwise
 nobody_is_answered_otherwise accounts later calls more none me q =
     let f = flat_end accounts (boot accounts) calls in
     let g = flat_end later (boot later) more in
+    let same = same_letters_of (held accounts f) (held later g) none q me in
     record {
       letters = rights_of accounts f q me;
       before = rights_answered accounts calls me q;
-      after = subst (IsAnsweredBy later more me q) (sym (same_where_none accounts f later g q me none)) (rights_answered later more me q);
+      after = subst (IsAnsweredBy later more me q) (sym same) (rights_answered later more me q);
+    }
+
+pub nobody_is_answered_more : NobodyIsAnsweredMore
+nobody_is_answered_more accounts later calls more lone cs are none me q =
+    let f = flat_end accounts (boot accounts) calls in
+    let g = flat_end later (boot later) more in
+    record {
+      old = rights_of accounts f q me;
+      before = rights_answered accounts calls me q;
+      new = rights_of later g q me;
+      after = rights_answered later more me q;
+      no_more = (no_gain_is_no_more accounts later calls more lone cs are).0 none q me;
     }

@@ -1,20 +1,15 @@
 -- Tables that show the rights of a flat state are in order, and a lookup in them gives the rights of the state.
-use Rattle.std.specs.Prelude.{◌≡◌, ℕ, ◌+◌, ◌&&◌, Bool, true, false, cond, if◌then◌else◌, T, List, [], ◌∷◌, ◌++◌, length, map, Option, None, Some}
+use Rattle.std.specs.Prelude.{◌≡◌, ℕ, ◌+◌, Bool, true, false, cond, T, List, [], ◌∷◌, ◌++◌, length, map, Option, None, Some}
 use Rattle.std.specs.Prelude.{option_map, unwrap_or, refl}
 use Rattle.std.proofs.Common.{ap, sym, ◌∙◌, subst, append_assoc}
-use Rattle.std.proofs.lemmas.Bool.{and_parts}
-use Rattle.std.proofs.lemmas.Option.{none-some}
-use Rattle.std.specs.Bool.{beq}
 use Rattle.std.proofs.lemmas.List.{get_or_at, length-append}
-use Rattle.std.specs.declared.cmp.Ordering.{Ordering}
-use Rattle.std.specs.declared.cmp.Ordering.TheVariants.{Less, Equal, Greater}
-use Rattle.std.specs.Ordering.{eq_by_cmp, is_lt, ordering_then}
-use Rattle.std.specs.Cmp.{IsTotalOrder, then_total}
-use Rattle.std.specs.FinMap.Entries.{below_all, same_entries}
-use Rattle.std.specs.FinMap.{IsAntisymmetric, find, is_sorted}
+use Rattle.std.specs.Ordering.{eq_by_cmp, is_lt}
+use Rattle.std.specs.FinMap.Entries.{below_all}
+use Rattle.std.specs.FinMap.{find, is_sorted}
 use Rattle.histar_flat.specs.Words.{Path, ProcName}
 use Rattle.histar_base.specs.Paths.{path_cmp}
-use Rattle.histar_base.proofs.PathLaws.{path_cmp_exact, path_cmp_total}
+use Rattle.histar_base.proofs.PathLaws.{path_cmp_exact}
+use Rattle.histar_flat.specs.declared.calls.CallLine.{CallLine}
 use Rattle.histar_flat.specs.Accounts.{Accounts}
 use Rattle.histar_flat.specs.Files.{get}
 use Rattle.histar_flat.specs.Classes.{Process}
@@ -27,14 +22,11 @@ use Rattle.histar_rights.specs.Rights.{rights_at as rights_by_calls}
 use Rattle.histar_rights.specs.Running.{Named, process_cmp, running_in}
 use Rattle.histar_rights.specs.Table.{Cell, cell_at, line_of}
 use Rattle.histar_rights.proofs.Listed.{running_are_listed}
-use Rattle.histar_diff.specs.declared.differences.Difference.{Difference}
-use Rattle.histar_diff.specs.Tables.{Placed, by_process, line_in, no_rights, process_in, rights_at, rights_in}
 use Rattle.histar_diff.specs.declared.table.Table.{Table}
-use Rattle.histar_diff.specs.Lines.{same_rights}
-use Rattle.histar_diff.specs.Differences.{Pair, by_pair, difference, newer_user, pair_cmp}
-use Rattle.histar_diff.specs.Shown.{rights_if, rights_line, runner}
-use Rattle.histar_diff.specs.Laws.{DifferencesAreOneList, NoneIsTheSame, NothingHasChanged, ShownTablesRise, TablesShowRights}
-use Rattle.histar_diff.proofs.Steps.{by_image, process_cmp_exact, process_cmp_total}
+use Rattle.histar_diff.specs.Tables.{by_process, letters_at, letters_in, no_rights, place_of, process_in, rights_at, rights_in, row_in, user_at}
+use Rattle.histar_diff.specs.Shown.{ShowsRights, letters_of, rights_if, rights_line, rights_of, runner, user_of}
+use Rattle.histar_diff.specs.Laws.{ShownTablesRise, TablesShowRights}
+use Rattle.histar_diff.proofs.Steps.{process_cmp_exact}
 
 -- ---- processes
 
@@ -51,10 +43,6 @@ placed_rise i (n ∷ ns) h =
     both (below_all process_cmp n.0 (by_process (i + 1) (map runner ns))) _
     (below_placed n.0 (i + 1) ns (first (below_all process_cmp n.0 ns) (is_sorted process_cmp ns) h))
     (placed_rise (i + 1) ns (second (below_all process_cmp n.0 ns) (is_sorted process_cmp ns) h))
-
--- the place that is found
-abbrev place_of : Option Placed → Option ℕ
-place_of o = option_map (λ (at : Placed). at.place) o
 
 module _ (F : Named → Rights) (p : ProcName) where
   -- the rights of the process, if it is found
@@ -160,70 +148,58 @@ tables_show_rights accounts calls t shows q p =
     (λ x. at_place (λ (n : Named). rights_by_calls accounts f n.0 n.1 q x) p [] 0 ns refl
     ∙ ap (of_found (λ (n : Named). rights_by_calls accounts f n.0 n.1 q x) p) ((running_are_listed accounts calls).each p))
 
--- ---- one list
-
--- the order of pairs is total
-pub pair_cmp_total : IsTotalOrder pair_cmp
-pair_cmp_total = then_total (by_image (λ (k : Pair). k.0) path_cmp path_cmp_total) (by_image (λ (k : Pair). k.1) process_cmp process_cmp_total)
-
--- two pairs tie only if they are equal
-pub pair_cmp_exact : IsAntisymmetric pair_cmp
-pair_cmp_exact a b e = by (path_cmp a.0 b.0) refl e
+-- a path is in the table exactly if it is in the state
+paths_shown : (accounts : Accounts) (calls : List CallLine) (t : Table) → ShowsRights accounts (flat_end accounts (boot accounts) calls) t
+    → (q : Path) (r : Rights)
+    → option_map (λ row. r) (row_in t q) ≡ option_map (λ node. r) (get (flat_end accounts (boot accounts) calls).files q)
+paths_shown accounts calls t shows q r =
+    let f = flat_end accounts (boot accounts) calls in
+    let ns = running_in f in
+    (λ i. option_map (λ row. r) (find path_cmp q ((shows.lines ∙ rights_lines accounts f ns f.files.entries) i)))
+    ∙ ap (λ o. option_map (λ row. r) o) (find_there accounts f ns q f.files.entries)
+    ∙ twice (get f.files q)
   where
-    by : (o : Ordering) → path_cmp a.0 b.0 ≡ o → ordering_then o (process_cmp a.1 b.1) ≡ Equal → a ≡ b
-    by Less m e = absurd cc
-    by Equal m e = λ i. (path_cmp_exact a.0 b.0 m i, process_cmp_exact a.1 b.1 e i)
-    by Greater m e = absurd cc
+    twice : (o : Option Node) → option_map (λ row. r)
+        (option_map (rights_there accounts (flat_end accounts (boot accounts) calls) (running_in (flat_end accounts (boot accounts) calls)) q) o)
+        ≡ option_map (λ node. r) o
+    twice None = refl
+    twice (Some node) = refl
 
-pub without_pairs : (ds : List Difference) → map (λ (e : Pair × Difference). e.1) (by_pair ds) ≡ ds
-without_pairs [] = refl
-without_pairs (d ∷ ds) = ap (λ es. d ∷ es) (without_pairs ds)
+-- the letters of a table are its rights, where it has the path
+letters_by_rights : (t : Table) (q : Path) (p : ProcName) → letters_in t q p ≡ option_map (λ row. rights_in t q p) (row_in t q)
+letters_by_rights t q p = by (row_in t q)
+  where
+    by : (row : Option (List Rights)) → letters_at row (place_of (process_in t p))
+        ≡ option_map (λ rights. rights_at (unwrap_or row []) (place_of (process_in t p))) row
+    by None = refl
+    by (Some row) = refl
 
--- two lists of exactly the differences of two tables are the same list
-pub differences_are_one_list : DifferencesAreOneList
-differences_are_one_list old new ds es a b =
-    sym (without_pairs ds)
-    ∙ ap (map (λ (e : Pair × Difference). e.1))
-    (same_entries pair_cmp pair_cmp_total pair_cmp_exact (by_pair ds) (by_pair es) a.rising b.rising (λ k. a.each k.0 k.1 ∙ sym (b.each k.0 k.1)))
-    ∙ without_pairs es
+-- the letters in such a table are those of the state
+pub letters_shown : (accounts : Accounts) (calls : List CallLine) (t : Table) → ShowsRights accounts (flat_end accounts (boot accounts) calls) t
+    → (q : Path) (p : ProcName) → letters_in t q p ≡ letters_of accounts (flat_end accounts (boot accounts) calls) q p
+letters_shown accounts calls t shows q p =
+    letters_by_rights t q p
+    ∙ ap (λ r. option_map (λ row. r) (row_in t q)) (tables_show_rights accounts calls t shows q p)
+    ∙ paths_shown accounts calls t shows q (rights_of accounts (flat_end accounts (boot accounts) calls) q p)
 
--- bits that are found equal are equal
-same_bit : (a b : Bool) → beq a b ≡ true → a ≡ b
-same_bit true true e = refl
-same_bit true false e = absurd cc
-same_bit false true e = absurd cc
-same_bit false false e = refl
+-- ---- users
 
--- rights that pass the test are the same
-pub same_rights_are : (a b : Rights) → same_rights a b ≡ true → a ≡ b
-same_rights_are a b e =
-    let last = and_parts (beq a.stat b.stat && beq a.read b.read && beq a.write b.write) (beq a.remove b.remove) e in
-    let middle = and_parts (beq a.stat b.stat && beq a.read b.read) (beq a.write b.write) last.0 in
-    let front = and_parts (beq a.stat b.stat) (beq a.read b.read) middle.0 in
-    λ i. record {
-      stat = same_bit a.stat b.stat front.0 i;
-      read = same_bit a.read b.read front.1 i;
-      write = same_bit a.write b.write middle.1 i;
-      remove = same_bit a.remove b.remove last.1 i;
-    }
+-- the user that a table has for a process is the process's own
+users_found : (p : ProcName) (i : ℕ) (ns : List Named)
+    → user_at (find process_cmp p (by_process i (map runner ns))) ≡ user_of (find process_cmp p ns)
+users_found p i [] = refl
+users_found p i (n ∷ ns) = by (eq_by_cmp process_cmp p n.0) (users_found p (i + 1) ns)
+  where
+    by : (t : Bool) → user_at (find process_cmp p (by_process (i + 1) (map runner ns))) ≡ user_of (find process_cmp p ns)
+        → user_at (cond t (Some (record { place = i; user = n.1.user })) (find process_cmp p (by_process (i + 1) (map runner ns))))
+        ≡ user_of (cond t (Some n.1) (find process_cmp p ns))
+    by true later = refl
+    by false later = later
 
--- rights that aren't listed as different are the same
-unlisted : (old new : Table) (q : Path) (p : ProcName) (c d : Option Placed) (a b : Rights) → a ≡ rights_at (line_in old q) (place_of c) → b
-    ≡ rights_at (line_in new q) (place_of d)
-    → (same : Bool) → same_rights a b ≡ same → None ≡ (if same then None else option_map (difference old new q p) (newer_user c d)) → a ≡ b
-unlisted old new q p c d a b m n true e none = same_rights_are a b e
-unlisted old new q p None None a b m n false e none = m ∙ sym n
-unlisted old new q p (Some c) None a b m n false e none = absurd (none-some (difference old new q p c.user) none)
-unlisted old new q p None (Some d) a b m n false e none = absurd (none-some (difference old new q p d.user) none)
-unlisted old new q p (Some c) (Some d) a b m n false e none = absurd (none-some (difference old new q p d.user) none)
-
--- if no difference is listed, each process has the same rights at each path in both tables
-pub none_is_the_same : NoneIsTheSame
-none_is_the_same old new none q p =
-    unlisted old new q p (process_in old p) (process_in new p) (rights_in old q p) (rights_in new q p) refl refl
-    (same_rights (rights_in old q p) (rights_in new q p)) refl (none.each q p)
-
--- if no difference is listed, no process's rights have changed
-pub nothing_has_changed : NothingHasChanged
-nothing_has_changed accounts later calls more old new a b none q p =
-    sym (tables_show_rights accounts calls old a q p) ∙ none_is_the_same old new none q p ∙ tables_show_rights later more new b q p
+-- a table has the users of the running processes
+pub users_shown : (accounts : Accounts) (calls : List CallLine) (t : Table) → ShowsRights accounts (flat_end accounts (boot accounts) calls) t
+    → (p : ProcName) → user_at (process_in t p) ≡ user_of (running (flat_end accounts (boot accounts) calls) p)
+users_shown accounts calls t shows p =
+    ap (λ rs. user_at (find process_cmp p (by_process 0 rs))) shows.processes
+    ∙ users_found p 0 (running_in (flat_end accounts (boot accounts) calls))
+    ∙ ap user_of ((running_are_listed accounts calls).each p)

@@ -1,11 +1,13 @@
 -- One step of joining two lists of entries.
-use Rattle.std.specs.Prelude.{◌≡◌, ℕ, suc, ◌+◌, ◌-◌, ◌<◌, ◌≤◌, cond, List, [], ◌∷◌, ◌++◌, length, map, Option, None, Some, unwrap_or, refl}
+use Rattle.std.specs.Prelude.{◌≡◌, ℕ, suc, ◌+◌, ◌-◌, ◌<◌, ◌≤◌, Bool, true}
+use Rattle.std.specs.Prelude.{false, cond, if◌then◌else◌, List, [], ◌∷◌, ◌++◌, length, map}
+use Rattle.std.specs.Prelude.{Option, None, Some, refl}
 use Rattle.std.specs.List.{flat_map}
 use Rattle.std.proofs.Common.{arith, ap, sym, ◌∙◌, subst}
 use Rattle.std.proofs.lemmas.Option.{none-some, same_Some}
 use Rattle.std.specs.declared.cmp.Ordering.{Ordering}
 use Rattle.std.specs.declared.cmp.Ordering.TheVariants.{Less, Equal, Greater}
-use Rattle.std.specs.Ordering.{is_eq, nat_cmp, ordering_reverse}
+use Rattle.std.specs.Ordering.{eq_by_cmp, is_eq, nat_cmp, ordering_reverse}
 use Rattle.std.specs.Cmp.{IsTotalOrder, nat_cmp_total, tied_itself}
 use Rattle.std.specs.Cmp.Lexicographic.{lists_total, slice_cmp}
 use Rattle.std.specs.FinMap.Entries.{by_order}
@@ -18,7 +20,8 @@ use Rattle.histar_diff.specs.declared.table.Runner.{Runner}
 use Rattle.histar_diff.specs.declared.table.TableLine.{TableLine}
 use Rattle.histar_diff.specs.declared.columns.Column.{Column}
 use Rattle.histar_diff.specs.Joining.{Joined, OnlyOld, OnlyNew, InBoth, at_key, joined, lower, new_of, old_of, past_key}
-use Rattle.histar_diff.specs.Tables.{Placed, by_path, by_process}
+use Rattle.histar_diff.specs.declared.columns.Placed.{Placed}
+use Rattle.histar_diff.specs.Tables.{by_path, by_process}
 use Rattle.histar_diff.specs.Columns.{column, columns_from, leading, past_process, place_at}
 use Rattle.histar_diff.specs.Lines.{joined_differences, line_differences, lines_differences}
 
@@ -140,12 +143,12 @@ module _ {K A B : Type 0} (R : K → K → Ordering) (total : IsTotalOrder R) wh
 pub lines_step : (columns : List Column) (q : Path) (old new old_rest new_rest : List TableLine) → lower path_cmp (by_path old) (by_path new) ≡ Some q
     → by_path old_rest ≡ past_key path_cmp q (by_path old) → by_path new_rest ≡ past_key path_cmp q (by_path new)
     → lines_differences columns old new
-    ≡ line_differences columns q (unwrap_or (at_key path_cmp q (by_path old)) []) (unwrap_or (at_key path_cmp q (by_path new)) []) ++
-    lines_differences columns old_rest new_rest
+    ≡ line_differences columns q (at_key path_cmp q (by_path old)) (at_key path_cmp q (by_path new))
+    ++ lines_differences columns old_rest new_rest
 lines_step columns q old new old_rest new_rest e o n =
     let s = step path_cmp path_cmp_total q (by_path old) (by_path new) e in
     ap (flat_map (joined_differences columns)) s.is
-    ∙ (λ i. line_differences columns q (unwrap_or (s.old i) []) (unwrap_or (s.new i) []) ++ flat_map (joined_differences columns)
+    ∙ (λ i. line_differences columns q (s.old i) (s.new i) ++ flat_map (joined_differences columns)
     (joined path_cmp (sym o i) (sym n i)))
 
 -- if there is no first path, there are no differences
@@ -170,146 +173,90 @@ fewer_lines q old new old_rest new_rest e o n =
 
 -- ---- processes
 
--- the column of this process
-abbrev pub column_of : Runner → Option ℕ → Option ℕ → Column
-column_of r before after = record { process = r.process; user = r.user; before = before; after = after }
-
--- the columns of two lists are that of their first process, and then those of the processes after it
-pub record IsColumnStep (r : Runner) (n m : ℕ) (xs ys : List Runner) : Type 0 where
-  pub is : columns_from (n - length xs) xs (m - length ys) ys
-      ≡ column_of r (place_at (n - length xs) r.process xs) (place_at (m - length ys) r.process ys)
-      ∷ columns_from (n - length (past_process r.process xs)) (past_process r.process xs) (m - length (past_process r.process ys))
-      (past_process r.process ys)
-  pub old_shorter : length (past_process r.process xs) ≤ length xs
-  pub new_shorter : length (past_process r.process ys) ≤ length ys
-  pub shorter : length (past_process r.process xs) + length (past_process r.process ys) < length xs + length ys
-
--- the place of a list's first process
-placed : (i : ℕ) (r : Runner) (rs : List Runner) → place_at i r.process (r ∷ rs) ≡ Some i
-placed i r rs = λ j. cond (is_eq (tied_itself process_cmp_total r.process j)) (Some i) None
-
--- the list after its first process
-passed : (r : Runner) (rs : List Runner) → past_process r.process (r ∷ rs) ≡ rs
-passed r rs = λ j. cond (is_eq (tied_itself process_cmp_total r.process j)) rs (r ∷ rs)
-
 -- the place after one within a list
 next_place : (n m : ℕ) → suc m ≤ n → (n - suc m) + 1 ≡ n - m
 next_place n m h = omega arith
 
--- the columns after these lists, by their lengths
-abbrev columns_at : ℕ → ℕ → List Runner → List Runner → List Column
-columns_at n m xs ys = columns_from (n - length xs) xs (m - length ys) ys
+-- a process is found at the front of a list by its place
+at_front : (i : ℕ) (p : ProcName) (rs : List Runner) → at_key process_cmp p (by_process i rs) ≡ place_at i p rs
+at_front i p [] = refl
+at_front i p (r ∷ rs) = refl
 
-only_new_column : (n m : ℕ) (y : Runner) (ys : List Runner) → length (y ∷ ys) ≤ m → IsColumnStep y n m [] (y ∷ ys)
-only_new_column n m y ys h =
-    let less = ap length (passed y ys) in
+-- the list after a process has the places that it had
+past_front : (n : ℕ) (p : ProcName) (rs : List Runner) → length rs ≤ n
+    → past_key process_cmp p (by_process (n - length rs) rs) ≡ by_process (n - length (past_process p rs)) (past_process p rs)
+past_front n p [] h = refl
+past_front n p (r ∷ rs) h = by (eq_by_cmp process_cmp p r.process)
+  where
+    by : (t : Bool)
+        → (if t then by_process ((n - length (r ∷ rs)) + 1) rs else by_process (n - length (r ∷ rs)) (r ∷ rs))
+        ≡ by_process (n - length (if t then rs else r ∷ rs)) (if t then rs else r ∷ rs)
+    by true = ap (λ i. by_process i rs) (next_place n (length rs) h)
+    by false = refl
+
+-- the first process of two lists, whatever their places
+leads : (i j : ℕ) (xs ys : List Runner) → lower process_cmp (by_process i xs) (by_process j ys) ≡ leading xs ys
+leads i j [] [] = refl
+leads i j [] (y ∷ ys) = refl
+leads i j (x ∷ xs) [] = refl
+leads i j (x ∷ xs) (y ∷ ys) = refl
+
+-- the list after a process is no longer
+no_longer : (p : ProcName) (rs : List Runner) → length (past_process p rs) ≤ length rs
+no_longer p [] = omega arith
+no_longer p (r ∷ rs) = by (eq_by_cmp process_cmp p r.process)
+  where
+    by : (t : Bool) → length (if t then rs else r ∷ rs) ≤ length (r ∷ rs)
+    by true = omega arith
+    by false = omega arith
+
+as_many_placed : (i : ℕ) (rs : List Runner) → length (by_process i rs) ≡ length rs
+as_many_placed i [] = refl
+as_many_placed i (r ∷ rs) = ap suc (as_many_placed (i + 1) rs)
+
+-- the column of this process
+abbrev pub column_of : ProcName → Option Placed → Option Placed → Column
+column_of p old new = record { process = p; old = old; new = new }
+
+-- the columns of two lists are that of their first process, and then those of the processes after it
+pub record IsColumnStep (p : ProcName) (n m : ℕ) (xs ys : List Runner) : Type 0 where
+  pub is : columns_from (n - length xs) xs (m - length ys) ys
+      ≡ column_of p (place_at (n - length xs) p xs) (place_at (m - length ys) p ys)
+      ∷ columns_from (n - length (past_process p xs)) (past_process p xs) (m - length (past_process p ys)) (past_process p ys)
+  pub old_shorter : length (past_process p xs) ≤ length xs
+  pub new_shorter : length (past_process p ys) ≤ length ys
+  pub shorter : length (past_process p xs) + length (past_process p ys) < length xs + length ys
+
+pub columns_step : (n m : ℕ) (p : ProcName) (xs ys : List Runner) → leading xs ys ≡ Some p → length xs ≤ n → length ys ≤ m
+    → IsColumnStep p n m xs ys
+columns_step n m p xs ys e h k =
+    let i = n - length xs in
+    let j = m - length ys in
+    let s = step process_cmp process_cmp_total p (by_process i xs) (by_process j ys) (leads i j xs ys ∙ e) in
+    let left = past_front n p xs h in
+    let right = past_front m p ys k in
+    let old = ap length left in
+    let new = ap length right in
+    let shorter = s.shorter in
     record {
-      is = (λ i. column_of y None (sym (placed (m - length (y ∷ ys)) y ys) i) ∷ columns_from (n - 0) [] (next_place m (length ys) h i) ys)
-          ∙ (λ i. column_of y None (place_at (m - length (y ∷ ys)) y.process (y ∷ ys)) ∷ columns_at n m [] (sym (passed y ys) i));
-      old_shorter = omega arith;
-      new_shorter = omega (arith, less);
-      shorter = omega (arith, less);
+      is = ap (map column) s.is
+          ∙ (λ a. column_of p (s.old a) (s.new a) ∷ map column (joined process_cmp (left a) (right a)))
+          ∙ (λ a. column_of p (at_front i p xs a) (at_front j p ys a)
+          ∷ columns_from (n - length (past_process p xs)) (past_process p xs) (m - length (past_process p ys)) (past_process p ys));
+      old_shorter = no_longer p xs;
+      new_shorter = no_longer p ys;
+      shorter = omega (
+        arith,
+        shorter,
+        old,
+        new,
+        as_many_placed i xs,
+        as_many_placed j ys,
+        as_many_placed (n - length (past_process p xs)) (past_process p xs),
+        as_many_placed (m - length (past_process p ys)) (past_process p ys),
+      );
     }
-
-only_old_column : (n m : ℕ) (x : Runner) (xs : List Runner) → length (x ∷ xs) ≤ n → IsColumnStep x n m (x ∷ xs) []
-only_old_column n m x xs h =
-    let less = ap length (passed x xs) in
-    record {
-      is = (λ i. column_of x (sym (placed (n - length (x ∷ xs)) x xs) i) None ∷ columns_from (next_place n (length xs) h i) xs (m - 0) [])
-          ∙ (λ i. column_of x (place_at (n - length (x ∷ xs)) x.process (x ∷ xs)) None ∷ columns_at n m (sym (passed x xs) i) []);
-      old_shorter = omega (arith, less);
-      new_shorter = omega arith;
-      shorter = omega (arith, less);
-    }
-
-module _ (n m : ℕ) (x : Runner) (xs : List Runner) (y : Runner) (ys : List Runner) (old_within : length (x ∷ xs) ≤ n)
-    (new_within : length (y ∷ ys) ≤ m) where
-  abbrev i0 : ℕ
-  i0 = n - length (x ∷ xs)
-
-  abbrev j0 : ℕ
-  j0 = m - length (y ∷ ys)
-
-  abbrev left : List (ProcName × Joined Placed Placed)
-  left = (x.process, OnlyOld (record { place = i0; user = x.user })) ∷ joined process_cmp (by_process (i0 + 1) xs) (by_process j0 (y ∷ ys))
-
-  abbrev tied : List (ProcName × Joined Placed Placed)
-  tied = (x.process, InBoth (record { place = i0; user = x.user }) (record { place = j0; user = y.user })) ∷ joined process_cmp
-      (by_process (i0 + 1) xs) (by_process (j0 + 1) ys)
-
-  abbrev right : List (ProcName × Joined Placed Placed)
-  right = (y.process, OnlyNew (record { place = j0; user = y.user })) ∷ joined process_cmp (by_process i0 (x ∷ xs)) (by_process (j0 + 1) ys)
-
-  -- the columns, given the order of the first two processes
-  ordered : (o : Ordering) → process_cmp x.process y.process ≡ o → columns_at n m (x ∷ xs) (y ∷ ys)
-      ≡ by_order o (column_of x (Some i0) None ∷ columns_from (i0 + 1) xs j0 (y ∷ ys))
-      (column_of y (Some i0) (Some j0) ∷ columns_from (i0 + 1) xs (j0 + 1) ys)
-      (column_of y None (Some j0) ∷ columns_from i0 (x ∷ xs) (j0 + 1) ys)
-  ordered Less e = ap (map column) (λ k. by_order (e k) left tied right)
-  ordered Equal e =
-      ap (map column) (λ k. by_order (e k) left tied right)
-      ∙ (λ k. record { process = process_cmp_exact x.process y.process e k; user = y.user; before = Some i0; after = Some j0 } ∷ columns_from
-      (i0 + 1) xs (j0 + 1) ys)
-  ordered Greater e = ap (map column) (λ k. by_order (e k) left tied right)
-
-  both_columns : (o : Ordering) → process_cmp x.process y.process ≡ o → IsColumnStep (by_order o x y y) n m (x ∷ xs) (y ∷ ys)
-  both_columns Less e =
-      let stays : past_process x.process (y ∷ ys) ≡ y ∷ ys = λ k. cond (is_eq (e k)) ys (y ∷ ys) in
-      let absent : place_at j0 x.process (y ∷ ys) ≡ None = λ k. cond (is_eq (e k)) (Some j0) None in
-      let less = ap length (passed x xs) in
-      let same = ap length stays in
-      record {
-        is = ordered Less e
-            ∙ (λ k. column_of x (sym (placed i0 x xs) k) (sym absent k) ∷ columns_from (next_place n (length xs) old_within k) xs j0 (y ∷ ys))
-            ∙ (λ k. column_of x (place_at i0 x.process (x ∷ xs)) (place_at j0 x.process (y ∷ ys)) ∷ columns_at n m (sym (passed x xs) k)
-            (sym stays k));
-        old_shorter = omega (arith, less);
-        new_shorter = omega (arith, same);
-        shorter = omega (arith, less, same);
-      }
-  both_columns Equal e =
-      let back : process_cmp y.process x.process ≡ Equal = process_cmp_total.antisymm y.process x.process ∙ ap ordering_reverse e in
-      let past : past_process y.process (x ∷ xs) ≡ xs = λ k. cond (is_eq (back k)) xs (x ∷ xs) in
-      let here : place_at i0 y.process (x ∷ xs) ≡ Some i0 = λ k. cond (is_eq (back k)) (Some i0) None in
-      let less = ap length (passed y ys) in
-      let other = ap length past in
-      record {
-        is = ordered Equal e
-            ∙ (λ k. column_of y (sym here k) (sym (placed j0 y ys) k) ∷ columns_from (next_place n (length xs) old_within k) xs
-            (next_place m (length ys) new_within k) ys)
-            ∙ (λ k. column_of y (place_at i0 y.process (x ∷ xs)) (place_at j0 y.process (y ∷ ys)) ∷ columns_at n m (sym past k)
-            (sym (passed y ys) k));
-        old_shorter = omega (arith, other);
-        new_shorter = omega (arith, less);
-        shorter = omega (arith, less, other);
-      }
-  both_columns Greater e =
-      let back : process_cmp y.process x.process ≡ Less = process_cmp_total.antisymm y.process x.process ∙ ap ordering_reverse e in
-      let stays : past_process y.process (x ∷ xs) ≡ x ∷ xs = λ k. cond (is_eq (back k)) xs (x ∷ xs) in
-      let absent : place_at i0 y.process (x ∷ xs) ≡ None = λ k. cond (is_eq (back k)) (Some i0) None in
-      let less = ap length (passed y ys) in
-      let same = ap length stays in
-      record {
-        is = ordered Greater e
-            ∙ (λ k. column_of y (sym absent k) (sym (placed j0 y ys) k) ∷ columns_from i0 (x ∷ xs) (next_place m (length ys) new_within k) ys)
-            ∙ (λ k. column_of y (place_at i0 y.process (x ∷ xs)) (place_at j0 y.process (y ∷ ys)) ∷ columns_at n m (sym stays k)
-            (sym (passed y ys) k));
-        old_shorter = omega (arith, same);
-        new_shorter = omega (arith, less);
-        shorter = omega (arith, less, same);
-      }
-
-pub columns_step : (n m : ℕ) (r : Runner) (xs ys : List Runner) → leading xs ys ≡ Some r → length xs ≤ n → length ys ≤ m → IsColumnStep r n m xs ys
-columns_step n m r [] [] e h k = absurd (none-some r e)
-columns_step n m r [] (y ∷ ys) e h k = subst (λ r. IsColumnStep r n m [] (y ∷ ys)) (same_Some y r e) (only_new_column n m y ys k)
-columns_step n m r (x ∷ xs) [] e h k = subst (λ r. IsColumnStep r n m (x ∷ xs) []) (same_Some x r e) (only_old_column n m x xs h)
-columns_step n m r (x ∷ xs) (y ∷ ys) e h k =
-    subst (λ r. IsColumnStep r n m (x ∷ xs) (y ∷ ys)) (same_Some (by_order (process_cmp x.process y.process) x y y) r e)
-    (both_columns n m x xs y ys h k (process_cmp x.process y.process) refl)
 
 -- if there is no first process, there are no columns
 pub columns_end : (i j : ℕ) (xs ys : List Runner) → leading xs ys ≡ None → columns_from i xs j ys ≡ []
-columns_end i j [] [] e = refl
-columns_end i j [] (y ∷ ys) e = absurd (none-some y (sym e))
-columns_end i j (x ∷ xs) [] e = absurd (none-some x (sym e))
-columns_end i j (x ∷ xs) (y ∷ ys) e = absurd (none-some (by_order (process_cmp x.process y.process) x y y) (sym e))
+columns_end i j xs ys e = ap (map column) (joined_nothing process_cmp process_cmp_total (by_process i xs) (by_process j ys) (leads i j xs ys ∙ e))

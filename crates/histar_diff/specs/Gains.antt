@@ -1,21 +1,31 @@
 -- Differences that give more: the new rights have a letter that the old ones lack.
-use Rattle.std.specs.Prelude.{◌≡◌, Bool, true, not, ◌&&◌, ◌||◌, List}
+use Rattle.std.specs.Prelude.{◌≡◌, Bool, true, not, ◌&&◌, ◌||◌, List, []}
 use Rattle.std.specs.List.{filter}
 use Rattle.histar_flat.specs.declared.calls.CallLine.{CallLine}
 use Rattle.histar_flat.specs.Words.{Path, ProcName}
 use Rattle.histar_flat.specs.Accounts.{Accounts}
 use Rattle.histar_rights.specs.declared.rights.Rights.{Rights}
+use Rattle.histar_diff.specs.declared.lone.Lone.{Lone}
 use Rattle.histar_diff.specs.declared.differences.Difference.{Difference}
 use Rattle.histar_diff.specs.Changes.{IsAnsweredBy}
+use Rattle.histar_diff.specs.Sides.{letters}
 
 -- the new rights have a letter that the old ones lack
 abbrev pub gives_more : Rights → Rights → Bool
 gives_more old new =
     (new.stat && not old.stat) || (new.read && not old.read) || (new.write && not old.write) || (new.remove && not old.remove)
 
--- the differences where the new rights have a letter that the old ones lack, in the same order
+-- the lone processes that run on the new side, in the same order
+abbrev pub new_ones : List Lone → List Lone
+new_ones lone = filter (λ l. l.is_new) lone
+
+-- the differences where the new letters have one that the old ones lack, in the same order
 abbrev pub gains : List Difference → List Difference
-gains ds = filter (λ d. gives_more d.before d.after) ds
+gains ds = filter (λ d. gives_more (letters d.before) (letters d.after)) ds
+
+-- no lone process is new, and no difference is a gain
+abbrev pub HaveNoGain : List Lone → List Difference → Type 0
+HaveNoGain lone ds = (new_ones lone ≡ []) × (gains ds ≡ [])
 
 -- each letter of the new rights is one of the old ones
 pub record GiveNoMore (old new : Rights) : Type 0 where

@@ -1,6 +1,7 @@
 -- The definitions of this crate that contracts cite.
 pub mod Joining
 pub mod Tables
+pub mod Sides
 pub mod Columns
 pub mod Lines
 pub mod Differences

@@ -1,6 +1,6 @@
 -- Tables that show the rights of a flat state.
-use Rattle.std.specs.Prelude.{◌≡◌, List, map, Option, Some}
-use Rattle.histar_flat.specs.Words.{Path, ProcName}
+use Rattle.std.specs.Prelude.{◌≡◌, List, map, Option, Some, option_map}
+use Rattle.histar_flat.specs.Words.{Name, Path, ProcName}
 use Rattle.histar_flat.specs.Accounts.{Accounts}
 use Rattle.histar_flat.specs.Files.{get}
 use Rattle.histar_flat.specs.Classes.{Process}
@@ -12,6 +12,7 @@ use Rattle.histar_rights.specs.Running.{Named, running_in}
 use Rattle.histar_rights.specs.Table.{AccessLine, Cell, access_table}
 use Rattle.histar_diff.specs.declared.table.Runner.{Runner}
 use Rattle.histar_diff.specs.declared.table.Table.{Table}
+use Rattle.histar_diff.specs.Sides.{Side}
 use Rattle.histar_diff.specs.Tables.{by_path, no_rights}
 
 -- a process that runs, and its user
@@ -35,3 +36,15 @@ rights_if accounts f q p _ _ = no_rights
 -- the rights of a process at a path in a flat state
 abbrev pub rights_of : Accounts → Flat → Path → ProcName → Rights
 rights_of accounts f q p = rights_if accounts f q p (get f.files q) (running f p)
+
+-- the same, if the path is there
+abbrev pub letters_of : Accounts → Flat → Path → ProcName → Option Rights
+letters_of accounts f q p = option_map (λ node. rights_of accounts f q p) (get f.files q)
+
+-- the user of a process, if it is there
+abbrev pub user_of : Option Process → Option Name
+user_of o = option_map (λ (p : Process). p.user) o
+
+-- a flat state as a side: the users of the processes that run, and their rights at the paths that are there
+abbrev pub flat_side : Accounts → Flat → Side
+flat_side accounts f = record { user = λ p. user_of (running f p); letters = letters_of accounts f }

@@ -8,13 +8,19 @@ use histar_flat::{Name, ProcName};
 use std::alloc::{AllocError, Global};
 use std::cmp::Ordering;
 
-/// A process of two tables, its user, and its place among the processes of each table that has it.
+/// The place of a process among those of a table, and its user there.
+#[derive(Clone, Copy)]
+pub(crate) struct Placed {
+    pub(crate) place: usize,
+    pub(crate) user: Name,
+}
+
+/// A process of two tables, and its place in each that has it.
 #[derive(Clone, Copy)]
 pub(crate) struct Column {
     pub(crate) process: ProcName,
-    pub(crate) user: Name,
-    pub(crate) before: Option<usize>,
-    pub(crate) after: Option<usize>,
+    pub(crate) old: Option<Placed>,
+    pub(crate) new: Option<Placed>,
 }
 
 /// Returns the processes of two tables, by rising names. One pass goes over both.
@@ -27,15 +33,14 @@ pub(crate) fn columns_of(
 {
     let mut columns = Vec::new(alloc);
     let (mut old_rest, mut new_rest) = (old, new);
-    'processes: while let Some(runner) = leading(old_rest, new_rest) {
+    'processes: while let Some(process) = leading(old_rest, new_rest) {
         columns.push(Column {
-            process: runner.process,
-            user: runner.user,
-            before: place(old.len() - old_rest.len(), old_rest, &runner.process),
-            after: place(new.len() - new_rest.len(), new_rest, &runner.process),
+            process,
+            old: place(old.len() - old_rest.len(), old_rest, &process),
+            new: place(new.len() - new_rest.len(), new_rest, &process),
         })?;
-        old_rest = after(old_rest, &runner.process);
-        new_rest = after(new_rest, &runner.process);
+        old_rest = after(old_rest, &process);
+        new_rest = after(new_rest, &process);
     }
     Ok(columns)
 }
@@ -47,30 +52,33 @@ fn compare(a: &ProcName, b: &ProcName) -> Ordering
     a.numbers().iter().rev().cmp(b.numbers().iter().rev())
 }
 
-/// Returns the process that comes first in two lists, with the new list's user if both have it.
-fn leading(old: &[Runner], new: &[Runner]) -> Option<Runner>
+/// Returns the process that comes first in two lists.
+fn leading(old: &[Runner], new: &[Runner]) -> Option<ProcName>
     ensures { result ≡ leading_process old.now new.now }
 {
     match (old, new) {
         ([], []) => None,
-        ([], [other, ..]) => Some(*other),
-        ([own, ..], []) => Some(*own),
+        ([], [other, ..]) => Some(other.process),
+        ([own, ..], []) => Some(own.process),
         ([own, ..], [other, ..]) => {
-            if compare(&own.process, &other.process) == Ordering::Less {
-                Some(*own)
+            if compare(&own.process, &other.process) == Ordering::Greater {
+                Some(other.process)
             } else {
-                Some(*other)
+                Some(own.process)
             }
         }
     }
 }
 
-/// Returns this place if the list begins with the process, and else `None`.
-fn place(place: usize, rest: &[Runner], process: &ProcName) -> Option<usize>
+/// Returns this place with the user of the process, if the list begins with it, and else `None`.
+fn place(place: usize, rest: &[Runner], process: &ProcName) -> Option<Placed>
     ensures { result ≡ place_at place process.now rest.now }
 {
     match rest {
-        [runner, ..] if compare(process, &runner.process) == Ordering::Equal => Some(place),
+        [runner, ..] if compare(process, &runner.process) == Ordering::Equal => Some(Placed {
+            place,
+            user: runner.user,
+        }),
         _ => None,
     }
 }

@@ -1,15 +1,18 @@
 //! Differences that give more.
 ghost use Rattle.std.specs.Prelude.{◌≡◌};
-ghost use Rattle.histar_diff.specs.Gains.{gains, gives_more as gives_a_letter_more};
+ghost use Rattle.histar_diff.specs.Gains.{gains, gives_more as gives_a_letter_more, new_ones};
 
-use crate::differences::Difference;
+use crate::differences::{Differences, letters};
 use histar_rights::Rights;
 
-/// Keeps the differences in which the new table gives a letter that the old one doesn't.
-pub fn keep_gains(differences: &mut Vec<Difference>)
-    ensures { differences.new.items ≡ gains differences.old.items }
+/// Keeps the processes that run in the new table only, and the differences in which it gives a letter that
+/// the old table doesn't.
+pub fn keep_gains(differences: &mut Differences)
+    ensures lone { differences.new.lone.items ≡ new_ones differences.old.lone.items }
+    ensures pairs { differences.new.pairs.items ≡ gains differences.old.pairs.items }
 {
-    differences.retain(|difference| gives_more(difference.before, difference.after));
+    differences.lone.retain(|process| process.is_new);
+    differences.pairs.retain(|pair| gives_more(letters(pair.before), letters(pair.after)));
 }
 
 /// Checks whether the new rights have a letter that the old ones lack.

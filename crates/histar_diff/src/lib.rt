@@ -1,4 +1,5 @@
-//! What changed between two tables of rights: the paths and processes whose rights differ.
+//! What changed between two tables of rights: the processes that one alone has, and the paths and processes of
+//! both whose letters differ.
 #![tactic(auto)]
 
 mod columns;
@@ -6,10 +7,12 @@ pub mod diff_laws;
 mod differences;
 mod gains;
 mod lines;
+mod lone;
 mod table;
 mod texts;
 
-pub use differences::{Difference, differences_between};
+pub use differences::{Difference, Differences, differences_between};
 pub use gains::keep_gains;
+pub use lone::Lone;
 pub use table::{Runner, Table, TableLine};
-pub use texts::push_difference;
+pub use texts::text_of;

@@ -1,5 +1,6 @@
 //! The lines of two tables, side by side.
-ghost use Rattle.std.specs.Prelude.{◌≡◌, [], unwrap_or};
+ghost use Rattle.std.specs.Prelude.{◌≡◌};
+ghost use Rattle.std.specs.Option.{option_copied};
 ghost use Rattle.histar_base.specs.Paths.{path_cmp};
 ghost use Rattle.histar_diff.specs.Joining.{at_key, lower, past_key};
 ghost use Rattle.histar_diff.specs.Tables.{by_path};
@@ -27,13 +28,13 @@ pub(crate) fn lower_path(old: &[TableLine], new: &[TableLine]) -> Option<Path>
     }
 }
 
-/// Returns the rights at a path, if the lines begin with that path, and else no rights.
-pub(crate) fn rights_at<'a>(rest: &'a [TableLine], path: &Path) -> &'a [Rights]
-    ensures { result.now ≡ unwrap_or (at_key path_cmp path.now (by_path rest.now)) [] }
+/// Returns the rights at a path, if the lines begin with that path.
+pub(crate) fn row_at<'a>(rest: &'a [TableLine], path: &Path) -> Option<&'a [Rights]>
+    ensures { option_copied result ≡ at_key path_cmp path.now (by_path rest.now) }
 {
     match rest {
-        [line, ..] if path.cmp(&line.path) == Ordering::Equal => line.rights.as_slice(),
-        _ => &[],
+        [line, ..] if path.cmp(&line.path) == Ordering::Equal => Some(line.rights.as_slice()),
+        _ => None,
     }
 }
 

@@ -2,5 +2,7 @@
 mod Used
 mod Said
 mod Answering
+mod MadeThings
+mod MayRemove
 mod WrongPasswords
 mod Unstarted

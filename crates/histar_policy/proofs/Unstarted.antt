@@ -1,7 +1,7 @@
 -- A process that was never started is not among those that were started.
 use Rattle.std.proofs.Common.{◌≡◌, ◌≢◌, ◌⊎◌, Bool, true, false, cond, ◌||◌, List, [], ◌∷◌}
 use Rattle.std.proofs.Common.{◌++◌, Option, None, Some, refl, sym, ap, ◌∙◌, subst, inl, inr}
-use Rattle.std.specs.Prelude.{is_some}
+use Rattle.std.specs.Prelude.{is_some, if◌then◌else◌}
 use Rattle.std.specs.Option.{option_to_list}
 use Rattle.std.proofs.lemmas.Slice.Eq.{bytes_eq-Decides}
 use Rattle.histar_base.specs.Paths.{same}
@@ -10,45 +10,67 @@ use Rattle.histar_flat.specs.declared.replies.Errno.{Errno}
 use Rattle.histar_flat.specs.declared.replies.Errno.TheVariants.{EAUTH}
 use Rattle.histar_flat.specs.declared.replies.Reply.{Reply}
 use Rattle.histar_flat.specs.declared.replies.Reply.TheVariants.{Done, Data, Entries, Stats, Child, Running, Exited, User, Refused, Gone}
-use Rattle.histar_flat.specs.Words.{ProcName}
+use Rattle.histar_flat.specs.Words.{Name, Path, ProcName}
 use Rattle.histar_flat.specs.Accounts.{Accounts, has}
 use Rattle.histar_flat.specs.FlatState.{Flat}
 use Rattle.histar_flat.specs.FlatCalls.{flat_after, reply_to, running}
-use Rattle.histar_flat.specs.Meaning.{answered_from, boot, flat_end}
+use Rattle.histar_flat.specs.Meaning.{boot, flat_end}
+use Rattle.histar_cells.specs.Whose.{user_running}
 use Rattle.histar_reasons.specs.Reasons.{absence}
 use Rattle.histar_reasons.specs.Reasons.Absence.{HasExited, WasKilled, WasNeverStarted}
 use Rattle.histar_reasons.proofs.Started.{never_started_were_not}
 use Rattle.histar_policy.specs.declared.notes.Asked.{Asked}
-use Rattle.histar_policy.specs.declared.notes.Asked.TheVariants.{LogsIn, Wraps, Other}
+use Rattle.histar_policy.specs.declared.notes.Asked.TheVariants.{LogsIn, Wraps, Makes, Other}
+use Rattle.histar_policy.specs.declared.notes.Event.TheVariants.{Nothing, MayBeTaken}
 use Rattle.histar_policy.specs.Laws.{UnstartedAreSaid, started_by}
-use Rattle.histar_policy.specs.Notes.{asked_of, event_of}
+use Rattle.histar_policy.specs.Notes.{asked_of, done_event, event_by, event_of, notes_from, refusal_event}
+use Rattle.histar_policy.specs.Takers.{is_for_everyone, made_event, takers}
 use Rattle.histar_policy.specs.Warnings.{child_of}
 use Rattle.histar_policy.proofs.Used.{any_append}
 
--- a refusal starts nothing
-refusal_starts : (asked : Asked) (e : Errno) → child_of (event_of asked (Refused e)) ≡ None
-refusal_starts Wraps e = refl
-refusal_starts Other e = refl
-refusal_starts (LogsIn user) e = by e
-  where
-    by : (e : Errno) → child_of (event_of (LogsIn user) (Refused e)) ≡ None
-    by EAUTH = refl
-    by _ = refl
+module _ (accounts : Accounts) (f : Flat) (me : ProcName) where
+  -- a refusal starts nothing
+  refusal_starts : (asked : Asked) (e : Errno) → child_of (refusal_event asked e) ≡ None
+  refusal_starts Wraps e = refl
+  refusal_starts (Makes q) e = refl
+  refusal_starts Other e = refl
+  refusal_starts (LogsIn user) e = by e
+    where
+      by : (e : Errno) → child_of (refusal_event (LogsIn user) e) ≡ None
+      by EAUTH = refl
+      by _ = refl
 
--- a child that is noted is the one of the reply
-child_is : (asked : Asked) (reply : Reply) (me : ProcName) → child_of (event_of asked reply) ≡ Some me → reply ≡ Child me
-child_is asked Done me e = absurd cc
-child_is asked (Data bytes) me e = absurd cc
-child_is asked (Entries listing) me e = absurd cc
-child_is asked (Stats stat) me e = absurd cc
-child_is Wraps (Child child) me e = let same_child : child ≡ me = cc in ap (λ (c : ProcName). Child c) same_child
-child_is Other (Child child) me e = let same_child : child ≡ me = cc in ap (λ (c : ProcName). Child c) same_child
-child_is (LogsIn user) (Child child) me e = let same_child : child ≡ me = cc in ap (λ (c : ProcName). Child c) same_child
-child_is asked Running me e = absurd cc
-child_is asked (Exited n) me e = absurd cc
-child_is asked (User name confined) me e = absurd cc
-child_is asked (Refused errno) me e = let none = refusal_starts asked errno in absurd cc
-child_is asked Gone me e = absurd cc
+  -- nor does what makes a file or a directory
+  made_starts : (q : Path) (maker : Option Name) → child_of (made_event accounts f q maker) ≡ None
+  made_starts q None = refl
+  made_starts q (Some maker) = by (is_for_everyone accounts f q)
+    where
+      by : (b : Bool) → child_of (if b then Nothing else MayBeTaken q (takers accounts f maker q)) ≡ None
+      by true = refl
+      by false = refl
+
+  done_starts : (asked : Asked) → child_of (done_event accounts f me asked) ≡ None
+  done_starts Wraps = refl
+  done_starts (Makes q) = made_starts q (user_running f me)
+  done_starts Other = refl
+  done_starts (LogsIn user) = refl
+
+  -- a child that is noted is the one of the reply
+  child_is : (asked : Asked) (reply : Reply) (child : ProcName) → child_of (event_by accounts f me asked reply) ≡ Some child
+      → reply ≡ Child child
+  child_is asked Done child e = let none = done_starts asked in absurd cc
+  child_is asked (Data bytes) child e = absurd cc
+  child_is asked (Entries listing) child e = absurd cc
+  child_is asked (Stats stat) child e = absurd cc
+  child_is Wraps (Child born) child e = let same_child : born ≡ child = cc in ap (λ (c : ProcName). Child c) same_child
+  child_is Other (Child born) child e = let same_child : born ≡ child = cc in ap (λ (c : ProcName). Child c) same_child
+  child_is (Makes q) (Child born) child e = let same_child : born ≡ child = cc in ap (λ (c : ProcName). Child c) same_child
+  child_is (LogsIn user) (Child born) child e = let same_child : born ≡ child = cc in ap (λ (c : ProcName). Child c) same_child
+  child_is asked Running child e = absurd cc
+  child_is asked (Exited n) child e = absurd cc
+  child_is asked (User name confined) child e = absurd cc
+  child_is asked (Refused errno) child e = let none = refusal_starts asked errno in absurd cc
+  child_is asked Gone child e = absurd cc
 
 -- a name among some and an optional one is among the former, or is the latter
 either : (started : List ProcName) (child : Option ProcName) (me : ProcName) → has (started ++ option_to_list child) me ≡ true
@@ -75,16 +97,23 @@ record WasStarted (accounts : Accounts) (f : Flat) (calls : List CallLine) (me :
 
 -- each of those that were started was there at first, or was started by a line
 started_is : (accounts : Accounts) (f : Flat) (started : List ProcName) (calls : List CallLine) (me : ProcName)
-    → has (started_by started (answered_from accounts f calls)) me ≡ true → (has started me ≡ true) ⊎ WasStarted accounts f calls me
+    → has (started_by started (notes_from accounts f calls)) me ≡ true → (has started me ≡ true) ⊎ WasStarted accounts f calls me
 started_is accounts f started [] me h = inl h
 started_is accounts f started (c ∷ calls) me h =
     let reply = reply_to accounts f c.process c.call in
     let next = flat_after accounts f c.process c.call in
-    elim (started_is accounts next (started ++ option_to_list (child_of (event_of (asked_of c.call) reply))) calls me h) [
-      | inl now ↦ elim (either started (child_of (event_of (asked_of c.call) reply)) me now) [
+    let child = child_of (event_of accounts f c.process c.call) in
+    elim (started_is accounts next (started ++ option_to_list child) calls me h) [
+      | inl now ↦ elim (either started child me now) [
         | inl before ↦ inl before
-        | inr child ↦
-            inr (record { before = []; line = c; after = calls; parts = refl; starts = child_is (asked_of c.call) reply me child })
+        | inr is ↦
+            inr (record {
+              before = [];
+              line = c;
+              after = calls;
+              parts = refl;
+              starts = child_is accounts next c.process (asked_of c.call) reply me is;
+            })
       ]
       | inr later ↦
           inr (record {
@@ -105,9 +134,9 @@ zero_is f never = by (is_some (f.processes [])) never
     by false e = cc
 
 pub unstarted_are_said : UnstartedAreSaid
-unstarted_are_said accounts before me gone never = by (has (started_by ([] ∷ []) (answered_from accounts (boot accounts) before)) me) refl
+unstarted_are_said accounts before me gone never = by (has (started_by ([] ∷ []) (notes_from accounts (boot accounts) before)) me) refl
   where
-    by : (b : Bool) → has (started_by ([] ∷ []) (answered_from accounts (boot accounts) before)) me ≡ b → b ≡ false
+    by : (b : Bool) → has (started_by ([] ∷ []) (notes_from accounts (boot accounts) before)) me ≡ b → b ≡ false
     by false is = refl
     by true is =
         elim (started_is accounts (boot accounts) ([] ∷ []) before me is) [

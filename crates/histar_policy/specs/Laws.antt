@@ -1,19 +1,24 @@
 -- What warnings amount to.
-use Rattle.std.specs.Prelude.{◌≡◌, ◌↔◌, true, false, List, [], ◌∷◌, None, Some, is_some}
+use Rattle.std.specs.Prelude.{◌≡◌, ◌≢◌, ◌↔◌, ℕ, true, false, List, [], ◌∷◌, ◌++◌, None, Some, is_some}
 use Rattle.histar_base.specs.Paths.{same}
 use Rattle.histar_flat.specs.declared.calls.CallLine.{CallLine}
-use Rattle.histar_flat.specs.declared.calls.UnixCall.TheVariants.{Login}
+use Rattle.histar_flat.specs.declared.calls.UnixCall.TheVariants.{Login, Rmtree}
 use Rattle.histar_flat.specs.declared.calls.User.{User}
-use Rattle.histar_flat.specs.Words.{Name, Password, ProcName}
+use Rattle.histar_flat.specs.Words.{Name, Password, Path, ProcName}
 use Rattle.histar_flat.specs.Accounts.{Accounts, has, user_named}
 use Rattle.histar_flat.specs.Classes.{Process, is_free}
-use Rattle.histar_flat.specs.FlatState.{Flat, is_some_and}
-use Rattle.histar_flat.specs.FlatCalls.{reply_to, running}
-use Rattle.histar_flat.specs.Meaning.{RepliedCall, boot, flat_end, meaning}
+use Rattle.histar_flat.specs.Files.{get}
+use Rattle.histar_flat.specs.FlatState.{Flat, Node, is_some_and}
+use Rattle.histar_flat.specs.FlatCalls.{running}
+use Rattle.histar_flat.specs.Meaning.{boot, flat_end}
+use Rattle.histar_rights.specs.Laws.{IsAnswered}
+use Rattle.histar_rights.specs.Users.{somebody}
 use Rattle.histar_reasons.specs.Reasons.{absence}
 use Rattle.histar_reasons.specs.Reasons.Absence.{WasNeverStarted}
 use Rattle.histar_policy.specs.declared.notes.Event.TheVariants.{WrongPassword}
-use Rattle.histar_policy.specs.Notes.{asked_of, event_of, note_of}
+use Rattle.histar_policy.specs.declared.notes.Note.{Note}
+use Rattle.histar_policy.specs.Notes.{event_of, notes_from}
+use Rattle.histar_policy.specs.Takers.{takers}
 use Rattle.histar_policy.specs.Warnings.{with_child}
 
 -- the password of this user is another one
@@ -27,17 +32,30 @@ abbrev pub WrongPasswordsAreSaid : Type 0
 WrongPasswordsAreSaid =
     (accounts : Accounts) (f : Flat) (me : ProcName) (p : Process) (user : Name) (password : Password)
     → running f me ≡ Some p
-    → (event_of (asked_of (Login user password)) (reply_to accounts f me (Login user password)) ≡ WrongPassword user)
+    → (event_of accounts f me (Login user password) ≡ WrongPassword user)
     ↔ ((is_free p ≡ true) × IsWrong accounts user password)
 
--- these processes, and those that replies name as started
-abbrev pub started_by : List ProcName → List RepliedCall → List ProcName
+-- these processes, and those that call lines started
+abbrev pub started_by : List ProcName → List Note → List ProcName
 started_by started [] = started
-started_by started (a ∷ answers) = started_by (with_child started (note_of a).event) answers
+started_by started (note ∷ notes) = started_by (with_child started note.event) notes
 
 -- A process that by the reasons of refusals was never started is not among those that were started by the calls so far.
 abbrev pub UnstartedAreSaid : Type 0
 UnstartedAreSaid = (accounts : Accounts) (before : List CallLine) (me : ProcName)
     → running (flat_end accounts (boot accounts) before) me ≡ None
     → absence (flat_end accounts (boot accounts) before) me ≡ WasNeverStarted
-    → has (started_by ([] ∷ []) (meaning accounts before)) me ≡ false
+    → has (started_by ([] ∷ []) (notes_from accounts (boot accounts) before)) me ≡ false
+
+-- After the calls of a script, a user of it is among the takers of what is at a path exactly if it did not make it and, after any login of
+-- the user that is answered, an `rmtree` of the path by the same process is answered.
+abbrev pub TakersMayRemove : Type 0
+TakersMayRemove =
+    (accounts : Accounts) (calls : List CallLine) (me : ProcName) (line : ℕ) (user : Name) (password : Password)
+    → has (somebody accounts) user ≡ true
+    → IsAnswered accounts calls (record { line = line; process = me; call = Login user password })
+    → (q : Path) (node : Node) → get (flat_end accounts (boot accounts) calls).files q ≡ Some node → (maker : Name) (number : ℕ)
+    → (has (takers accounts (flat_end accounts (boot accounts) calls) maker q) user ≡ true)
+    ↔ ((user ≢ maker)
+    × IsAnswered accounts (calls ++ record { line = line; process = me; call = Login user password } ∷ [])
+    (record { line = number; process = me; call = Rmtree q }))

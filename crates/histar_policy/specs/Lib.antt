@@ -1,5 +1,6 @@
 -- The definitions of this crate that contracts cite.
 pub mod Names
+pub mod Takers
 pub mod Notes
 pub mod Warnings
 pub mod Sets

@@ -2,7 +2,6 @@
 use Rattle.std.specs.Prelude.{◌≡◌, ℕ, ◌⊎◌, List, [], Option, Result, Ok, Err}
 use Rattle.std.specs.Io.KnownBytes.{Appends, Keeps}
 use Rattle.histar_io.specs.Writing.{AppendsFront}
-use Rattle.histar_flat.specs.Meaning.{meaning}
 use Rattle.histar_script.specs.declared.fault.Fault.{Fault}
 use Rattle.histar_script.specs.declared.fault.Fault.TheVariants.{BadScript, TooLong, OutOfMemory, ReadFailed, WriteFailed}
 use Rattle.histar_script.specs.Script.{ScriptModel}
@@ -15,7 +14,7 @@ use Rattle.histar_policy.specs.Warnings.{warnings_text}
 
 -- the warnings on a script, by its meaning
 abbrev pub policy_text : List ℕ → ScriptModel → List ℕ
-policy_text file script = warnings_text file (notes_of (meaning script.accounts script.calls))
+policy_text file script = warnings_text file (notes_of script)
 
 -- the text is a script, and its warnings were written as far as the predicate says
 pub record Warned (written : List ℕ → Type 0) (file text : List ℕ) : Type 0 where

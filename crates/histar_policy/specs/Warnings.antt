@@ -1,14 +1,15 @@
 -- What a reader would want to know of a right script, a line each.
-use Rattle.std.specs.Prelude.{ℕ, Bool, List, [], ◌∷◌, ◌++◌, codes, Option, None, Some, if◌then◌else◌}
+use Rattle.std.specs.Prelude.{ℕ, Bool, List, [], ◌∷◌, ◌++◌, codes, length, Option, None, Some, if◌then◌else◌}
+use Rattle.std.specs.Fmt.{decimal}
 use Rattle.std.specs.List.{list_any}
 use Rattle.std.specs.Option.{option_to_list}
 use Rattle.histar_flat.specs.Accounts.{has}
 use Rattle.histar_flat.specs.PathOrder.{under_process}
-use Rattle.histar_flat.specs.Texts.{process_text}
-use Rattle.histar_flat.specs.Words.{ProcName}
+use Rattle.histar_flat.specs.Texts.{path_text, process_text}
+use Rattle.histar_flat.specs.Words.{Name, Path, ProcName}
 use Rattle.histar_lint.specs.Session.{finding_text}
 use Rattle.histar_policy.specs.declared.notes.Event.{Event}
-use Rattle.histar_policy.specs.declared.notes.Event.TheVariants.{IsGone, Starts, StartsJob, WrongPassword}
+use Rattle.histar_policy.specs.declared.notes.Event.TheVariants.{IsGone, Starts, StartsJob, WrongPassword, MayBeTaken}
 use Rattle.histar_policy.specs.declared.notes.Note.{Note}
 
 -- a call line of the script is of a process of this job
@@ -27,11 +28,29 @@ never_used job = codes "job " ++ process_text job ++ codes " is never used"
 abbrev pub wrong_password : List ℕ → List ℕ
 wrong_password user = codes "that is not the password of " ++ user
 
+-- the names of users, and of more than three how many more there are
+abbrev pub whom_text : List Name → List ℕ
+whom_text [] = []
+whom_text (a ∷ []) = a
+whom_text (a ∷ b ∷ []) = a ++ codes ", " ++ b
+whom_text (a ∷ b ∷ c ∷ []) = a ++ codes ", " ++ b ++ codes ", " ++ c
+whom_text (a ∷ b ∷ c ∷ more) = a ++ codes ", " ++ b ++ codes ", " ++ c ++ codes " and " ++ decimal (length more) ++ codes " more"
+
+-- the sentence on who may take away what is at a path
+abbrev pub may_take : List Name → Path → List ℕ
+may_take takers q = whom_text takers ++ codes " may take " ++ path_text q ++ codes " away"
+
+-- the same, if there is anybody
+abbrev pub taking_sentence : Path → List Name → Option (List ℕ)
+taking_sentence q [] = None
+taking_sentence q (taker ∷ takers) = Some (may_take (taker ∷ takers) q)
+
 -- the sentence on what a call line of this process says, given the script and the processes started above it
 abbrev pub sentence_on : List Note → List ProcName → ProcName → Event → Option (List ℕ)
 sentence_on script started me IsGone = if has started me then None else Some (never_started me)
 sentence_on script started me (StartsJob job) = if is_used script job then None else Some (never_used job)
 sentence_on script started me (WrongPassword user) = Some (wrong_password user)
+sentence_on script started me (MayBeTaken q takers) = taking_sentence q takers
 sentence_on script started me event = None
 
 -- the line of a warning, if there is one

@@ -1,6 +1,5 @@
-//! What the call lines of a script and their replies say.
+//! What the call lines of a script say.
 ghost use Rattle.std.specs.Prelude.{◌≡◌, [], ◌∷◌, IfErr, IfOk, OnOk};
-ghost use Rattle.histar_flat.specs.Meaning.{meaning};
 ghost use Rattle.histar_script.specs.Script.{IsDeclared};
 ghost use Rattle.histar_policy.specs.Answers.{AddsNotes};
 ghost use Rattle.histar_policy.specs.Notes.{notes_of};
@@ -15,11 +14,10 @@ use std::alloc::Global;
 /// How many answers of label comparisons are remembered.
 const REMEMBERED_ANSWERS: usize = 256;
 
-/// Runs a script on a machine of its own, and returns what its call lines and their replies say.
+/// Runs a script on a machine of its own, and returns what its call lines say.
 pub(crate) fn notes_on(alloc: Global, script: Script) -> Result<Vec<Note>, Fault>
     requires { IsDeclared script.accounts }
-    ensures ok { IfOk result (λ notes.
-        notes.items ≡ notes_of (meaning script.accounts script.calls)) }
+    ensures ok { IfOk result (λ notes. notes.items ≡ notes_of script) }
     ensures faults { IfErr result (λ fault. fault ≡ Fault.OutOfMemory) }
 {
     let store = InternStore::new(alloc, REMEMBERED_ANSWERS)?;
@@ -34,7 +32,7 @@ pub(crate) fn notes_on(alloc: Global, script: Script) -> Result<Vec<Note>, Fault
     Ok(notes)
 }
 
-/// Makes calls, and adds what they and their replies say.
+/// Makes calls, and adds what they say.
 fn make_calls<S: LabelStore + Drop>(
     alloc: Global,
     machine: &mut Machine<S>,
@@ -51,7 +49,7 @@ fn make_calls<S: LabelStore + Drop>(
     Ok(())
 }
 
-/// Makes a call, and adds what it and its reply say.
+/// Makes a call, and adds what it says.
 fn make_call<S: LabelStore + Drop>(
     alloc: Global,
     machine: &mut Machine<S>,
@@ -71,7 +69,7 @@ fn make_call<S: LabelStore + Drop>(
     let Ok(reply) = machine.step(alloc, line, &process, call) else {
         return Err(Fault::OutOfMemory);
     };
-    let event = event_of(&asked, &reply);
+    let event = event_of(alloc, machine, &process, &asked, &reply)?;
     notes.push(Note {
         line,
         process,

@@ -1,5 +1,6 @@
 //! What a reader would want to know of a right script: calls of processes that were never started,
-//! logins with another password than the user's, and jobs that are never used.
+//! logins with another password than the user's, jobs that are never used, and files that others than
+//! their makers may take away.
 //!
 //! `specs/Warnings.antt` defines the warnings. [`policy_laws`] states what they amount to.
 #![tactic(auto)]
@@ -9,7 +10,10 @@ mod names;
 mod notes;
 pub mod policy_laws;
 mod session;
+mod takers;
+mod taking;
 mod warnings;
 
 pub use notes::{Event, Note};
 pub use session::{Found, lint_policy};
+pub use takers::Takers;

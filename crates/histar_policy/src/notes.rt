@@ -1,8 +1,13 @@
-//! What a call line and its reply say of processes and passwords.
-ghost use Rattle.std.specs.Prelude.{◌≡◌};
-ghost use Rattle.histar_policy.specs.Notes.{asked_of, child_event, event_of, refusal_event};
+//! What a call line says of processes, of passwords and of what it made.
+ghost use Rattle.std.specs.Prelude.{◌≡◌, IfOk};
+ghost use Rattle.histar_policy.specs.Answers.{IsEvent};
+ghost use Rattle.histar_policy.specs.Notes.{asked_of, child_event, refusal_event};
 
-use histar_flat::{Errno, Name, ProcName, Reply, UnixCall};
+use crate::takers::{Takers, made_event};
+use histar_flat::{Errno, Name, OwnedPath, Path, ProcName, Reply, UnixCall};
+use histar_label::LabelStore;
+use histar_shell::Machine;
+use std::alloc::{AllocError, Global};
 
 /// What matters of a call, whatever its reply.
 #[derive(Drop)]
@@ -11,11 +16,13 @@ pub enum Asked {
     LogsIn(Name),
     /// It starts a job.
     Wraps,
+    /// It makes a file or a directory at this path.
+    Makes(Path),
     /// It does something else.
     Other,
 }
 
-/// What a call and its reply say of processes and passwords.
+/// What a call line says of processes, of passwords and of what it made.
 #[derive(Drop)]
 pub enum Event {
     /// Nothing.
@@ -28,6 +35,8 @@ pub enum Event {
     StartsJob(ProcName),
     /// The password was not that of this user.
     WrongPassword(Name),
+    /// What was made at this path is not for everyone, and these users may take it away.
+    MayBeTaken(OwnedPath, Takers),
 }
 
 /// A call line that was answered.
@@ -47,6 +56,7 @@ pub(crate) fn asked_of(call: &UnixCall) -> Asked
     match call {
         UnixCall::Login(user, _) => Asked::LogsIn(*user),
         UnixCall::Wrap(_) => Asked::Wraps,
+        UnixCall::Create(path, _) | UnixCall::Mkdir(path, _) => Asked::Makes(path.path()),
         _ => Asked::Other,
     }
 }
@@ -71,14 +81,21 @@ fn refusal_event(asked: &Asked, errno: &Errno) -> Event
     }
 }
 
-/// Returns what a call and its reply say.
-pub(crate) fn event_of(asked: &Asked, reply: &Reply) -> Event
-    ensures { result ≡ event_of asked.now reply.now }
+/// Returns what a call of a process and its reply say, on the machine after the call.
+pub(crate) fn event_of<S: LabelStore + Drop>(
+    alloc: Global,
+    machine: &Machine<S>,
+    process: &ProcName,
+    asked: &Asked,
+    reply: &Reply,
+) -> Result<Event, AllocError>
+    ensures { IfOk result (IsEvent machine.now process.now asked.now reply.now) }
 {
-    match reply {
-        Reply::Gone => Event::IsGone,
-        Reply::Child(child) => child_event(asked, child),
-        Reply::Refused(errno) => refusal_event(asked, errno),
-        _ => Event::Nothing,
+    match (reply, asked) {
+        (Reply::Gone, _) => Ok(Event::IsGone),
+        (Reply::Child(child), _) => Ok(child_event(asked, child)),
+        (Reply::Refused(errno), _) => Ok(refusal_event(asked, errno)),
+        (Reply::Done, Asked::Makes(path)) => made_event(alloc, machine, process, path),
+        _ => Ok(Event::Nothing),
     }
 }

@@ -7,6 +7,7 @@ ghost use Rattle.histar_policy.specs.Warnings.{child_of, never_started, never_us
 
 use crate::names::Names;
 use crate::notes::{Event, Note};
+use crate::taking::taking_sentence;
 use histar_flat::{Name, ProcName};
 use histar_lint::finding;
 use histar_texts::push_process;
@@ -74,6 +75,7 @@ fn sentence_on(
             Ok(Some(never_used(alloc, job)?))
         }
         Event::WrongPassword(user) => Ok(Some(wrong_password(alloc, user)?)),
+        Event::MayBeTaken(path, takers) => taking_sentence(alloc, &path.path(), takers.names()),
         _ => Ok(None),
     }
 }

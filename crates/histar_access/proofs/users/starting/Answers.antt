@@ -1,7 +1,7 @@
 -- Proves the goals of `starting` of src/users.rt that the search leaves open.
 use Rattle.std.proofs.Common.{◌∷◌, [], ◌++◌, sym, ap, ◌∙◌}
 use Rattle.histar_flat.specs.Classes.{nobody}
-use Rattle.histar_access.specs.Users.{from_above}
+use Rattle.histar_cells.specs.ByClass.{from_above}
 use Rattle.histar_access.proofs.ByUsers.{names_more}
 use Rattle.histar_access.proofs.users.starting.Goals as goal
 

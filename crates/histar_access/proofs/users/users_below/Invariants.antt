@@ -1,7 +1,7 @@
 -- The invariants and measures of `users_below` of src/users.rt.
 use Rattle.std.proofs.Common.{◌≡◌, take}
 use Rattle.std.specs.Prelude.{map}
-use Rattle.histar_access.specs.Users.{user_below}
+use Rattle.histar_cells.specs.ByClass.{user_below}
 use Rattle.histar_access.proofs.users.users_below.Given as goal
 
 abbrev pub invariant-loop-user : goal.invariant-loop-user

@@ -1,5 +1,5 @@
 -- Proves the goals of `no_gain_is_no_more` of src/diff_laws.rt that the search leaves open.
-use Rattle.histar_diff.proofs.Gaining.{no_gain_is_no_more}
+use Rattle.histar_diff.proofs.Changes.{no_gain_is_no_more}
 use Rattle.histar_diff.proofs.diff_laws.no_gain_is_no_more.Goals as goal
 
 pub returns : goal.returns

@@ -2,8 +2,14 @@
 use Rattle.std.proofs.Common.{rules}
 use Rattle.std.proofs.lemmas.Fn.{filter_same}
 use Rattle.histar_diff.specs.declared.differences.Difference.{Difference}
+use Rattle.histar_diff.specs.declared.lone.Lone.{Lone}
 use Rattle.histar_diff.specs.Gains.{gives_more}
+use Rattle.histar_diff.specs.Sides.{letters}
 use Rattle.histar_diff.proofs.gains.keep_gains.Goals as goal
 
-pub returns : goal.returns
-returns c = filter_same _ (λ (d : Difference). gives_more d.before d.after) _ (λ x b f' k. search rules) _ _ c.retain.ensures.filtered
+pub returns-clause-lone : goal.returns-clause-lone
+returns-clause-lone c = filter_same _ (λ (l : Lone). l.is_new) _ (λ x b f' k. search rules) _ _ c.retain.ensures.filtered
+
+pub returns-clause-pairs : goal.returns-clause-pairs
+returns-clause-pairs c =
+    filter_same _ (λ (d : Difference). gives_more (letters d.before) (letters d.after)) _ (λ x b f' k. search rules) _ _ c.retain-2.ensures.filtered
