@@ -20,7 +20,9 @@ use crate::tasks::{
 use crate::version::installed_version;
 use clap::error::ErrorKind;
 use histar_access::DiffOptions;
-use histar_command_line::{AttackFlags, CheckFlags, Request, RunFlags, Task, read_words};
+use histar_command_line::{
+    AccessKind, AttackFlags, CheckFlags, Request, RunFlags, Task, read_words,
+};
 use histar_console::{Outcome, REFUSED, command_line, outcome_status, refuse, report};
 use histar_flat::{ProcName, read_path, read_process};
 use histar_script::Fault;
@@ -138,16 +140,16 @@ fn attack_by<R: Files + Input + Print>(
     Ok(attack_file(host, alloc, &job, path, flags))
 }
 
-/// Prints which process may do what after the script in a file, or before this line, or which user.
+/// Prints who may do what after the script in a file, or before this line, or who ever could.
 fn access_at<R: Files + Input + Print>(
     host: &Host<'_, R>,
     alloc: Global,
     path: &str,
     line: Option<&str>,
-    users: bool,
+    kind: AccessKind,
 ) -> Performed {
     let line = read_line(line)?;
-    Ok(access_file(host, alloc, path, line, users))
+    Ok(access_file(host, alloc, path, line, kind))
 }
 
 /// Prints whose rights differ after two scripts, or before this line of both, or these of each; or only where the new one
@@ -247,7 +249,7 @@ fn perform<R: Files + Input + Print>(
         Task::Raw(path, explain) => Ok(run_raw_file(host, alloc, path, *explain)),
         Task::Check(job, path, flags, line) => check_job(host, alloc, job, path, *flags, *line),
         Task::CheckAll(path, flags, line) => check_all(host, alloc, path, *flags, *line),
-        Task::Access(path, line, users) => access_at(host, alloc, path, *line, *users),
+        Task::Access(path, line, kind) => access_at(host, alloc, path, *line, *kind),
         Task::Diff(old, new, line, more) => diff_at(host, alloc, old, new, *line, *more),
         Task::Trust(path, file, line, why) => trust_at(host, alloc, path, file, *line, *why),
         Task::Leak(path, file, line) => leak_at(host, alloc, path, file, *line),

@@ -10,10 +10,11 @@ use crate::output::{Dress, Host};
 use histar_access::{DiffOptions, access, access_users, diff};
 use histar_attack::{AttackOptions, attack};
 use histar_attack_lint::lint_attack;
-use histar_command_line::{AttackFlags, CheckFlags, LintKind, RunFlags, VERSION};
+use histar_command_line::{AccessKind, AttackFlags, CheckFlags, LintKind, RunFlags, VERSION};
 use histar_comparison::{JobVerdict, Verdict, compare, compare_all, explain_comparison};
 use histar_console::{Outcome, open, run_plain};
 use histar_dialogue::converse;
+use histar_ever::access_ever;
 use histar_flat::{Path, ProcName};
 use histar_io::read_input;
 use histar_leak::leak;
@@ -202,25 +203,25 @@ fn is_so(holds: bool) -> Outcome {
     if holds { Outcome::Done } else { Outcome::NotSo }
 }
 
-/// Prints which process may do what after the calls of the script in a file, or before a line, or which user.
+/// Prints who may do what after the calls of the script in a file, or before a line, or who ever could.
 pub fn access_file<R: Files + Input + Print>(
     host: &Host<'_, R>,
     alloc: Global,
     path: &str,
     at: Option<u32>,
-    users: bool,
+    kind: AccessKind,
 ) -> Result<Outcome, Fault> {
     let mut reader = open(host.rt, path)?;
     let mut writer = host.page(alloc)?;
-    let done = if users {
-        access_users(alloc, &mut reader, &mut writer, at)
-    } else {
-        access(alloc, &mut reader, &mut writer, at)
+    let done = match kind {
+        AccessKind::Processes => access(alloc, &mut reader, &mut writer, at),
+        AccessKind::Users => access_users(alloc, &mut reader, &mut writer, at),
+        AccessKind::Ever => access_ever(alloc, &mut reader, &mut writer, at),
     };
     host.end(alloc, done.map(|_| Outcome::Done), writer)
 }
 
-/// Prints whose rights differ after the calls of two scripts, or before a line of both; or only where the new one
+/// Prints whose rights differ after the calls of two scripts, or before a line of each; or only where the new one
 /// gives more.
 pub fn diff_files<R: Files + Input + Print>(
     host: &Host<'_, R>,

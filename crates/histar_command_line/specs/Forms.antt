@@ -83,10 +83,11 @@ check_app = subcommand_app (codes "check")
     (flag_rule (codes "why") ∷ flag_rule (codes "all") ∷ flag_rule (codes "exit-code") ∷ flag_rule (codes "json")
     ∷ option_rule (codes "LINE") (codes "at") ∷ word_rule (codes "JOB") ∷ unless_rule (codes "FILE") ∷ [])
 
--- `access [--users] [--json] [--at LINE] FILE`
+-- `access [--users] [--ever] [--json] [--at LINE] FILE`
 abbrev pub access_app : App
 access_app = subcommand_app (codes "access")
-    (flag_rule (codes "users") ∷ flag_rule (codes "json") ∷ option_rule (codes "LINE") (codes "at") ∷ word_rule (codes "FILE") ∷ [])
+    (flag_rule (codes "users") ∷ flag_rule (codes "ever") ∷ flag_rule (codes "json") ∷ option_rule (codes "LINE") (codes "at")
+    ∷ word_rule (codes "FILE") ∷ [])
 
 -- `diff [--more] [--json] [--at LINE] OLD NEW`
 abbrev pub diff_app : App

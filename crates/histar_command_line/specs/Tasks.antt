@@ -2,6 +2,8 @@
 use Rattle.std.specs.Prelude.{◌≡◌, Bool, true, false, List, codes, map, Option, None, Some, option_map}
 use Rattle.std.specs.Str.{bytes_eq}
 use Rattle.clap.specs.Words.{Row, Text, all_of, first_of}
+use Rattle.histar_command_line.specs.declared.task.AccessKind.{AccessKind}
+use Rattle.histar_command_line.specs.declared.task.AccessKind.TheVariants as accesses
 use Rattle.histar_command_line.specs.declared.task.CheckFlags.{CheckFlags}
 use Rattle.histar_command_line.specs.declared.task.LintKind.{LintKind}
 use Rattle.histar_command_line.specs.declared.task.Request.{Request}
@@ -28,7 +30,7 @@ subcommand (Shell file) = codes "shell"
 subcommand (Raw file explain) = codes "raw"
 subcommand (Check job file flags at) = codes "check"
 subcommand (CheckAll file flags at) = codes "check"
-subcommand (Access file at users) = codes "access"
+subcommand (Access file at kind) = codes "access"
 subcommand (Diff old new at more) = codes "diff"
 subcommand (Trust path file at why) = codes "trust"
 subcommand (Leak path file at) = codes "leak"
@@ -45,6 +47,13 @@ lint_kind true false false = Some kinds.Raw
 lint_kind false true false = Some kinds.Attack
 lint_kind false false true = Some kinds.Policy
 lint_kind raw attack policy = None
+
+-- whose rights the flags `--users` and `--ever` name, unless both are given
+abbrev pub access_kind : Bool → Bool → Option AccessKind
+access_kind false false = Some accesses.Processes
+access_kind true false = Some accesses.Users
+access_kind false true = Some accesses.Ever
+access_kind true true = None
 
 -- the flags of a comparison are those that were given
 abbrev pub HasFlags : CheckFlags → List Row → Type 0
@@ -80,10 +89,10 @@ HasArguments (CheckAll file flags at) rows =
     × (first_of (codes "FILE") rows ≡ None)
     × HasFlags flags rows
     × (option_map (λ line. line.now) at ≡ first_of (codes "LINE") rows)
-HasArguments (Access file at users) rows =
+HasArguments (Access file at kind) rows =
     (first_of (codes "FILE") rows ≡ Some file.now)
     × (option_map (λ line. line.now) at ≡ first_of (codes "LINE") rows)
-    × (users ≡ is_set (codes "users") rows)
+    × (access_kind (is_set (codes "users") rows) (is_set (codes "ever") rows) ≡ Some kind)
 HasArguments (Diff old new at more) rows =
     (first_of (codes "OLD") rows ≡ Some old.now)
     × (first_of (codes "NEW") rows ≡ Some new.now)

@@ -182,7 +182,7 @@ Exit status: 0; with --exit-code it is 5 for anything but same",
     }
 }
 
-/// Returns `access [--users] [--json] [--at LINE] FILE`.
+/// Returns `access [--users] [--ever] [--json] [--at LINE] FILE`.
 pub(crate) fn access<'a>() -> Form<'a>
     ensures { form_app result ≡ access_app }
 {
@@ -199,6 +199,9 @@ pub(crate) fn access<'a>() -> Form<'a>
 With --users there are rights for `nobody` and for each user in place of the processes: those of a process that has
 just logged in as the user, and is in no job.
 
+With --ever each line is a path that was there before some line or after the last, and for each process that ran the
+rights that it had at one time or another.
+
 Example:
   histar access examples/access/tenants.histar
 prints, among others, the line
@@ -207,6 +210,10 @@ prints, among others, the line
             Argument::Flag(
                 "users",
                 "Print the rights of each user, and not of each process",
+            ),
+            Argument::Flag(
+                "ever",
+                "Print the rights that processes had before any line or after the last",
             ),
             Argument::Flag("json", JSON),
             Argument::Valued("LINE", "at", AT),
@@ -222,7 +229,10 @@ pub(crate) fn diff<'a>() -> Form<'a>
     Form {
         name: "diff",
         about: "Run two scripts and print whose rights differ at which path",
-        after_help: "Each line is a path, a process, its user, and its rights after the old script and after the new one.
+        after_help: "Each line is a path, a process, its user, and its rights after the old script and after the new one: `....`
+where the path is not there. Before these comes a line for each process that runs after one of them alone:
+  process PROC USER gone
+  process PROC USER new
 
 Exit status: 0 where no line is printed, 5 where one is
 
@@ -377,8 +387,8 @@ pub(crate) fn lint<'a>() -> Form<'a>
         about: "Print why scripts are bad: the first bad line of each, and the rule that it breaks",
         after_help: "Nothing is printed of a right script. Of a bad one it is FILE, the number of its first bad line, and a sentence.
 
-With --policy a right script has a line for each call of a process that was never started, each wrong password, and
-each job that is never used.
+With --policy a right script has a line for each call of a process that was never started, each wrong password, each
+job that is never used, and each file or directory that not everyone reads and that another user may take away.
 
 Exit status: 0 where all scripts are right, 1 where one is bad; with --exit-code 5 where --policy printed a line
 

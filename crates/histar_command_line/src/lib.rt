@@ -8,4 +8,6 @@ mod forms;
 mod task;
 
 pub use command::VERSION;
-pub use task::{AttackFlags, CheckFlags, LintKind, Request, RunFlags, Shape, Task, read_words};
+pub use task::{
+    AccessKind, AttackFlags, CheckFlags, LintKind, Request, RunFlags, Shape, Task, read_words,
+};

@@ -2,7 +2,7 @@
 ghost use Rattle.std.specs.Prelude.{◌≡◌, IfOk, IfSome, map};
 ghost use Rattle.clap.specs.Words.{app_of, first_value, found_of, rows_of, subcommand_of, subcommand_rows_of};
 ghost use Rattle.histar_command_line.specs.Forms.{histar_app};
-ghost use Rattle.histar_command_line.specs.Tasks.{IsCheckOf, IsRequestOf, IsShapeOf, IsTaskOf, is_given, lint_kind};
+ghost use Rattle.histar_command_line.specs.Tasks.{IsCheckOf, IsRequestOf, IsShapeOf, IsTaskOf, access_kind, is_given, lint_kind};
 
 use crate::command::command;
 use clap::error::ErrorKind;
@@ -29,6 +29,17 @@ pub struct CheckFlags {
     pub why: bool,
     /// Whether the status says what was found.
     pub exit_code: bool,
+}
+
+/// Whose rights are printed, and when they had them.
+#[derive(Clone, Copy)]
+pub enum AccessKind {
+    /// Those of each running process.
+    Processes,
+    /// Those of each user.
+    Users,
+    /// Those that each process had at one time or another.
+    Ever,
 }
 
 /// What kind of file is linted.
@@ -71,9 +82,8 @@ pub enum Task<'a> {
     /// Compare the script in this file with the ones without each of the jobs that it starts, or the lines of all
     /// before the one of this number.
     CheckAll(&'a str, CheckFlags, Option<&'a str>),
-    /// Print which process may do what after the script in this file, or before the line of this number; or
-    /// which user, if that is asked for.
-    Access(&'a str, Option<&'a str>, bool),
+    /// Print who may do what after the script in this file, or before the line of this number.
+    Access(&'a str, Option<&'a str>, AccessKind),
     /// Print whose rights differ after an old script and a new one, or before the line of this number in
     /// both; or only where the new one gives more.
     Diff(&'a str, &'a str, Option<&'a str>, bool),
@@ -179,7 +189,9 @@ fn state_task_of<'a>(matches: &ArgMatches<'a>) -> Option<Task<'a>>
         let file = access.get_str("FILE")?;
         let at = access.get_str("LINE");
         let users = is_set(access, "users");
-        return Some(Task::Access(file, at, users));
+        let ever = is_set(access, "ever");
+        let kind = access_kind(users, ever)?;
+        return Some(Task::Access(file, at, kind));
     }
     if let Some(diff) = matches.subcommand_matches("diff") {
         let old = diff.get_str("OLD")?;
@@ -189,6 +201,18 @@ fn state_task_of<'a>(matches: &ArgMatches<'a>) -> Option<Task<'a>>
         return Some(Task::Diff(old, new, at, more));
     }
     secret_task_of(matches)
+}
+
+/// Returns whose rights these flags of `access` name, if they don't name two.
+fn access_kind(users: bool, ever: bool) -> Option<AccessKind>
+    ensures { result ≡ access_kind users ever }
+{
+    match (users, ever) {
+        (false, false) => Some(AccessKind::Processes),
+        (true, false) => Some(AccessKind::Users),
+        (false, true) => Some(AccessKind::Ever),
+        (true, true) => None,
+    }
 }
 
 /// Returns the task of a matched subcommand on secrets and on who can pass them on.

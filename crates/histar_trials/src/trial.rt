@@ -31,6 +31,8 @@ pub enum Kind {
     Access(Option<u32>),
     /// The rights of users there.
     AccessUsers(Option<u32>),
+    /// The rights that processes ever had there.
+    AccessEver(Option<u32>),
     /// The rights that differ between two scripts, or only those that the new one gives.
     Diff(DiffOptions),
     /// On whom it depends what is at a path, and why, if that is asked for.
@@ -117,14 +119,20 @@ fn read_line(word: Option<&[u8]>) -> Option<Option<u32>> {
     Some(Some(number as u32))
 }
 
-/// Reads before which line two scripts are compared, if it is before one.
-fn differences(line: Option<&[u8]>, more: bool) -> Option<DiffOptions> {
+/// Reads how two scripts are compared, by the first word of a title and the line before which it is done, if it is
+/// before one.
+fn read_difference(word: &[u8], line: Option<&[u8]>) -> Option<Kind> {
+    let more = match word {
+        b"diff" => false,
+        b"diff_more" => true,
+        _ => return None,
+    };
     let at = read_line(line)?;
-    Some(DiffOptions {
+    Some(Kind::Diff(DiffOptions {
         old_at: at,
         new_at: at,
         more,
-    })
+    }))
 }
 
 /// Reads a path, and behind it the number of a line, if there is one.
@@ -203,11 +211,10 @@ fn read_question(word: &[u8], rest: Option<&[u8]>) -> Option<Kind> {
     match word {
         b"access" => Some(Kind::Access(read_line(rest)?)),
         b"access_users" => Some(Kind::AccessUsers(read_line(rest)?)),
-        b"diff" => Some(Kind::Diff(differences(rest, false)?)),
-        b"diff_more" => Some(Kind::Diff(differences(rest, true)?)),
+        b"access_ever" => Some(Kind::AccessEver(read_line(rest)?)),
         b"flows" => Some(Kind::Flows(read_line(rest)?)),
         b"try" => Some(Kind::Try(read_line(rest)?)),
-        _ => read_secret(word, rest),
+        _ => read_difference(word, rest).or(read_secret(word, rest)),
     }
 }
 

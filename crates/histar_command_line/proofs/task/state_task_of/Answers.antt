@@ -1,8 +1,8 @@
 -- Proves the goals of `state_task_of` of src/task.rt that the search leaves open.
-use Rattle.std.proofs.Common.{refl, sym, ap, ◌∙◌, codes}
+use Rattle.std.proofs.Common.{refl, sym, ap, ap₂, ◌∙◌, codes}
 use Rattle.clap.specs.Words.{rows_of, found_of}
 use Rattle.clap.proofs.WalkLemmas.{first_value-rows}
-use Rattle.histar_command_line.specs.Tasks.{is_given}
+use Rattle.histar_command_line.specs.Tasks.{access_kind, is_given}
 use Rattle.histar_command_line.proofs.Matches.{matched}
 use Rattle.histar_command_line.proofs.task.state_task_of.Goals as goal
 
@@ -15,7 +15,10 @@ returns-in-Some c =
       (
         sym (c.in_ok-file.ensures ∙ first_value-rows found (codes "FILE")),
         c.get_str-at.ensures ∙ first_value-rows found (codes "LINE"),
-        c.is_set-users.ensures ∙ ap is_given (first_value-rows found (codes "users")),
+        ap₂ access_kind
+            (sym (c.is_set-users.ensures ∙ ap is_given (first_value-rows found (codes "users"))))
+            (sym (c.is_set-ever.ensures ∙ ap is_given (first_value-rows found (codes "ever"))))
+            ∙ sym c.in_ok-kind.ensures,
       ),
     )
 

@@ -1,0 +1,10 @@
+-- The lemmas of this crate.
+pub mod Letters
+pub mod Keys
+pub mod Tabled
+pub mod Adding
+pub mod Gathered
+pub mod Held
+pub mod Questions
+pub mod Again
+pub mod Making

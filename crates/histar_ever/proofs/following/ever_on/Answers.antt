@@ -1,0 +1,16 @@
+-- Proves the goals of `ever_on` of src/following.rt that the search leaves open.
+use Rattle.histar_prefix.specs.Prefix.{calls_before}
+use Rattle.histar_ever.proofs.Making.{run_gathered, running_start, shown_start}
+use Rattle.histar_ever.proofs.following.ever_on.Goals as goal
+
+pub add_state-requires : goal.add_state-requires
+add_state-requires g c = shown_start c.args.machine.now c.requires
+
+pub make_calls-requires : goal.make_calls-requires
+make_calls-requires g c =
+    running_start c.args.machine.now c.new-ever.result c.add_state.new.ever c.requires c.new-ever.ensures c.in_ok-add_state.ensures
+
+pub returns : goal.returns
+returns g c =
+    run_gathered (calls_before c.args.at c.args.calls.items) c.args.machine.now c.make_calls.new.machine c.new-ever.result c.add_state.new.ever
+    c.make_calls.new.ever c.new-ever.ensures c.in_ok-add_state.ensures c.in_ok-make_calls.ensures

@@ -1,0 +1,59 @@
+-- What the letters, the paths and the processes of a run mean, by the calls of its script.
+use Rattle.std.specs.Prelude.{◌≡◌, ◌↔◌, Bool, true, false, is_some, List, ◌++◌}
+use Rattle.std.specs.List.{Contains}
+use Rattle.std.specs.List.Sorted.{IsStrictlySortedBy}
+use Rattle.histar_flat.specs.declared.calls.CallLine.{CallLine}
+use Rattle.histar_flat.specs.declared.calls.UnixCall.{UnixCall}
+use Rattle.histar_flat.specs.Words.{Path, ProcName}
+use Rattle.histar_base.specs.Paths.{path_cmp}
+use Rattle.histar_flat.specs.Accounts.{Accounts}
+use Rattle.histar_flat.specs.FlatState.{Flat, is_there}
+use Rattle.histar_flat.specs.FlatCalls.{flat_after, reply_to, running}
+use Rattle.histar_flat.specs.Meaning.{boot, flat_end}
+use Rattle.histar_rights.specs.declared.rights.Rights.{Rights}
+use Rattle.histar_rights.specs.Running.{process_cmp}
+use Rattle.histar_diff.specs.Shown.{rights_of}
+use Rattle.histar_ever.specs.Changing.{may_change}
+use Rattle.histar_ever.specs.Ever.{ever_paths, ever_processes, ever_rights}
+use Rattle.histar_ever.specs.States.{states_from}
+
+-- in a run from this state the test holds of the flat state before some of these calls, or after the last
+pub record HeldOnce (accounts : Accounts) (f : Flat) (calls : List CallLine) (test : Flat → Bool) : Type 0 where
+  pub front : List CallLine
+  pub rest : List CallLine
+  pub parts : calls ≡ front ++ rest
+  pub held : test (flat_end accounts f front) ≡ true
+
+-- each letter is there exactly if the process had it at the path before some of the calls, or after the last
+pub record WereLettersOf (accounts : Accounts) (calls : List CallLine) (q : Path) (p : ProcName) (letters : Rights) : Type 0 where
+  pub stat : (letters.stat ≡ true) ↔ HeldOnce accounts (boot accounts) calls (λ f. (rights_of accounts f q p).stat)
+  pub read : (letters.read ≡ true) ↔ HeldOnce accounts (boot accounts) calls (λ f. (rights_of accounts f q p).read)
+  pub write : (letters.write ≡ true) ↔ HeldOnce accounts (boot accounts) calls (λ f. (rights_of accounts f q p).write)
+  pub remove : (letters.remove ≡ true) ↔ HeldOnce accounts (boot accounts) calls (λ f. (rights_of accounts f q p).remove)
+
+-- the letters of a process at a path are those that it had there before some call, or after the last
+abbrev pub LettersWereThere : Type 0
+LettersWereThere =
+    (accounts : Accounts) (calls : List CallLine) (q : Path) (p : ProcName)
+    → WereLettersOf accounts calls q p (ever_rights accounts (states_from accounts (boot accounts) calls) q p)
+
+-- the paths rise, each once, and a path is among them exactly if it was there before some call, or after the last
+pub record PathsWereThere : Type 0 where
+  pub rise : (accounts : Accounts) (calls : List CallLine)
+      → IsStrictlySortedBy path_cmp (ever_paths (states_from accounts (boot accounts) calls))
+  pub each : (accounts : Accounts) (calls : List CallLine) (q : Path)
+      → Contains (ever_paths (states_from accounts (boot accounts) calls)) q ↔ HeldOnce accounts (boot accounts) calls (λ f. is_there f q)
+
+-- the processes rise, each once, and a process is among them exactly if it ran before some call, or after the last
+pub record ProcessesRan : Type 0 where
+  pub rise : (accounts : Accounts) (calls : List CallLine)
+      → IsStrictlySortedBy process_cmp (ever_processes (states_from accounts (boot accounts) calls))
+  pub each : (accounts : Accounts) (calls : List CallLine) (p : ProcName)
+      → Contains (ever_processes (states_from accounts (boot accounts) calls)) p
+      ↔ HeldOnce accounts (boot accounts) calls (λ f. is_some (running f p))
+
+-- a call that can't have changed anything, by its reply, leaves the flat state as it was
+abbrev pub OthersChangeNothing : Type 0
+OthersChangeNothing =
+    (accounts : Accounts) (f : Flat) (me : ProcName) (call : UnixCall) → may_change call (reply_to accounts f me call) ≡ false
+    → flat_after accounts f me call ≡ f
