@@ -9,9 +9,9 @@ use Rattle.histar_flat.proofs.Finding.{equal}
 use Rattle.histar_rights.specs.declared.rights.Rights.{Rights}
 use Rattle.histar_diff.specs.declared.table.Runner.{Runner}
 use Rattle.histar_diff.specs.declared.table.TableLine.{TableLine}
-use Rattle.histar_diff.specs.Differences.{Pair, pair_cmp}
+use Rattle.histar_diff.specs.Sides.{Pair, pair_cmp}
 use Rattle.histar_diff.specs.Tables.{no_rights}
-use Rattle.histar_diff.proofs.ShownTables.{pair_cmp_exact}
+use Rattle.histar_diff.proofs.Sides.{pair_cmp_exact}
 use Rattle.histar_ever.specs.Ever.{any_rights, either}
 use Rattle.histar_ever.specs.Gathering.{AddsLines, AddsRights, AddsRow, Letters, letters_at, line_letters}
 use Rattle.histar_ever.proofs.Letters.{any_more, either_assoc, either_none}

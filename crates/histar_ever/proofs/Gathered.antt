@@ -18,7 +18,7 @@ use Rattle.histar_rights.specs.Running.{AreRunning, process_cmp, running_in}
 use Rattle.histar_rights.specs.Table.{cell_text}
 use Rattle.histar_diff.specs.declared.table.Table.{Table}
 use Rattle.histar_diff.specs.Shown.{ShowsRights, rights_of}
-use Rattle.histar_diff.specs.Differences.{pair_cmp}
+use Rattle.histar_diff.specs.Sides.{pair_cmp}
 use Rattle.histar_diff.specs.Tables.{no_rights}
 use Rattle.histar_diff.proofs.Steps.{process_cmp_exact, process_cmp_total}
 use Rattle.histar_ever.specs.declared.ever.Ever.{Ever}

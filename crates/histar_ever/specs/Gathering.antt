@@ -17,7 +17,7 @@ use Rattle.histar_rights.specs.Table.{cell_text}
 use Rattle.histar_diff.specs.declared.table.Runner.{Runner}
 use Rattle.histar_diff.specs.declared.table.Table.{Table}
 use Rattle.histar_diff.specs.declared.table.TableLine.{TableLine}
-use Rattle.histar_diff.specs.Differences.{Pair, pair_cmp}
+use Rattle.histar_diff.specs.Sides.{Pair, pair_cmp}
 use Rattle.histar_diff.specs.Tables.{no_rights}
 use Rattle.histar_ever.specs.declared.ever.Ever.{Ever}
 use Rattle.histar_ever.specs.Ever.{any_rights, either, ever_rights, paths_in, processes_in}
