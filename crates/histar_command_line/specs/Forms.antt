@@ -1,10 +1,10 @@
 -- The rules of the command line for `clap`, by the forms of the subcommands.
-use Rattle.std.specs.Prelude.{true, false, List, [], ◌∷◌, Some, codes, fold, map}
+use Rattle.std.specs.Prelude.{ℕ, true, false, List, [], ◌∷◌, Some, codes, fold, map}
 use Rattle.clap.specs.Lexer.{usize_max}
 use Rattle.clap.specs.Words.{App, Rule, Shape, Text, new_app, new_rule, with_rule, with_subcommand}
 use Rattle.clap.specs.declared.builder.action.ArgAction.TheVariants.{Set, SetTrue}
 use Rattle.histar_command_line.specs.declared.forms.Argument.{Argument}
-use Rattle.histar_command_line.specs.declared.forms.Argument.TheVariants.{Flag, Word, Unless, Optional, Words, Valued}
+use Rattle.histar_command_line.specs.declared.forms.Argument.TheVariants.{Flag, Word, Unless, Optional, Words, Valued, Lettered}
 use Rattle.histar_command_line.specs.declared.forms.Form.{Form}
 
 -- the rule of a flag of this name
@@ -31,6 +31,10 @@ words_rule name = record (new_rule name) { required = true; range = Some (record
 abbrev pub option_rule : Text → Text → Rule
 option_rule name flag = record (new_rule name) { long = Some flag; action = Some Set }
 
+-- the rule of a word of this name after a flag that has a letter too
+abbrev pub lettered_rule : Text → Text → ℕ → Rule
+lettered_rule name flag letter = record (option_rule name flag) { short = Some letter }
+
 -- the rule of an argument
 abbrev pub argument_rule : Argument → Rule
 argument_rule (Flag name help) = flag_rule name.now
@@ -39,6 +43,7 @@ argument_rule (Unless name flag help) = unless_rule name.now
 argument_rule (Optional name help) = optional_rule name.now
 argument_rule (Words name help) = words_rule name.now
 argument_rule (Valued name flag help) = option_rule name.now flag.now
+argument_rule (Lettered name flag letter help) = lettered_rule name.now flag.now letter
 
 -- the rules of a subcommand
 abbrev pub form_app : Form → App
@@ -89,11 +94,11 @@ access_app = subcommand_app (codes "access")
     (flag_rule (codes "users") ∷ flag_rule (codes "ever") ∷ flag_rule (codes "json") ∷ option_rule (codes "LINE") (codes "at")
     ∷ word_rule (codes "FILE") ∷ [])
 
--- `diff [--more] [--json] [--at LINE] OLD NEW`
+-- `diff [--users] [--more] [--json] [--at LINE] OLD NEW`
 abbrev pub diff_app : App
 diff_app = subcommand_app (codes "diff")
-    (flag_rule (codes "more") ∷ flag_rule (codes "json") ∷ option_rule (codes "LINE") (codes "at") ∷ word_rule (codes "OLD")
-    ∷ word_rule (codes "NEW") ∷ [])
+    (flag_rule (codes "users") ∷ flag_rule (codes "more") ∷ flag_rule (codes "json") ∷ option_rule (codes "LINE") (codes "at")
+    ∷ word_rule (codes "OLD") ∷ word_rule (codes "NEW") ∷ [])
 
 -- `trust [--why] [--json] [--at LINE] PATH FILE`
 abbrev pub trust_app : App
@@ -125,9 +130,10 @@ lint_app = subcommand_app (codes "lint")
 abbrev pub test_app : App
 test_app = subcommand_app (codes "test") (flag_rule (codes "strict") ∷ flag_rule (codes "json") ∷ words_rule (codes "FILE") ∷ [])
 
--- `report [--at LINE] FILE`
+-- `report [-o|--output PAGE] [--at LINE] FILE`
 abbrev pub report_app : App
-report_app = subcommand_app (codes "report") (option_rule (codes "LINE") (codes "at") ∷ word_rule (codes "FILE") ∷ [])
+report_app = subcommand_app (codes "report")
+    (lettered_rule (codes "PAGE") (codes "output") 111 ∷ option_rule (codes "LINE") (codes "at") ∷ word_rule (codes "FILE") ∷ [])
 
 -- the program with its subcommands
 abbrev pub histar_app : App

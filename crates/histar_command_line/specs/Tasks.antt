@@ -31,13 +31,13 @@ subcommand (Raw file explain) = codes "raw"
 subcommand (Check job file flags at) = codes "check"
 subcommand (CheckAll file flags at) = codes "check"
 subcommand (Access file at kind) = codes "access"
-subcommand (Diff old new at more) = codes "diff"
+subcommand (Diff old new at flags) = codes "diff"
 subcommand (Trust path file at why) = codes "trust"
 subcommand (Leak path file at) = codes "leak"
 subcommand (Flows file at) = codes "flows"
 subcommand (Attack job file flags) = codes "attack"
 subcommand (Lint files kind exit_code) = codes "lint"
-subcommand (Report file at) = codes "report"
+subcommand (Report file at page) = codes "report"
 subcommand (Test files strict) = codes "test"
 
 -- the kind of file that the flags `--raw`, `--attack` and `--policy` name, unless two of them are given
@@ -48,12 +48,12 @@ lint_kind false true false = Some kinds.Attack
 lint_kind false false true = Some kinds.Policy
 lint_kind raw attack policy = None
 
--- whose rights the flags `--users` and `--ever` name, unless both are given
-abbrev pub access_kind : Bool → Bool → Option AccessKind
-access_kind false false = Some accesses.Processes
-access_kind true false = Some accesses.Users
-access_kind false true = Some accesses.Ever
-access_kind true true = None
+-- whose rights the flags `--users` and `--ever` name
+abbrev pub access_kind : Bool → Bool → AccessKind
+access_kind false false = accesses.Processes
+access_kind true false = accesses.Users
+access_kind false true = accesses.Ever
+access_kind true true = accesses.UsersEver
 
 -- the flags of a comparison are those that were given
 abbrev pub HasFlags : CheckFlags → List Row → Type 0
@@ -92,12 +92,13 @@ HasArguments (CheckAll file flags at) rows =
 HasArguments (Access file at kind) rows =
     (first_of (codes "FILE") rows ≡ Some file.now)
     × (option_map (λ line. line.now) at ≡ first_of (codes "LINE") rows)
-    × (access_kind (is_set (codes "users") rows) (is_set (codes "ever") rows) ≡ Some kind)
-HasArguments (Diff old new at more) rows =
+    × (access_kind (is_set (codes "users") rows) (is_set (codes "ever") rows) ≡ kind)
+HasArguments (Diff old new at flags) rows =
     (first_of (codes "OLD") rows ≡ Some old.now)
     × (first_of (codes "NEW") rows ≡ Some new.now)
     × (option_map (λ line. line.now) at ≡ first_of (codes "LINE") rows)
-    × (more ≡ is_set (codes "more") rows)
+    × (flags.users ≡ is_set (codes "users") rows)
+    × (flags.more ≡ is_set (codes "more") rows)
 HasArguments (Trust path file at why) rows =
     (first_of (codes "PATH") rows ≡ Some path.now)
     × (first_of (codes "FILE") rows ≡ Some file.now)
@@ -119,9 +120,10 @@ HasArguments (Lint files kind exit_code) rows =
     (all_of (codes "FILE") rows ≡ Some (map (λ file. file.now) files.items))
     × (lint_kind (is_set (codes "raw") rows) (is_set (codes "attack") rows) (is_set (codes "policy") rows) ≡ Some kind)
     × (exit_code ≡ is_set (codes "exit-code") rows)
-HasArguments (Report file at) rows =
+HasArguments (Report file at page) rows =
     (first_of (codes "FILE") rows ≡ Some file.now)
     × (option_map (λ line. line.now) at ≡ first_of (codes "LINE") rows)
+    × (option_map (λ name. name.now) page ≡ first_of (codes "PAGE") rows)
 HasArguments (Test files strict) rows =
     (all_of (codes "FILE") rows ≡ Some (map (λ file. file.now) files.items))
     × (strict ≡ is_set (codes "strict") rows)

@@ -58,6 +58,13 @@ fn arg_of<'a>(alloc: Global, argument: Argument<'a>) -> Result<Arg<'a>, AllocErr
                 .action(ArgAction::Set)
                 .help(help),
         ),
+        Argument::Lettered(name, flag, letter, help) => Ok(
+            Arg::new(alloc, name)
+                .long(flag)
+                .short(letter)
+                .action(ArgAction::Set)
+                .help(help),
+        ),
     }
 }
 

@@ -18,6 +18,8 @@ pub enum Argument<'a> {
     Words(&'a str, &'a str),
     /// A word after a flag: its name, the name of the flag, and its help.
     Valued(&'a str, &'a str, &'a str),
+    /// A word after a flag that has a letter too: its name, the name of the flag, its letter, and its help.
+    Lettered(&'a str, &'a str, char, &'a str),
 }
 
 /// A subcommand.
@@ -199,8 +201,8 @@ pub(crate) fn access<'a>() -> Form<'a>
 With --users there are rights for `nobody` and for each user in place of the processes: those of a process that has
 just logged in as the user, and is in no job.
 
-With --ever each line is a path that was there before some line or after the last, and for each process that ran the
-rights that it had at one time or another.
+With --ever each line is a path that was there before some line or after the last, and for each process that ran, or
+with --users for each user, the rights that it had at one time or another.
 
 Example:
   histar access examples/access/tenants.histar
@@ -213,7 +215,7 @@ prints, among others, the line
             ),
             Argument::Flag(
                 "ever",
-                "Print the rights that processes had before any line or after the last",
+                "Print the rights that were there before any line or after the last",
             ),
             Argument::Flag("json", JSON),
             Argument::Valued("LINE", "at", AT),
@@ -222,7 +224,7 @@ prints, among others, the line
     }
 }
 
-/// Returns `diff [--more] [--json] [--at LINE] OLD NEW`.
+/// Returns `diff [--users] [--more] [--json] [--at LINE] OLD NEW`.
 pub(crate) fn diff<'a>() -> Form<'a>
     ensures { form_app result ≡ diff_app }
 {
@@ -241,8 +243,17 @@ Example:
 prints, among others, the line
   /home 0.1 alice srw- sr--
 
-With --more nothing is printed where the new script permits no more than the old one.",
+With --more nothing is printed where the new script permits no more than the old one.
+
+With --users the rights are those of `nobody` and of each user that both scripts declare, as `access --users` prints
+them, and before the lines of paths comes a line for each user that one of them alone declares:
+  user NAME gone
+  user NAME new",
         arguments: &[
+            Argument::Flag(
+                "users",
+                "Compare the rights of each user, and not of each process",
+            ),
             Argument::Flag(
                 "more",
                 "Print only the lines where the new script gives a letter that the old one doesn't",
@@ -416,16 +427,25 @@ prints
     }
 }
 
-/// Returns `report [--at LINE] FILE`.
+/// Returns `report [--output PAGE] [--at LINE] FILE`.
 pub(crate) fn report<'a>() -> Form<'a>
     ensures { form_app result ≡ report_app }
 {
     Form {
         name: "report",
         about: "Run a script and print the session as one HTML page",
-        after_help: "Example:
-  histar report examples/scan.histar > scan.html",
+        after_help: "With --output the page is written to a file of this name, whole: where something fails, a file that was there
+before is kept as it was.
+
+Example:
+  histar report --output scan.html examples/scan.histar",
         arguments: &[
+            Argument::Lettered(
+                "PAGE",
+                "output",
+                'o',
+                "Write the page to this file, and not to standard output",
+            ),
             Argument::Valued("LINE", "at", AT),
             Argument::Word("FILE", SCRIPT),
         ],

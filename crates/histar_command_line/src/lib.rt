@@ -9,5 +9,6 @@ mod task;
 
 pub use command::VERSION;
 pub use task::{
-    AccessKind, AttackFlags, CheckFlags, LintKind, Request, RunFlags, Shape, Task, read_words,
+    AccessKind, AttackFlags, CheckFlags, DiffFlags, LintKind, Request, RunFlags, Shape, Task,
+    read_words,
 };

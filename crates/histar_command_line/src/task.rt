@@ -40,6 +40,17 @@ pub enum AccessKind {
     Users,
     /// Those that each process had at one time or another.
     Ever,
+    /// Those that each user had at one time or another.
+    UsersEver,
+}
+
+/// Whose rights are compared, and which differences are printed.
+#[derive(Clone, Copy)]
+pub struct DiffFlags {
+    /// Whether the rights are those of users, and not of processes.
+    pub users: bool,
+    /// Whether only the lines are printed where the new script gives more.
+    pub more: bool,
 }
 
 /// What kind of file is linted.
@@ -85,8 +96,8 @@ pub enum Task<'a> {
     /// Print who may do what after the script in this file, or before the line of this number.
     Access(&'a str, Option<&'a str>, AccessKind),
     /// Print whose rights differ after an old script and a new one, or before the line of this number in
-    /// both; or only where the new one gives more.
-    Diff(&'a str, &'a str, Option<&'a str>, bool),
+    /// both.
+    Diff(&'a str, &'a str, Option<&'a str>, DiffFlags),
     /// Print which processes have to be trusted with a path after a script, or before the line of this
     /// number: first the path, then the file; and why, if that is asked for.
     Trust(&'a str, &'a str, Option<&'a str>, bool),
@@ -100,8 +111,9 @@ pub enum Task<'a> {
     Attack(&'a str, &'a str, AttackFlags),
     /// Print why the files of this kind are bad, if they are; whether the status says that there were warnings.
     Lint(Vec<&'a str>, LintKind, bool),
-    /// Print the session of the script in this file as a page, or that of its lines before the one of this number.
-    Report(&'a str, Option<&'a str>),
+    /// Print the session of the script in this file as a page, or that of its lines before the one of this number;
+    /// or write the page to a file of the last name, if there is one.
+    Report(&'a str, Option<&'a str>, Option<&'a str>),
     /// Compare the replies to the scripts in these files with those that they expect, and miss what nothing is
     /// expected of and is refused, if that is asked for.
     Test(Vec<&'a str>, bool),
@@ -190,28 +202,28 @@ fn state_task_of<'a>(matches: &ArgMatches<'a>) -> Option<Task<'a>>
         let at = access.get_str("LINE");
         let users = is_set(access, "users");
         let ever = is_set(access, "ever");
-        let kind = access_kind(users, ever)?;
-        return Some(Task::Access(file, at, kind));
+        return Some(Task::Access(file, at, access_kind(users, ever)));
     }
     if let Some(diff) = matches.subcommand_matches("diff") {
         let old = diff.get_str("OLD")?;
         let new = diff.get_str("NEW")?;
         let at = diff.get_str("LINE");
+        let users = is_set(diff, "users");
         let more = is_set(diff, "more");
-        return Some(Task::Diff(old, new, at, more));
+        return Some(Task::Diff(old, new, at, DiffFlags { users, more }));
     }
     secret_task_of(matches)
 }
 
-/// Returns whose rights these flags of `access` name, if they don't name two.
-fn access_kind(users: bool, ever: bool) -> Option<AccessKind>
+/// Returns whose rights these flags of `access` name.
+fn access_kind(users: bool, ever: bool) -> AccessKind
     ensures { result ≡ access_kind users ever }
 {
     match (users, ever) {
-        (false, false) => Some(AccessKind::Processes),
-        (true, false) => Some(AccessKind::Users),
-        (false, true) => Some(AccessKind::Ever),
-        (true, true) => None,
+        (false, false) => AccessKind::Processes,
+        (true, false) => AccessKind::Users,
+        (false, true) => AccessKind::Ever,
+        (true, true) => AccessKind::UsersEver,
     }
 }
 
@@ -257,7 +269,8 @@ fn session_task_of<'a>(matches: &ArgMatches<'a>) -> Option<Task<'a>>
     let report = matches.subcommand_matches("report")?;
     let file = report.get_str("FILE")?;
     let at = report.get_str("LINE");
-    Some(Task::Report(file, at))
+    let page = report.get_str("PAGE");
+    Some(Task::Report(file, at, page))
 }
 
 /// Returns the task of `lint`, if it was matched.

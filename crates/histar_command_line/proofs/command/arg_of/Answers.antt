@@ -76,3 +76,19 @@ returns-in-Valued-clause-local c =
     let global = λ (arg : Arg). arg.global in
     ap global c.help-in-Valued.ensures ∙ ap global c.action-in-Valued.ensures ∙ ap global c.long-in-Valued.ensures
     ∙ c.new-in-Valued.ensures.optional.1
+
+pub returns-in-Lettered-clause-rule : goal.returns-in-Lettered-clause-rule
+returns-in-Lettered-clause-rule c =
+    ap rule_of c.help-in-Lettered.ensures ∙ ap rule_of c.action-in-Lettered.ensures
+    ∙ ap (λ (rule : Rule). record rule { action = Some Set })
+    (ap rule_of c.short.ensures
+    ∙ ap (λ (rule : Rule). record rule { short = Some c.in-Lettered.letter })
+    (ap rule_of c.long-in-Lettered.ensures
+    ∙ ap (λ (rule : Rule). record rule { long = Some c.in-Lettered.flag.now }) c.new-in-Lettered.ensures.rule))
+    ∙ ap argument_rule (sym c.in-Lettered.is)
+
+pub returns-in-Lettered-clause-local : goal.returns-in-Lettered-clause-local
+returns-in-Lettered-clause-local c =
+    let global = λ (arg : Arg). arg.global in
+    ap global c.help-in-Lettered.ensures ∙ ap global c.action-in-Lettered.ensures ∙ ap global c.short.ensures
+    ∙ ap global c.long-in-Lettered.ensures ∙ c.new-in-Lettered.ensures.optional.1

@@ -38,5 +38,6 @@ returns c =
       (
         sym (c.in_ok-file-2.ensures ∙ first_value-rows found (codes "FILE")),
         c.get_str-at.ensures ∙ first_value-rows found (codes "LINE"),
+        c.get_str-page.ensures ∙ first_value-rows found (codes "PAGE"),
       ),
     )

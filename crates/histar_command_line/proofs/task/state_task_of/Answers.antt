@@ -18,7 +18,7 @@ returns-in-Some c =
         ap₂ access_kind
             (sym (c.is_set-users.ensures ∙ ap is_given (first_value-rows found (codes "users"))))
             (sym (c.is_set-ever.ensures ∙ ap is_given (first_value-rows found (codes "ever"))))
-            ∙ sym c.in_ok-kind.ensures,
+            ∙ sym c.access_kind.ensures,
       ),
     )
 
@@ -32,6 +32,7 @@ returns-in-Some-subcommand_matches c =
         sym (c.in_ok-old.ensures ∙ first_value-rows found (codes "OLD")),
         sym (c.in_ok-new.ensures ∙ first_value-rows found (codes "NEW")),
         c.get_str-at-in-Some-subcommand_matches.ensures ∙ first_value-rows found (codes "LINE"),
+        c.is_set-users-in-Some-subcommand_matches.ensures ∙ ap is_given (first_value-rows found (codes "users")),
         c.is_set-more.ensures ∙ ap is_given (first_value-rows found (codes "more")),
       ),
     )
