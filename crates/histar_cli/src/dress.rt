@@ -34,6 +34,7 @@ fn form_of(task: &Task<'_>) -> Option<Form> {
         Task::Flows(_, _) => Some(Form::Flows),
         Task::Check(_, _, _, _) => Some(Form::Check),
         Task::CheckAll(_, _, _) => Some(Form::CheckAll),
+        Task::Diff(_, _, _, flags) if flags.users => Some(Form::DiffUsers),
         Task::Diff(_, _, _, _) => Some(Form::Diff),
         Task::Test(_, _) => Some(Form::Test),
         Task::Lint(_, _, _) => Some(Form::Lint),

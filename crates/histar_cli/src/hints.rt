@@ -28,7 +28,7 @@ fn files_of<'a>(alloc: Global, task: &Task<'a>) -> Result<Vec<&'a str>, AllocErr
         Task::Leak(_, path, _) => Vec::from_slice(alloc, &[*path]),
         Task::Flows(path, _) => Vec::from_slice(alloc, &[*path]),
         Task::Attack(_, path, _) => Vec::from_slice(alloc, &[*path]),
-        Task::Report(path, _) => Vec::from_slice(alloc, &[*path]),
+        Task::Report(path, _, _) => Vec::from_slice(alloc, &[*path]),
         Task::Shell(Some(path)) => Vec::from_slice(alloc, &[*path]),
         Task::Shell(None) => Ok(Vec::new(alloc)),
         Task::Diff(old, new, _, _) => Vec::from_slice(alloc, &[*old, *new]),

@@ -1,6 +1,7 @@
 //! The program: `histar run FILE` runs a script and prints the replies; `histar --help` lists subcommands.
 #![tactic(auto)]
 
+mod draft;
 mod dress;
 mod folder;
 mod hints;
@@ -14,14 +15,14 @@ use crate::hints::{say_why, say_word};
 use crate::output::Host;
 use crate::tasks::{
     CheckOptions, access_file, attack_file, check_each_job, check_file, diff_files, flows_file,
-    leak_file, lint_files, report_file, run_file, run_raw_file, shell_file, test_files, trust_file,
-    try_file,
+    leak_file, lint_files, report_file, run_file, run_raw_file, save_report, shell_file,
+    test_files, trust_file, try_file,
 };
 use crate::version::installed_version;
 use clap::error::ErrorKind;
 use histar_access::DiffOptions;
 use histar_command_line::{
-    AccessKind, AttackFlags, CheckFlags, Request, RunFlags, Task, read_words,
+    AccessKind, AttackFlags, CheckFlags, DiffFlags, Request, RunFlags, Task, read_words,
 };
 use histar_console::{Outcome, REFUSED, command_line, outcome_status, refuse, report};
 use histar_flat::{ProcName, read_path, read_process};
@@ -117,15 +118,20 @@ fn check_all<R: Files + Input + Print>(
     Ok(check_each_job(host, alloc, path, CheckOptions { flags, at }))
 }
 
-/// Prints the session of the script in a file as a page, or that of its calls before this line.
+/// Prints the session of the script in a file as a page, or that of its calls before this line, or writes the page
+/// to a file.
 fn report_at<R: Files + Input + Print>(
     host: &Host<'_, R>,
     alloc: Global,
     path: &str,
     line: Option<&str>,
+    page: Option<&str>,
 ) -> Performed {
     let at = read_line(line)?;
-    Ok(report_file(host, alloc, path, at))
+    match page {
+        None => Ok(report_file(host, alloc, path, at)),
+        Some(page) => Ok(save_report(host, alloc, path, at, page)),
+    }
 }
 
 /// Runs a script in a file in which threads of this job make raw calls.
@@ -152,21 +158,21 @@ fn access_at<R: Files + Input + Print>(
     Ok(access_file(host, alloc, path, line, kind))
 }
 
-/// Prints whose rights differ after two scripts, or before this line of both, or these of each; or only where the new one
-/// gives more.
+/// Prints whose rights differ after two scripts, or before this line of both, or these of each.
 fn diff_at<R: Files + Input + Print>(
     host: &Host<'_, R>,
     alloc: Global,
     old: &str,
     new: &str,
     line: Option<&str>,
-    more: bool,
+    flags: DiffFlags,
 ) -> Performed {
     let (old_at, new_at) = read_sides(line)?;
     let options = DiffOptions {
         old_at,
         new_at,
-        more,
+        users: flags.users,
+        more: flags.more,
     };
     Ok(diff_files(host, alloc, old, new, options))
 }
@@ -250,7 +256,7 @@ fn perform<R: Files + Input + Print>(
         Task::Check(job, path, flags, line) => check_job(host, alloc, job, path, *flags, *line),
         Task::CheckAll(path, flags, line) => check_all(host, alloc, path, *flags, *line),
         Task::Access(path, line, kind) => access_at(host, alloc, path, *line, *kind),
-        Task::Diff(old, new, line, more) => diff_at(host, alloc, old, new, *line, *more),
+        Task::Diff(old, new, line, flags) => diff_at(host, alloc, old, new, *line, *flags),
         Task::Trust(path, file, line, why) => trust_at(host, alloc, path, file, *line, *why),
         Task::Leak(path, file, line) => leak_at(host, alloc, path, file, *line),
         Task::Flows(path, line) => flows_at(host, alloc, path, *line),
@@ -258,7 +264,7 @@ fn perform<R: Files + Input + Print>(
         Task::Lint(files, kind, exit_code) => {
             Ok(lint_files(host, alloc, files.as_slice(), *kind, *exit_code))
         }
-        Task::Report(path, line) => report_at(host, alloc, path, *line),
+        Task::Report(path, line, page) => report_at(host, alloc, path, *line, *page),
         Task::Test(files, strict) => Ok(test_files(host, alloc, files.as_slice(), *strict)),
     }
 }

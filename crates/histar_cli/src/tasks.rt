@@ -4,6 +4,7 @@ ghost use Rattle.std.specs.List.{flat_map, list_all};
 ghost use Rattle.histar_comparison.specs.Jobs.{job_text};
 ghost use Rattle.histar_cli.specs.Checks.{is_same_without};
 
+use crate::draft::Draft;
 use crate::folder::Folder;
 use crate::names::shown_name;
 use crate::output::{Dress, Host};
@@ -14,9 +15,9 @@ use histar_command_line::{AccessKind, AttackFlags, CheckFlags, LintKind, RunFlag
 use histar_comparison::{JobVerdict, Verdict, compare, compare_all, explain_comparison};
 use histar_console::{Outcome, open, run_plain};
 use histar_dialogue::converse;
-use histar_ever::access_ever;
+use histar_ever::{access_ever, access_users_ever};
 use histar_flat::{Path, ProcName};
-use histar_io::read_input;
+use histar_io::{Sink, read_input};
 use histar_leak::leak;
 use histar_lint::lint;
 use histar_policy::{Found, lint_policy};
@@ -217,6 +218,7 @@ pub fn access_file<R: Files + Input + Print>(
         AccessKind::Processes => access(alloc, &mut reader, &mut writer, at),
         AccessKind::Users => access_users(alloc, &mut reader, &mut writer, at),
         AccessKind::Ever => access_ever(alloc, &mut reader, &mut writer, at),
+        AccessKind::UsersEver => access_users_ever(alloc, &mut reader, &mut writer, at),
     };
     host.end(alloc, done.map(|_| Outcome::Done), writer)
 }
@@ -406,21 +408,46 @@ pub fn report_file<R: Files + Input + Print>(
     at: Option<u32>,
 ) -> Result<Outcome, Fault> {
     let input = read_until(host, alloc, path, at)?;
-    let mut reader = Counted::new(input.as_slice());
     let mut writer = host.page(alloc)?;
+    let done = write_report(alloc, path, input.as_slice(), &mut writer);
+    host.end(alloc, done.map(|_| Outcome::Done), writer)
+}
+
+/// Writes the session of the script in a file as a page, or that of its calls before a line, to a file of this name.
+pub fn save_report<R: Files + Input>(
+    host: &Host<'_, R>,
+    alloc: Global,
+    path: &str,
+    at: Option<u32>,
+    page: &str,
+) -> Result<Outcome, Fault> {
+    let input = read_until(host, alloc, path, at)?;
+    let mut draft = Draft::begin(host.rt, alloc, page)?;
+    let done = write_report(alloc, path, input.as_slice(), draft.writer());
+    draft.end(host.rt, done)?;
+    Ok(Outcome::Done)
+}
+
+/// Writes the session of a script, which a file of this path has, as a page.
+fn write_report<W: Sink>(
+    alloc: Global,
+    path: &str,
+    script: &[u8],
+    writer: &mut W,
+) -> Result<(), Fault> {
     let name = match path.rsplit_once('/') {
         Some((_, name)) => name,
         None => path,
     };
     let name = shown_name(alloc, name.as_bytes())?;
-    let done = report(
+    let mut reader = Counted::new(script);
+    report(
         alloc,
         &mut reader,
-        &mut writer,
+        writer,
         name.as_slice(),
         VERSION.as_bytes(),
-    );
-    host.end(alloc, done.map(|_| Outcome::Done), writer)
+    )
 }
 
 /// Compares the replies to the scripts in files with those that they expect, and prints the results.

@@ -1,7 +1,8 @@
 -- The parts of the lines that each subcommand writes.
 use Rattle.std.specs.Prelude.{ℕ, ◌||◌, Bool, true, false, List, [], ◌∷◌, ◌++◌, codes, if◌then◌else◌}
 use Rattle.histar_output.specs.declared.forms.Form.{Form}
-use Rattle.histar_output.specs.declared.forms.Form.TheVariants.{Run, Access, Trust, Flows, Check, CheckAll, Diff, Test, Lint}
+use Rattle.histar_output.specs.declared.forms.Form.TheVariants.{Run, Access, Trust, Flows, Check, CheckAll}
+use Rattle.histar_output.specs.declared.forms.Form.TheVariants.{Diff, DiffUsers, Test, Lint}
 use Rattle.histar_output.specs.declared.parts.Kind.TheVariants as kinds
 use Rattle.histar_output.specs.Cuts.{begins, behind}
 use Rattle.histar_output.specs.Parts.{Part, upto, upto_last, rest, past, is}
@@ -122,6 +123,12 @@ diff_parts line =
     past (codes " ") ∷ word (codes "process") ∷ word (codes "user") ∷ ending (codes "change") ∷ []
     else word (codes "path") ∷ word (codes "process") ∷ word (codes "user") ∷ word (codes "old") ∷ ending (codes "new") ∷ []
 
+-- a line of `diff --users`: a user that one side lacks, or the rights of a user at a path
+abbrev pub diff_users_parts : List ℕ → List Part
+diff_users_parts line =
+    if begins (codes "user ") line then past (codes " ") ∷ word (codes "user") ∷ ending (codes "change") ∷ []
+    else word (codes "path") ∷ word (codes "user") ∷ word (codes "old") ∷ ending (codes "new") ∷ []
+
 -- what follows the first words of a check of `test`
 abbrev pub met_parts : List Part
 met_parts = upto (codes "number") kinds.Number (codes " - ") ∷ text (codes "place") (codes ": ") ∷ ending (codes "check") ∷ []
@@ -147,5 +154,6 @@ parts_of Flows line = flows_parts line
 parts_of Check line = check_parts line
 parts_of CheckAll line = check_all_parts line
 parts_of Diff line = diff_parts line
+parts_of DiffUsers line = diff_users_parts line
 parts_of Test line = test_parts line
 parts_of Lint line = lint_parts

@@ -1,7 +1,8 @@
 //! The parts of the lines that each subcommand writes.
 ghost use Rattle.std.specs.Prelude.{◌≡◌, Some, map};
 ghost use Rattle.json.specs.Tree.{members_tokens};
-ghost use Rattle.histar_output.specs.Forms.{access_parts, call_parts, check_all_parts, check_parts, denial_parts, diff_parts, flows_parts};
+ghost use Rattle.histar_output.specs.Forms.{access_parts, call_parts, check_all_parts, check_parts, denial_parts};
+ghost use Rattle.histar_output.specs.Forms.{diff_parts, diff_users_parts, flows_parts};
 ghost use Rattle.histar_output.specs.Forms.{has_call, has_kind, has_user, is_read};
 ghost use Rattle.histar_output.specs.Forms.{lint_parts, parts_of, reply_parts, run_parts, test_parts, trust_parts};
 ghost use Rattle.histar_output.specs.Parts.{members_of};
@@ -31,6 +32,8 @@ pub enum Form {
     CheckAll,
     /// `diff`.
     Diff,
+    /// `diff --users`.
+    DiffUsers,
     /// `test`.
     Test,
     /// `lint`.
@@ -50,6 +53,7 @@ pub(crate) fn write_fact(writer: &mut Writer, form: Form, line: &str) -> Result<
         Form::Check => check_parts(line),
         Form::CheckAll => return write_check_all(writer, line),
         Form::Diff => diff_parts(line),
+        Form::DiffUsers => diff_users_parts(line),
         Form::Test => test_parts(line),
         Form::Lint => lint_parts(),
     };
@@ -300,6 +304,22 @@ fn diff_parts(line: &str) -> &'static [Part]
         &[
             Upto("path", Text, " "),
             Upto("process", Text, " "),
+            Upto("user", Text, " "),
+            Upto("old", Text, " "),
+            Rest("new", Text),
+        ]
+    }
+}
+
+/// Returns the parts of a line of `diff --users`.
+fn diff_users_parts(line: &str) -> &'static [Part]
+    ensures { map part_of result.now ≡ diff_users_parts line.now }
+{
+    if begins(line, "user ") {
+        &[Past(" "), Upto("user", Text, " "), Rest("change", Text)]
+    } else {
+        &[
+            Upto("path", Text, " "),
             Upto("user", Text, " "),
             Upto("old", Text, " "),
             Rest("new", Text),

@@ -167,6 +167,16 @@ fn diff(rt: HostRuntime) -> Result<(), Fail> {
 }
 
 #[test]
+fn diff_users(rt: HostRuntime) -> Result<(), Fail> {
+    let text = "user carol new\n\
+                /home/alice/diary bob .... s---\n";
+    let wanted = "{\"user\":\"carol\",\"change\":\"new\"}\n\
+                  {\"path\":\"/home/alice/diary\",\"user\":\"bob\",\"old\":\"....\",\"new\":\"s---\"}\n";
+    assert!(rt; is_written(rt.alloc(), Form::DiffUsers, text.as_bytes(), wanted)?);
+    Ok(())
+}
+
+#[test]
 fn checks(rt: HostRuntime) -> Result<(), Fail> {
     let text = "1..2\n\
                 ok 1 - misses.histar:4: 0 spawn\n\

@@ -36,6 +36,7 @@ fn run_trial(alloc: Global, trial: &Trial<'_>) -> Result<Vec<u8>, Fault> {
         Kind::Access(at) => questions::rights(alloc, trial.body, at),
         Kind::AccessUsers(at) => questions::user_rights(alloc, trial.body, at),
         Kind::AccessEver(at) => questions::rights_ever(alloc, trial.body, at),
+        Kind::AccessUsersEver(at) => questions::user_rights_ever(alloc, trial.body, at),
         Kind::Diff(options) => questions::changes(alloc, trial.body, options),
         Kind::Trust(path, options) => questions::trusted(alloc, trial.body, &path, options),
         Kind::Leak(path, at) => questions::leaks(alloc, trial.body, &path, at),

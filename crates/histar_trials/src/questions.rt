@@ -6,7 +6,7 @@ use histar_attack::{AttackOptions, attack};
 use histar_attack_lint::lint_attack;
 use histar_comparison::{compare_all, explain_comparison};
 use histar_dialogue::{MemoryShelf, converse};
-use histar_ever::access_ever;
+use histar_ever::{access_ever, access_users_ever};
 use histar_flat::{Path, ProcName, split_at_first};
 use histar_leak::leak;
 use histar_lint::lint;
@@ -92,6 +92,18 @@ pub fn rights_ever(alloc: Global, script: &[u8], at: Option<u32>) -> Result<Vec<
     let mut reader = Counted::new(script);
     let mut writer = Counted::new(Vec::new(alloc));
     let done = access_ever(alloc, &mut reader, &mut writer, at);
+    with_fault(alloc, done, writer.into_inner())
+}
+
+/// Returns the table of the rights that users ever had in a script, before a line or up to its end.
+pub fn user_rights_ever(
+    alloc: Global,
+    script: &[u8],
+    at: Option<u32>,
+) -> Result<Vec<u8>, Fault> {
+    let mut reader = Counted::new(script);
+    let mut writer = Counted::new(Vec::new(alloc));
+    let done = access_users_ever(alloc, &mut reader, &mut writer, at);
     with_fault(alloc, done, writer.into_inner())
 }
 

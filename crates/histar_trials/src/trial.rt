@@ -33,6 +33,8 @@ pub enum Kind {
     AccessUsers(Option<u32>),
     /// The rights that processes ever had there.
     AccessEver(Option<u32>),
+    /// The rights that users ever had there.
+    AccessUsersEver(Option<u32>),
     /// The rights that differ between two scripts, or only those that the new one gives.
     Diff(DiffOptions),
     /// On whom it depends what is at a path, and why, if that is asked for.
@@ -122,15 +124,18 @@ fn read_line(word: Option<&[u8]>) -> Option<Option<u32>> {
 /// Reads how two scripts are compared, by the first word of a title and the line before which it is done, if it is
 /// before one.
 fn read_difference(word: &[u8], line: Option<&[u8]>) -> Option<Kind> {
-    let more = match word {
-        b"diff" => false,
-        b"diff_more" => true,
+    let (users, more) = match word {
+        b"diff" => (false, false),
+        b"diff_more" => (false, true),
+        b"diff_users" => (true, false),
+        b"diff_users_more" => (true, true),
         _ => return None,
     };
     let at = read_line(line)?;
     Some(Kind::Diff(DiffOptions {
         old_at: at,
         new_at: at,
+        users,
         more,
     }))
 }
@@ -212,6 +217,7 @@ fn read_question(word: &[u8], rest: Option<&[u8]>) -> Option<Kind> {
         b"access" => Some(Kind::Access(read_line(rest)?)),
         b"access_users" => Some(Kind::AccessUsers(read_line(rest)?)),
         b"access_ever" => Some(Kind::AccessEver(read_line(rest)?)),
+        b"access_users_ever" => Some(Kind::AccessUsersEver(read_line(rest)?)),
         b"flows" => Some(Kind::Flows(read_line(rest)?)),
         b"try" => Some(Kind::Try(read_line(rest)?)),
         _ => read_difference(word, rest).or(read_secret(word, rest)),
@@ -254,6 +260,7 @@ fn read_form(word: &[u8]) -> Option<Form> {
         b"check" => Some(Form::Check),
         b"check_all" => Some(Form::CheckAll),
         b"diff" => Some(Form::Diff),
+        b"diff_users" => Some(Form::DiffUsers),
         b"test" => Some(Form::Test),
         b"lint" => Some(Form::Lint),
         _ => None,
