@@ -469,6 +469,9 @@ A comment that begins with `#! ` says which rights a process is to have at a pat
 A comment that begins with `#trusted ` says which processes are to be trusted with a file there, and no others:
   #trusted /tmp/diary 0.1
 
+A comment that begins with `#never ` says which rights a process, a user, or all but some users are never to have:
+  #never /tmp/diary all-but alice rw
+
 The output has the form of the Test Anything Protocol: the number of expectations, and a line for each. With
 --strict each call that is refused and has no expectation is `not ok` too; the number is then on the last line.
 
