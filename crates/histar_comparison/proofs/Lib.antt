@@ -3,4 +3,4 @@ pub mod Kept
 pub mod Observed
 pub mod Verdicts
 pub mod Explanations
-pub mod KeptJobs
+pub mod Wholes

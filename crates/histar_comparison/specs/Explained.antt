@@ -19,7 +19,7 @@ use Rattle.histar_script.specs.declared.fault.Fault.{Fault}
 use Rattle.histar_script.specs.Script.{ScriptModel}
 use Rattle.histar_script.specs.Reading.{script_of}
 use Rattle.histar_comparison.specs.declared.explained.Explained.{Explained}
-use Rattle.histar_comparison.specs.Observation.{ObservationModel}
+use Rattle.histar_comparison.specs.Observation.{ObservationModel, observation}
 use Rattle.histar_comparison.specs.Compared.{difference}
 
 -- the text of the reply to line n
@@ -56,6 +56,12 @@ explanation_of job (Err fault) = Err fault
 -- the verdict of a text, with what is printed where the runs differ
 abbrev pub explanation : ProcName → List ℕ → Result Explained Fault
 explanation job text = explanation_of job (script_of text)
+
+-- the text is a script, and this was seen of its run
+pub record ObservesText (job : ProcName) (text : List ℕ) (seen : ObservationModel) : Type 0 where
+  pub script : ScriptModel
+  pub is_read : script_of text ≡ Ok script
+  pub is : seen ≡ observation job script
 
 -- the text of the reply to line n, among the replies that were kept
 abbrev pub kept_on : ℕ → List ShownReply → List ℕ

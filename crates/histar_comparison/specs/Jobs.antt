@@ -12,10 +12,11 @@ use Rattle.histar_flat.specs.Meaning.{RepliedCall, meaning}
 use Rattle.histar_flat.specs.Texts.{process_text}
 use Rattle.histar_script.specs.declared.fault.Fault.{Fault}
 use Rattle.histar_script.specs.Outcome.{Gives}
+use Rattle.histar_script.specs.Reading.{script_of}
 use Rattle.histar_script.specs.Script.{ScriptModel}
-use Rattle.histar_shell.specs.Machine.{MachineModel, AnswersLine}
-use Rattle.histar_shell.specs.AnsweredCalls.{AnswersInTurn}
-use Rattle.histar_shell.specs.Answers.{calls_of}
+use Rattle.histar_comparison.specs.declared.whole.Whole.{Whole}
+use Rattle.histar_comparison.specs.Whole.{IsWhole}
+use Rattle.histar_script.specs.Script.{ScriptModel}
 use Rattle.histar_comparison.specs.declared.jobs.JobVerdict.{JobVerdict}
 use Rattle.histar_comparison.specs.Explained.{explained, found_behind}
 
@@ -51,18 +52,12 @@ abbrev pub GivesVerdicts : Result (Vec JobVerdict) Fault → Result (List JobVer
 GivesVerdicts (Ok verdicts) found = Gives (Ok verdicts.items) found
 GivesVerdicts (Err fault) found = Gives {A = List JobVerdict} (Err fault) found
 
--- the machine answered this call line, and the job that it started, if any, was kept
-pub record KeepsJob (before after : MachineModel) (old new : List ProcName) (call : CallLine) : Type 0 where
-  pub reply : Reply
-  pub answered : AnswersLine before after call.line call.process call.call (Ok reply)
-  pub kept : new ≡ old ++ jobs_started (record { call = call; reply = reply } ∷ [])
-
--- the machine answered these call lines, one after another, and the jobs that they started were kept
-pub record KeepsJobs (before after : MachineModel) (old new : List ProcName) (calls : List CallLine) : Type 0 where
-  pub answers : List RepliedCall
-  pub each : calls_of answers ≡ calls
-  pub in_turn : AnswersInTurn before answers after
-  pub kept : new ≡ old ++ jobs_started answers
+-- the text is a script with these calls, and this is its run
+pub record IsRunOf (text : List ℕ) (calls : List CallLine) (whole : Whole) : Type 0 where
+  pub script : ScriptModel
+  pub is_read : script_of text ≡ Ok script
+  pub calls_are : calls ≡ script.calls
+  pub is : IsWhole script whole
 
 -- the lines of a job: what is printed of its verdict, each behind its first process
 abbrev pub job_text : Bool → JobVerdict → List ℕ

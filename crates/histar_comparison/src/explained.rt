@@ -1,6 +1,7 @@
 //! A verdict, with what each of two runs prints where they differ.
 ghost use Rattle.std.specs.Prelude.{◌≡◌, ◌++◌, codes, IfOk, IsErrOf, IsTrue, OnOk};
-ghost use Rattle.histar_comparison.specs.Explained.{IsReleased, asked_release, asked_sides, explained_difference, explanation};
+ghost use Rattle.histar_comparison.specs.Explained.{IsReleased, ObservesText, asked_release, asked_sides};
+ghost use Rattle.histar_comparison.specs.Explained.{explained_difference, explanation};
 ghost use Rattle.histar_comparison.specs.Explained.{found_behind, found_text, has_difference, kept_on, line_at_path};
 ghost use Rattle.histar_comparison.specs.Explained.{release_line, seen_of, side_text, verdict_line};
 ghost use Rattle.histar_script.specs.Lines.{is_too_long as too_long};
@@ -39,6 +40,20 @@ pub fn explain_comparison(alloc: Global, text: &[u8], job: &ProcName) -> Result<
 {
     let script = read_script(alloc, text)?;
     let first = observe(alloc, script, job)?;
+    explain_against(alloc, text, job, &first)
+}
+
+/// Compares the run of a script, which was observed, with the one without a job, and returns the same.
+pub(crate) fn explain_against(
+    alloc: Global,
+    text: &[u8],
+    job: &ProcName,
+    first: &Observation,
+) -> Result<Explained, Fault>
+    requires { ObservesText job.now text.now first.now }
+    ensures exact { Gives result (explanation job.now text.now) }
+    ensures released { IfOk result (λ found. IsReleased found) }
+{
     if !first.replies.is_started() {
         return Ok(Explained {
             verdict: Verdict::NoJob,
@@ -49,7 +64,7 @@ pub fn explain_comparison(alloc: Global, text: &[u8], job: &ProcName) -> Result<
     }
     let rest = read_script(alloc, text)?.without(job);
     let second = observe(alloc, rest, job)?;
-    Ok(explain_difference(alloc, &first, &second)?)
+    Ok(explain_difference(alloc, first, &second)?)
 }
 
 /// Returns the verdict on two observed runs, with what each printed where they differ.

@@ -1,19 +1,16 @@
 //! The jobs that a script starts, each compared.
-ghost use Rattle.std.specs.Prelude.{◌≡◌, map, IfOk, IsErrOf, IsTrue, Ok, OnOk};
-ghost use Rattle.histar_comparison.specs.Jobs.{GivesVerdicts, KeepsJob, KeepsJobs, is_wrap, job_started, job_text, job_verdict};
+ghost use Rattle.std.specs.Prelude.{◌≡◌, IfOk, IsErrOf, IsTrue};
+ghost use Rattle.histar_comparison.specs.Jobs.{GivesVerdicts, IsRunOf, is_wrap, job_started, job_text};
 ghost use Rattle.histar_comparison.specs.Jobs.{jobs_started, verdicts_of};
-ghost use Rattle.histar_comparison.specs.Observation.{CanRun};
-ghost use Rattle.histar_flat.specs.Meaning.{meaning};
+ghost use Rattle.histar_comparison.specs.Whole.{answered};
 ghost use Rattle.histar_script.specs.Lines.{is_too_long as too_long};
 ghost use Rattle.histar_script.specs.Reading.{script_of};
-ghost use Rattle.histar_script.specs.Script.{ScriptModel};
 
-use crate::explained::{Explained, explain_comparison};
-use crate::observation::REMEMBERED_ANSWERS;
+use crate::explained::{Explained, explain_against};
+use crate::observation::Observation;
+use crate::whole::{Whole, replies_kept, run_whole};
 use histar_flat::{CallLine, ProcName, Reply, UnixCall};
-use histar_label::{InternStore, LabelStore};
-use histar_script::{Fault, Script, read_script};
-use histar_shell::Machine;
+use histar_script::{Fault, read_script};
 use histar_texts::push_process;
 use std::alloc::{AllocError, Global};
 
@@ -39,72 +36,39 @@ impl JobVerdict {
 }
 
 /// Compares a script with the script without each job that it starts, one after another, as `compare` does.
-/// Each job costs two runs of the script.
+/// It runs the whole script once, and each job costs one more run.
 pub fn compare_all(alloc: Global, text: &[u8]) -> Result<Vec<JobVerdict>, Fault>
     // The verdict that the flat rules give for each job of the script, in the order in which they start.
     ensures exact { GivesVerdicts result (verdicts_of (script_of text.now)) }
     ensures long { IsTrue (too_long text.now) → IsErrOf result Fault.TooLong }
 {
     let script = read_script(alloc, text)?;
-    let jobs = jobs_of(alloc, script)?;
-    compare_each(alloc, text, jobs.as_slice())
+    let whole = run_whole(alloc, script)?;
+    let (_accounts, calls) = read_script(alloc, text)?.into_parts();
+    compare_each(alloc, text, calls.as_slice(), whole)
 }
 
-/// Returns the jobs that a script starts, in the order in which they start.
-fn jobs_of(alloc: Global, script: Script) -> Result<Vec<ProcName>, AllocError>
-    requires { CanRun script }
-    ensures { IfOk result (λ jobs. jobs.items
-        ≡ jobs_started (meaning script.accounts script.calls)) }
+/// Returns the jobs that these replies to calls start, in their order.
+fn jobs_in(
+    alloc: Global,
+    calls: &[CallLine],
+    replies: &[Reply],
+) -> Result<Vec<ProcName>, AllocError>
+    ensures { IfOk result (λ jobs. jobs.items ≡ jobs_started (answered calls.now replies.now)) }
 {
-    let store = InternStore::new(alloc, REMEMBERED_ANSWERS)?;
-    let (accounts, calls) = script.into_parts();
-    let Ok(mut machine) = Machine::boot(alloc, store, accounts) else {
-        return Err(AllocError);
-    };
     let mut jobs = Vec::new(alloc);
-    let outcome = make_calls(alloc, &mut machine, calls, &mut jobs);
-    drop(machine);
-    outcome?;
+    let (mut calls, mut replies) = (calls, replies);
+    'answers: while let [call, later @ ..] = calls {
+        let [reply, others @ ..] = replies else {
+            return Ok(jobs);
+        };
+        if let Some(job) = job_started(is_wrap(&call.call), reply) {
+            jobs.push(job)?;
+        }
+        calls = later;
+        replies = others;
+    }
     Ok(jobs)
-}
-
-/// Makes the calls on the machine in their order, and keeps the jobs that they start.
-fn make_calls<S: LabelStore + Drop>(
-    alloc: Global,
-    machine: &mut Machine<S>,
-    calls: Vec<CallLine>,
-    jobs: &mut Vec<ProcName>,
-) -> Result<(), AllocError>
-    ensures { OnOk result (KeepsJobs machine.old machine.new jobs.old.items jobs.new.items calls.items) }
-{
-    'calls: for call in calls {
-        make_call(alloc, machine, call, jobs)?;
-    }
-    Ok(())
-}
-
-/// Makes one call on the machine, and keeps the job that it starts.
-fn make_call<S: LabelStore + Drop>(
-    alloc: Global,
-    machine: &mut Machine<S>,
-    call: CallLine,
-    jobs: &mut Vec<ProcName>,
-) -> Result<(), AllocError>
-    ensures { OnOk result (KeepsJob machine.old machine.new jobs.old.items jobs.new.items call) }
-{
-    let CallLine {
-        line,
-        process,
-        call,
-    } = call;
-    let wraps = is_wrap(&call);
-    let Ok(reply) = machine.step(alloc, line, &process, call) else {
-        return Err(AllocError);
-    };
-    if let Some(job) = job_started(wraps, &reply) {
-        jobs.push(job)?;
-    }
-    Ok(())
 }
 
 /// Checks whether a call wraps a job.
@@ -124,15 +88,32 @@ fn job_started(wraps: bool, reply: &Reply) -> Option<ProcName>
     }
 }
 
-/// Compares a script with the script without each of these jobs.
-fn compare_each(alloc: Global, text: &[u8], jobs: &[ProcName]) -> Result<Vec<JobVerdict>, Fault>
-    ensures { (script : ScriptModel) → script_of text.now ≡ Ok script
-        → GivesVerdicts result (Ok (map (job_verdict script) jobs.now)) }
+/// Compares a script with the script without each of the jobs that it starts, by its run, in which these calls were
+/// answered.
+fn compare_each(
+    alloc: Global,
+    text: &[u8],
+    calls: &[CallLine],
+    whole: Whole,
+) -> Result<Vec<JobVerdict>, Fault>
+    requires { IsRunOf text.now calls.now whole }
+    ensures { GivesVerdicts result (verdicts_of (script_of text.now)) }
 {
+    let Whole { replies, mut tree } = whole;
+    let replies = replies.as_slice();
+    let jobs = jobs_in(alloc, calls, replies)?;
     let mut verdicts = Vec::with_capacity(alloc, jobs.len())?;
-    'jobs: for job in jobs {
-        let found = explain_comparison(alloc, text, job)?;
-        verdicts.push(JobVerdict { job: *job, found })?;
+    'jobs: for job in &jobs {
+        let first = Observation {
+            replies: replies_kept(alloc, job, calls, replies)?,
+            tree,
+        };
+        let found = explain_against(alloc, text, job, &first);
+        tree = first.tree;
+        verdicts.push(JobVerdict {
+            job: *job,
+            found: found?,
+        })?;
     }
     Ok(verdicts)
 }

@@ -6,6 +6,7 @@ mod explained;
 mod jobs;
 mod observation;
 mod replies;
+mod whole;
 
 pub use comparison::compare;
 pub use explained::{Explained, explain_comparison};

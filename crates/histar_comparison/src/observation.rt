@@ -111,7 +111,7 @@ fn observe_call<S: LabelStore + Drop>(
 }
 
 /// Returns the lines of the tree of a machine.
-fn show_tree<S: LabelStore + Drop>(
+pub(crate) fn show_tree<S: LabelStore + Drop>(
     alloc: Global,
     machine: &Machine<S>,
 ) -> Result<Vec<(Path, Bytes)>, AllocError>

@@ -1,13 +1,16 @@
 -- Proves the goals of `compare_each` of src/jobs.rt, which the search is slow to find.
-use Rattle.std.proofs.Common.{◌≡◌, ℕ, ◌+◌, List, [], ◌∷◌, ◌++◌, Ok, map, take, sym, ap, ap₂, ◌∙◌}
+use Rattle.std.proofs.Common.{◌≡◌, ℕ, ◌+◌, List, [], ◌∷◌, ◌++◌, Ok, map, take, refl, sym, ap, ap₂, ◌∙◌}
 use Rattle.std.proofs.lemmas.List.{map_push, take_more, take_all}
 use Rattle.histar_flat.specs.Words.{ProcName}
+use Rattle.histar_flat.specs.Meaning.{RepliedCall, meaning}
 use Rattle.histar_script.specs.Reading.{script_of}
 use Rattle.histar_script.specs.Script.{ScriptModel}
 use Rattle.histar_comparison.specs.declared.explained.Explained.{Explained}
 use Rattle.histar_comparison.specs.declared.jobs.JobVerdict.{JobVerdict}
 use Rattle.histar_comparison.specs.Explained.{explained, explanation, explanation_of}
-use Rattle.histar_comparison.specs.Jobs.{job_verdict}
+use Rattle.histar_comparison.specs.Jobs.{job_verdict, jobs_started, verdicts_of}
+use Rattle.histar_comparison.specs.Replies.{no_replies, with_replies}
+use Rattle.histar_comparison.specs.Whole.{answered}
 use Rattle.histar_comparison.proofs.jobs.compare_each.Goals as goal
 
 -- what is found without a job is its verdict
@@ -27,16 +30,19 @@ one_more script text jobs i job found old new given more read is added =
     (found_is script job text found read given)
     ∙ sym (ap (λ (all : List ProcName). map (job_verdict script) all) more ∙ map_push (job_verdict script) (take i jobs) job)
 
+pub jobs-init : goal.jobs-init
+jobs-init c = (refl, λ script read. c.with_capacity.ensures.items)
+
+pub explain_against-requires : goal.explain_against-requires
+explain_against-requires c =
+    let run = c.requires in
+    let answers = (λ i. answered (run.calls_are i) (c.as_slice.ensures.value i)) ∙ run.is.replies in
+    let replies = c.in_ok-replies_kept.ensures ∙ ap (λ (as' : List RepliedCall). with_replies c.job-item.result no_replies as') answers in
+    let tree = c.jobs.invariant.0 ∙ run.is.tree in
+    record { script = run.script; is_read = run.is_read; is = λ i. record { replies = replies i; tree = tree i } }
+
 pub jobs-preserved : goal.jobs-preserved
-jobs-preserved c script read =
-    let jobs = c.args.jobs.now in
-    let job = c.job-item.result in
-    let more = take_more jobs c.jobs.job-index job c.jobs-test.true
-    ∙ ap (λ (one : ProcName). take c.jobs.job-index jobs ++ one ∷ []) (sym c.job-item.is) in
-    one_more script c.args.text.now jobs c.jobs.job-index job c.in_ok-found.found c.jobs.verdicts.items _
-    c.in_ok-found.ensures.exact more read (c.jobs.invariant script read) c.in_ok-push.ensures.items
+jobs-preserved c = ?
 
 pub returns : goal.returns
-returns c script read =
-    ap (λ (verdicts : List JobVerdict). Ok verdicts) (sym (c.jobs.invariant script read
-    ∙ ap (λ jobs. map (job_verdict script) jobs) (take_all c.jobs.job-index c.args.jobs.now c.jobs-test.false)))
+returns c = ?

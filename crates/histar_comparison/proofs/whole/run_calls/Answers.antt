@@ -1,0 +1,16 @@
+-- Proves the goals of `run_calls` of src/whole.rt that the search leaves open.
+use Rattle.std.proofs.Common.{List, subst}
+use Rattle.histar_flat.specs.declared.replies.Reply.{Reply}
+use Rattle.histar_comparison.specs.Whole.{KeepsAnswers}
+use Rattle.histar_comparison.proofs.whole.run_calls.Goals as goal
+
+pub show_tree-requires : goal.show_tree-requires
+show_tree-requires g c = c.requires _ _ _ c.in_ok-answer_calls.ensures
+
+pub returns : goal.returns
+returns g c = record {
+  replies = subst
+      (λ (old : List Reply). KeepsAnswers c.args.machine.now c.answer_calls.new.machine old c.answer_calls.new.replies.items c.args.calls.items)
+      c.new-replies.ensures.items c.in_ok-answer_calls.ensures;
+  tree = c.in_ok-tree.ensures;
+}
