@@ -17,10 +17,10 @@ use Rattle.histar_flat.specs.Texts.{path_text}
 use Rattle.histar_rights.proofs.Named.{processes_are_named}
 use Rattle.histar_rights.specs.Users.{somebody, user_text, users_line}
 use Rattle.histar_cells.specs.ByUser.{user_rights_at}
-use Rattle.histar_diff.specs.declared.users_table.UsersTable.{UsersTable}
-use Rattle.histar_diff.specs.ShownUsers.{ShowsUsers, users_rights_line}
+use Rattle.histar_diff.specs.declared.users.UsersTable.{UsersTable}
+use Rattle.histar_diff.specs.UserChanges.{ShowsUsers, is_user, users_rights}
 use Rattle.histar_shell.specs.Machine.{MachineModel}
-use Rattle.histar_access.specs.ShownUsers.{ShowsUsersTable}
+use Rattle.histar_access.specs.Users.{ShowsUsersTable}
 use Rattle.histar_ever.specs.declared.by_users.EverUsers.{EverUsers}
 use Rattle.histar_ever.specs.Ever.{either, paths_in}
 use Rattle.histar_ever.specs.EverUsers.{ever_users_line, ever_users_text}
@@ -59,7 +59,7 @@ module _ (accounts : Accounts) (fs : List Flat) (f : Flat) (t : UsersTable) (sho
   state_added old new before added = record {
     users = ap (λ (us : Vec Name). us.items) added.users ∙ before.users;
     paths = λ q.
-        let lines = line_paths (users_line accounts f) users_rights_line (λ e. refl) f q t.lines.items shows.lines in
+        let lines = line_paths (users_line accounts f) users_rights (λ e. refl) f q t.lines.items shows.lines in
         added.paths q ∙ (λ i. before.paths q i || lines i) ∙ sym (in_ever_more path_cmp paths_in q fs f);
     letters = λ q user has.
         let here = users_table_letters accounts f q user t shows has in
@@ -80,12 +80,10 @@ or_right true b is = refl
 or_right false b is = is
 
 -- two functions that are the same on the users of a list
-same_on : {B : Type 0} (h k : Name → List B) (us : List Name)
-    → ((u : Name) → list_any (eq_by_cmp by_name u) us ≡ true → h u ≡ k u) → flat_map h us ≡ flat_map k us
-same_on h k [] same = refl
-same_on h k (u ∷ us) same =
-    λ i. same u (ap (λ o. is_eq o || list_any (eq_by_cmp by_name u) us) (tied_itself nat_list_cmp_total u)) i
-    ++ same_on h k us (λ v has. same v (or_right (eq_by_cmp by_name v u) (list_any (eq_by_cmp by_name v) us) has)) i
+same_on : {B : Type 0} (h k : Name → List B) (us : List Name) → ((u : Name) → has us u ≡ true → h u ≡ k u) → flat_map h us ≡ flat_map k us
+same_on h k [] all = refl
+same_on h k (u ∷ us) all =
+    λ i. all u (ap (λ b. b || has us u) (same_itself u)) i ++ same_on h k us (λ v there. all v (or_right (same v u) (has us v) there)) i
 
 module _ (accounts : Accounts) (fs : List Flat) (e : EverUsers) (is : GathersUsers accounts fs e) where
   lines_same : (q : Path) → gathered_users_line e.letters e.users.items q ≡ ever_users_line accounts fs q

@@ -20,8 +20,8 @@ use Rattle.histar_rights.specs.declared.users.UserRights.{UserRights}
 use Rattle.histar_rights.specs.Users.{rights_of_user, somebody, user_at, users_line}
 use Rattle.histar_cells.specs.ByUser.{user_rights_at, user_rights_if as rights_if_there}
 use Rattle.histar_diff.specs.declared.table.TableLine.{TableLine}
-use Rattle.histar_diff.specs.declared.users_table.UsersTable.{UsersTable}
-use Rattle.histar_diff.specs.ShownUsers.{ShowsUsers, users_rights_line}
+use Rattle.histar_diff.specs.declared.users.UsersTable.{UsersTable}
+use Rattle.histar_diff.specs.UserChanges.{ShowsUsers, is_user, users_rights}
 use Rattle.histar_diff.specs.Tables.{no_rights}
 use Rattle.histar_ever.specs.Ever.{any_rights, either}
 use Rattle.histar_ever.specs.GatheringUsers.{Place, place_cmp, user_line_letters, user_row_letters}
@@ -83,25 +83,29 @@ module _ (accounts : Accounts) (f : Flat) (q : Path) (user : Name) where
   abbrev on_line : List Name → Path × List Rights → Rights
   on_line us e = user_row_letters e.0 us e.1 q user
 
-  found_node : list_any (eq_by_cmp by_name user) (somebody accounts) ≡ true → (o : Option Node)
+  -- a user of the script is found among them by the order of names
+  found_user : (us : List Name) → list_any (eq_by_cmp by_name user) us ≡ has us user
+  found_user us = ap (λ (t : Name → Bool). list_any t us) (λ i u. sym (texts_ties user u) i)
+
+  found_node : is_user accounts user ≡ true → (o : Option Node)
       → of_found path_cmp path_cmp_total path_cmp_exact (of_users (somebody accounts)) q o ≡ rights_if_there accounts f q user o
-  found_node has None = refl
-  found_node has (Some node) =
+  found_node known None = refl
+  found_node known (Some node) =
       any_here by_name nat_list_cmp_total by_name_exact (λ u. rights_of_user accounts f u q node) user (somebody accounts)
-      ∙ ap (λ b. cond b (rights_of_user accounts f user q node) no_rights) has
+      ∙ ap (λ b. cond b (rights_of_user accounts f user q node) no_rights) (found_user (somebody accounts) ∙ known)
 
   -- the letters of a user in a table of the state are the user's rights in the state
-  pub users_table_letters : (t : UsersTable) → ShowsUsers accounts f t → list_any (eq_by_cmp by_name user) (somebody accounts) ≡ true
+  pub users_table_letters : (t : UsersTable) → ShowsUsers accounts f t → is_user accounts user ≡ true
       → any_rights (user_line_letters t.users.items q user) t.lines.items ≡ user_rights_at accounts f q user
-  users_table_letters t shows has =
+  users_table_letters t shows known =
       let us = somebody accounts in
       let es = f.files.entries in
       ap (λ names. any_rights (user_line_letters names q user) t.lines.items) shows.users
       ∙ sym (any_of (on_line us) (λ (l : TableLine). (l.path, l.rights.items)) t.lines.items)
       ∙ ap (any_rights (on_line us)) shows.lines
-      ∙ any_of (on_line us) users_rights_line (map (users_line accounts f) es)
-      ∙ any_of (λ l. on_line us (users_rights_line l)) (users_line accounts f) es
-      ∙ any_same (λ e. on_line us (users_rights_line (users_line accounts f e)))
+      ∙ any_of (on_line us) users_rights (map (users_line accounts f) es)
+      ∙ any_of (λ l. on_line us (users_rights l)) (users_line accounts f) es
+      ∙ any_same (λ e. on_line us (users_rights (users_line accounts f e)))
       (if_at path_cmp path_cmp_total path_cmp_exact (of_users us) q) (λ e. a_row e us) es
       ∙ any_found path_cmp path_cmp_total path_cmp_exact (of_users us) q es f.files.sorted
-      ∙ found_node has (get f.files q)
+      ∙ found_node known (get f.files q)

@@ -15,8 +15,9 @@ use Rattle.histar_rights.specs.declared.rights.Rights.{Rights}
 use Rattle.histar_rights.specs.declared.users.UserRights.{UserRights}
 use Rattle.histar_rights.specs.Users.{somebody, user_text}
 use Rattle.histar_diff.specs.declared.table.TableLine.{TableLine}
-use Rattle.histar_diff.specs.declared.users_table.UsersTable.{UsersTable}
+use Rattle.histar_diff.specs.declared.users.UsersTable.{UsersTable}
 use Rattle.histar_diff.specs.Tables.{no_rights}
+use Rattle.histar_diff.specs.UserChanges.{is_user}
 use Rattle.histar_ever.specs.declared.by_users.EverUsers.{EverUsers}
 use Rattle.histar_ever.specs.Ever.{any_rights, either, paths_in}
 use Rattle.histar_ever.specs.EverUsers.{ever_user_rights}
@@ -77,7 +78,7 @@ pub record AddsUsersTable (t : UsersTable) (old new : EverUsers) : Type 0 where
 pub record GathersUsers (accounts : Accounts) (fs : List Flat) (e : EverUsers) : Type 0 where
   pub users : e.users.items ≡ somebody accounts
   pub paths : (q : Path) → contains path_cmp e.paths q ≡ list_any (eq_by_cmp path_cmp q) (flat_map paths_in fs)
-  pub letters : (q : Path) (user : Name) → list_any (eq_by_cmp (slice_cmp nat_cmp) user) (somebody accounts) ≡ true
+  pub letters : (q : Path) (user : Name) → is_user accounts user ≡ true
       → user_letters_at e.letters q user ≡ ever_user_rights accounts fs q user
 
 -- the cell of a user at a path, by what was gathered

@@ -217,10 +217,7 @@ fn users_before(alloc: Global, text: &[u8], at: Option<u32>) -> Result<EverUsers
 }
 
 /// Reads the script in a text, and boots a machine for it. It returns the machine and the calls.
-fn started(
-    alloc: Global,
-    text: &[u8],
-) -> Result<(Machine<InternStore>, Vec<CallLine>), Fault>
+fn started(alloc: Global, text: &[u8]) -> Result<(Machine<InternStore>, Vec<CallLine>), Fault>
     ensures { StartsText text.now result }
 {
     let store = InternStore::new(alloc, REMEMBERED_ANSWERS)?;
