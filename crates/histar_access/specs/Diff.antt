@@ -1,5 +1,5 @@
 -- The result of `diff` and what it writes, by the inputs from which the two scripts are read.
-use Rattle.std.specs.Prelude.{◌≡◌, ◌↔◌, ℕ, ◌⊎◌, Bool, true, not, ◌&&◌, List, [], Option, Result, Ok, Err, IsOk, MatchResult}
+use Rattle.std.specs.Prelude.{◌≡◌, ◌↔◌, ℕ, ◌⊎◌, Bool, true, not, ◌&&◌, List, [], Option, Result, Ok, Err, IsOk, MatchBool, MatchResult}
 use Rattle.std.specs.Prelude.{if◌then◌else◌}
 use Rattle.std.specs.Global.{Vec}
 use Rattle.std.specs.Io.KnownBytes.{Appends, Keeps}
@@ -15,9 +15,14 @@ use Rattle.histar_diff.specs.declared.lone.Lone.{Lone}
 use Rattle.histar_diff.specs.declared.differences.Difference.{Difference}
 use Rattle.histar_diff.specs.declared.table.Table.{Table}
 use Rattle.histar_diff.specs.Changes.{AreChanges}
-use Rattle.histar_diff.specs.Gains.{gains, new_ones}
+use Rattle.histar_diff.specs.declared.user_differences.UserDifference.{UserDifference}
+use Rattle.histar_diff.specs.declared.users.LoneUser.{LoneUser}
+use Rattle.histar_diff.specs.declared.users.UsersTable.{UsersTable}
+use Rattle.histar_diff.specs.Gains.{gains, new_ones, new_users, user_gains}
 use Rattle.histar_diff.specs.Shown.{ShowsRights}
 use Rattle.histar_diff.specs.Texts.{differences_text}
+use Rattle.histar_diff.specs.UserChanges.{ShowsUsers, lone_users, user_changes}
+use Rattle.histar_diff.specs.UserTexts.{user_differences_text}
 use Rattle.histar_prefix.specs.Prefix.{state_before}
 use Rattle.histar_access.specs.declared.changes.DiffOptions.{DiffOptions}
 
@@ -53,12 +58,40 @@ abbrev pub shown : Bool → List Difference → List Difference
 shown more cs = if more then gains cs else cs
 
 -- the text has the lines of exactly the lone processes and the changes to be shown, and it is empty exactly if there is none
-pub record IsTextOfChanges (options : DiffOptions) (scripts : Scripts) (text : List ℕ) : Type 0 where
+pub record IsTextOfProcesses (options : DiffOptions) (scripts : Scripts) (text : List ℕ) : Type 0 where
   pub lone : List Lone
   pub changes : List Difference
   pub are_changes : AreChangesOf options scripts lone changes
   pub is : text ≡ differences_text (lone_shown options.more lone) (shown options.more changes)
   pub none : (text ≡ []) ↔ ((lone_shown options.more lone ≡ []) × (shown options.more changes ≡ []))
+
+-- the users that one of two scripts alone declares
+abbrev pub lone_users_of : Scripts → List LoneUser
+lone_users_of scripts = lone_users scripts.0.accounts scripts.1.accounts
+
+-- the changes for the users of both, between the flat states of the scripts, each after its calls before the line that is given for it
+abbrev pub user_changes_of : DiffOptions → Scripts → List UserDifference
+user_changes_of options scripts =
+    user_changes scripts.0.accounts (state_before options.old_at scripts.0) scripts.1.accounts (state_before options.new_at scripts.1)
+
+-- the lone users that are written: all, or only the new ones
+abbrev pub lone_users_shown : Bool → List LoneUser → List LoneUser
+lone_users_shown more lone = if more then new_users lone else lone
+
+-- the changes for users that are written: all, or only those that give a letter that wasn't there
+abbrev pub user_changes_shown : Bool → List UserDifference → List UserDifference
+user_changes_shown more cs = if more then user_gains cs else cs
+
+-- the text has the lines of exactly the lone users and the changes for users to be shown, and it is empty exactly if there is none
+pub record IsTextOfUsers (options : DiffOptions) (scripts : Scripts) (text : List ℕ) : Type 0 where
+  pub is : text ≡ user_differences_text (lone_users_shown options.more (lone_users_of scripts))
+      (user_changes_shown options.more (user_changes_of options scripts))
+  pub none : (text ≡ []) ↔ ((lone_users_shown options.more (lone_users_of scripts) ≡ [])
+      × (user_changes_shown options.more (user_changes_of options scripts) ≡ []))
+
+-- the text is that of what changed for users, or else for processes
+abbrev pub IsTextOfChanges : DiffOptions → Scripts → List ℕ → Type 0
+IsTextOfChanges options scripts text = MatchBool options.users (IsTextOfUsers options scripts text) (IsTextOfProcesses options scripts text)
 
 -- ---- what is written
 
@@ -151,13 +184,34 @@ abbrev pub ReadsTable : Option ℕ → List ℕ → Result Table Fault → Type 
 ReadsTable at text (Ok t) = IsTableOf at text t
 ReadsTable at text (Err fault) = Gives {A = ScriptModel} (Err fault) (script_of text)
 
--- both texts are scripts, and the bytes are the text of what changed between them
-pub record IsTextBetween (options : DiffOptions) (a b bytes : List ℕ) : Type 0 where
+-- the text is a script, and the table shows the rights of users in its flat state before this line
+pub record IsUsersTableOf (at : Option ℕ) (text : List ℕ) (t : UsersTable) : Type 0 where
+  pub script : ScriptModel
+  pub is_read : script_of text ≡ Ok script
+  pub shows : ShowsUsers script.accounts (state_before at script) t
+
+-- the text was read as a script, and this is its table by users, or its fault is the result
+abbrev pub ReadsUsersTable : Option ℕ → List ℕ → Result UsersTable Fault → Type 0
+ReadsUsersTable at text (Ok t) = IsUsersTableOf at text t
+ReadsUsersTable at text (Err fault) = Gives {A = ScriptModel} (Err fault) (script_of text)
+
+-- both texts are scripts, and the bytes are what `shows` says of them
+pub record IsTextBetween (shows : Scripts → List ℕ → Type 0) (a b bytes : List ℕ) : Type 0 where
   pub scripts : Scripts
   pub are_read : scripts_of a b ≡ Ok scripts
-  pub is_text : IsTextOfChanges options scripts bytes
+  pub is_text : shows scripts bytes
 
--- the texts were read as scripts, and this is the text of what changed between them, or the first fault of the two is the result
+-- the texts were read as scripts, and this is what `shows` says of them, or the first fault of the two is the result
+abbrev pub ReadsScripts : (Scripts → List ℕ → Type 0) → List ℕ → List ℕ → Result (Vec ℕ) Fault → Type 0
+ReadsScripts shows a b (Ok text) = IsTextBetween shows a b text.items
+ReadsScripts shows a b (Err fault) = Gives {A = Scripts} (Err fault) (scripts_of a b)
+
+-- the same, for the text of what changed between the scripts, for their processes, and for their users
 abbrev pub ReadsChanges : DiffOptions → List ℕ → List ℕ → Result (Vec ℕ) Fault → Type 0
-ReadsChanges options a b (Ok text) = IsTextBetween options a b text.items
-ReadsChanges options a b (Err fault) = Gives {A = Scripts} (Err fault) (scripts_of a b)
+ReadsChanges options = ReadsScripts (IsTextOfChanges options)
+
+abbrev pub ReadsProcessChanges : DiffOptions → List ℕ → List ℕ → Result (Vec ℕ) Fault → Type 0
+ReadsProcessChanges options = ReadsScripts (IsTextOfProcesses options)
+
+abbrev pub ReadsUserChanges : DiffOptions → List ℕ → List ℕ → Result (Vec ℕ) Fault → Type 0
+ReadsUserChanges options = ReadsScripts (IsTextOfUsers options)

@@ -4,8 +4,12 @@ use Rattle.histar_flat.specs.declared.calls.User.{User}
 use Rattle.histar_flat.specs.Accounts.{Accounts}
 use Rattle.histar_flat.specs.Classes.{nobody}
 use Rattle.histar_flat.specs.FlatState.{Flat}
+use Rattle.histar_flat.specs.Words.{Name}
 use Rattle.histar_layout.specs.declared.class.Class.{Class}
+use Rattle.histar_diff.specs.declared.users.UsersTable.{UsersTable}
+use Rattle.histar_diff.specs.UserChanges.{ShowsUsers}
 use Rattle.histar_rights.specs.Running.{HaveShownNames}
+use Rattle.histar_rights.specs.declared.rights.Rights.{Rights}
 use Rattle.histar_rights.specs.declared.users.UserRights.{UserRights}
 use Rattle.histar_rights.specs.Users.{UsersLine, users_table, users_text}
 use Rattle.histar_readout.specs.declared.tree.TreeNode.{TreeNode}
@@ -35,6 +39,18 @@ users_from users start way (node ∷ tree) =
     let above = take (length node.path) way in
     let row = users_below users node.class (last_or start above) in
     users_line_at node row ∷ users_from users start (above ++ row ∷ []) tree
+
+-- the user of a cell
+abbrev pub name_of : UserRights → Name
+name_of u = u.user
+
+-- the rights of a cell
+abbrev pub user_rights : UserRights → Rights
+user_rights u = u.rights
+
+-- For every flat state that the machine represents, the table shows the rights of its users.
+abbrev pub ShowsUsersTable : MachineModel → UsersTable → Type 0
+ShowsUsersTable m t = (accounts : Accounts) (f : Flat) → Shows accounts m f → HaveShownNames f → ShowsUsers accounts f t
 
 -- for every flat state that the machine represents, this is the text of its table by users
 abbrev pub IsUsersText : MachineModel → List ℕ → Type 0

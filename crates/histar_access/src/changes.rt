@@ -3,11 +3,15 @@ ghost use Rattle.std.specs.Prelude.{◌≡◌, false, IfErr, IfSome};
 ghost use Rattle.histar_io.specs.Device.{CountsFailure};
 ghost use Rattle.histar_script.specs.Runs.{LeavesSink, is_read_failed, is_write_failed};
 ghost use Rattle.histar_access.specs.Diff.{ComparesInputs, ComparesTexts, CountsOneFailure};
-ghost use Rattle.histar_access.specs.Diff.{ReadsChanges, ReadsTable};
-ghost use Rattle.histar_access.specs.Diff.{lone_shown, shown as shown_changes};
+ghost use Rattle.histar_access.specs.Diff.{ReadsChanges, ReadsProcessChanges, ReadsTable, ReadsUserChanges, ReadsUsersTable};
+ghost use Rattle.histar_access.specs.Diff.{lone_shown, lone_users_shown, shown as shown_changes, user_changes_shown};
 
 use crate::rights_table::table_of;
-use histar_diff::{Differences, Table, differences_between, keep_gains, text_of};
+use crate::users_rights::users_table_of;
+use histar_diff::{
+    Differences, Table, UserDifferences, UsersTable, differences_between, keep_gains,
+    keep_user_gains, text_of, user_differences_between, users_text_of,
+};
 use histar_io::{Sink, Source, read_input, write_bytes};
 use histar_prefix::{discard, machine_before};
 use histar_script::Fault;
@@ -20,15 +24,20 @@ pub struct DiffOptions {
     pub old_at: Option<u32>,
     /// The same of the new script.
     pub new_at: Option<u32>,
-    /// Whether it writes only the lines of new processes, and those where the new script gives a letter that
-    /// the old one doesn't.
+    /// Whether it writes only the lines of new processes or users, and those where the new script gives a letter
+    /// that the old one doesn't.
     pub more: bool,
+    /// Whether it compares the rights of users, and not those of processes.
+    pub users: bool,
 }
 
 /// Reads two scripts, runs each on a machine of its own, and writes what changed from the old one to the new
 /// one: a line for each process that runs after one of them only, and a line for each path and process that
 /// runs after both whose letters differ, or only those that the options ask for. It returns whether no line was
 /// to be written.
+///
+/// With `users` it compares the columns of `access_users`: a line for each user that one script alone declares, and
+/// a line for each path and user of both whose letters differ.
 ///
 /// Both scripts are read whole before the first call of either, and all lines are computed before the first one
 /// is written. It doesn't flush the sink.
@@ -92,6 +101,22 @@ fn changes_text(
 ) -> Result<Vec<u8>, Fault>
     ensures { ReadsChanges options old.now new.now result }
 {
+    if options.users {
+        user_changes_text(alloc, old, new, options)
+    } else {
+        process_changes_text(alloc, old, new, options)
+    }
+}
+
+/// Returns the lines of what changed for processes between the scripts in two texts.
+fn process_changes_text(
+    alloc: Global,
+    old: &[u8],
+    new: &[u8],
+    options: DiffOptions,
+) -> Result<Vec<u8>, Fault>
+    ensures { ReadsProcessChanges options old.now new.now result }
+{
     let before = table_before(alloc, old, options.old_at)?;
     let after = table_before(alloc, new, options.new_at)?;
     let differences = differences_between(alloc, &before, &after)?;
@@ -116,6 +141,43 @@ fn table_before(alloc: Global, text: &[u8], at: Option<u32>) -> Result<Table, Fa
 {
     let machine = machine_before(alloc, text, at)?;
     let table = table_of(alloc, &machine);
+    discard(machine);
+    Ok(table?)
+}
+
+/// Returns the lines of what changed for users between the scripts in two texts.
+fn user_changes_text(
+    alloc: Global,
+    old: &[u8],
+    new: &[u8],
+    options: DiffOptions,
+) -> Result<Vec<u8>, Fault>
+    ensures { ReadsUserChanges options old.now new.now result }
+{
+    let before = users_before(alloc, old, options.old_at)?;
+    let after = users_before(alloc, new, options.new_at)?;
+    let differences = user_differences_between(alloc, &before, &after)?;
+    let differences = shown_users(differences, options.more);
+    Ok(users_text_of(alloc, &differences)?)
+}
+
+/// Returns these differences, or only those that give more.
+fn shown_users(mut differences: UserDifferences, more: bool) -> UserDifferences
+    ensures lone { result.lone.items ≡ lone_users_shown more differences.lone.items }
+    ensures pairs { result.pairs.items ≡ user_changes_shown more differences.pairs.items }
+{
+    if more {
+        keep_user_gains(&mut differences);
+    }
+    differences
+}
+
+/// Returns the table by users of the script in a text, before a line if one is given.
+fn users_before(alloc: Global, text: &[u8], at: Option<u32>) -> Result<UsersTable, Fault>
+    ensures { ReadsUsersTable at text.now result }
+{
+    let machine = machine_before(alloc, text, at)?;
+    let table = users_table_of(alloc, &machine);
     discard(machine);
     Ok(table?)
 }

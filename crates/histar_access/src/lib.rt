@@ -8,7 +8,9 @@ mod rights_table;
 mod session;
 mod table;
 mod users;
+mod users_rights;
 
 pub use changes::{DiffOptions, diff};
 pub use rights_table::table_of;
 pub use session::{access, access_users};
+pub use users_rights::users_table_of;

@@ -32,7 +32,7 @@ pub(crate) fn users_table<S: LabelStore + Drop>(
 }
 
 /// Returns nobody and each user, with the rights that each process has above `/`.
-fn starting(alloc: Global, users: &UserTable) -> Result<Vec<UserRights>, AllocError>
+pub(crate) fn starting(alloc: Global, users: &UserTable) -> Result<Vec<UserRights>, AllocError>
     ensures { IfOk result (λ start. start.items ≡ starting users.now) }
 {
     let mut start = Vec::new(alloc);
@@ -65,7 +65,7 @@ fn tree_text(
 }
 
 /// Returns the rights of users at an entry of a directory, given those at the directory.
-fn users_below(
+pub(crate) fn users_below(
     alloc: Global,
     users: &UserTable,
     class: &Class,

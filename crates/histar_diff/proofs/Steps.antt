@@ -15,6 +15,7 @@ use Rattle.std.specs.FinMap.{IsAntisymmetric, nat_cmp-IsAntisymmetric, slice_cmp
 use Rattle.histar_flat.specs.Words.{Path, ProcName}
 use Rattle.histar_base.specs.Paths.{from_root, path_cmp}
 use Rattle.histar_base.proofs.PathLaws.{from_root_twice, path_cmp_total}
+use Rattle.histar_rights.specs.declared.rights.Rights.{Rights}
 use Rattle.histar_rights.specs.Running.{process_cmp}
 use Rattle.histar_diff.specs.declared.table.Runner.{Runner}
 use Rattle.histar_diff.specs.declared.table.TableLine.{TableLine}
@@ -23,7 +24,7 @@ use Rattle.histar_diff.specs.Joining.{Joined, OnlyOld, OnlyNew, InBoth, at_key, 
 use Rattle.histar_diff.specs.declared.columns.Placed.{Placed}
 use Rattle.histar_diff.specs.Tables.{by_path, by_process}
 use Rattle.histar_diff.specs.Columns.{column, columns_from, leading, past_process, place_at}
-use Rattle.histar_diff.specs.Lines.{joined_differences, line_differences, lines_differences}
+use Rattle.histar_diff.specs.Lines.{joined_differences, lines_differences}
 
 -- an order of the images under a function is an order
 pub by_image : {A B : Type 0} (h : A → B) (R : B → B → Ordering) → IsTotalOrder R → IsTotalOrder (λ x y. R (h x) (h y))
@@ -139,16 +140,17 @@ module _ {K A B : Type 0} (R : K → K → Ordering) (total : IsTotalOrder R) wh
 
 -- ---- lines
 
--- the differences of two lists of lines are those at their first path, and then those of the lines after it
-pub lines_step : (columns : List Column) (q : Path) (old new old_rest new_rest : List TableLine) → lower path_cmp (by_path old) (by_path new) ≡ Some q
+-- what is listed at the paths of two lists of lines is that at their first path, and then that of the lines after it
+pub lines_step : {X : Type 0} (F : Path → Option (List Rights) → Option (List Rights) → List X) (q : Path)
+    (old new old_rest new_rest : List TableLine) → lower path_cmp (by_path old) (by_path new) ≡ Some q
     → by_path old_rest ≡ past_key path_cmp q (by_path old) → by_path new_rest ≡ past_key path_cmp q (by_path new)
-    → lines_differences columns old new
-    ≡ line_differences columns q (at_key path_cmp q (by_path old)) (at_key path_cmp q (by_path new))
-    ++ lines_differences columns old_rest new_rest
-lines_step columns q old new old_rest new_rest e o n =
+    → flat_map (λ e. F e.0 (old_of e.1) (new_of e.1)) (joined path_cmp (by_path old) (by_path new))
+    ≡ F q (at_key path_cmp q (by_path old)) (at_key path_cmp q (by_path new))
+    ++ flat_map (λ e. F e.0 (old_of e.1) (new_of e.1)) (joined path_cmp (by_path old_rest) (by_path new_rest))
+lines_step F q old new old_rest new_rest e o n =
     let s = step path_cmp path_cmp_total q (by_path old) (by_path new) e in
-    ap (flat_map (joined_differences columns)) s.is
-    ∙ (λ i. line_differences columns q (s.old i) (s.new i) ++ flat_map (joined_differences columns)
+    ap (flat_map (λ e. F e.0 (old_of e.1) (new_of e.1))) s.is
+    ∙ (λ i. F q (s.old i) (s.new i) ++ flat_map (λ e. F e.0 (old_of e.1) (new_of e.1))
     (joined path_cmp (sym o i) (sym n i)))
 
 -- if there is no first path, there are no differences

@@ -7,6 +7,8 @@ use Rattle.histar_flat.specs.Accounts.{Accounts}
 use Rattle.histar_rights.specs.declared.rights.Rights.{Rights}
 use Rattle.histar_diff.specs.declared.lone.Lone.{Lone}
 use Rattle.histar_diff.specs.declared.differences.Difference.{Difference}
+use Rattle.histar_diff.specs.declared.user_differences.UserDifference.{UserDifference}
+use Rattle.histar_diff.specs.declared.users.LoneUser.{LoneUser}
 use Rattle.histar_diff.specs.Changes.{IsAnsweredBy}
 use Rattle.histar_diff.specs.Sides.{letters}
 
@@ -22,6 +24,14 @@ new_ones lone = filter (λ l. l.is_new) lone
 -- the differences where the new letters have one that the old ones lack, in the same order
 abbrev pub gains : List Difference → List Difference
 gains ds = filter (λ d. gives_more (letters d.before) (letters d.after)) ds
+
+-- the lone users that the new script declares, in the same order
+abbrev pub new_users : List LoneUser → List LoneUser
+new_users lone = filter (λ l. l.is_new) lone
+
+-- the differences of users where the new letters have one that the old ones lack, in the same order
+abbrev pub user_gains : List UserDifference → List UserDifference
+user_gains ds = filter (λ d. gives_more (letters d.before) (letters d.after)) ds
 
 -- no lone process is new, and no difference is a gain
 abbrev pub HaveNoGain : List Lone → List Difference → Type 0

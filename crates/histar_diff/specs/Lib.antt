@@ -8,5 +8,9 @@ pub mod Differences
 pub mod Texts
 pub mod Shown
 pub mod Changes
+pub mod UserTables
+pub mod UserChanges
+pub mod UserTexts
 pub mod Gains
 pub mod Laws
+pub mod UserLaws

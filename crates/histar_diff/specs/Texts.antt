@@ -1,5 +1,5 @@
 -- The text of what differs.
-use Rattle.std.specs.Prelude.{ℕ, List, ◌++◌, codes, Option, None, Some, if◌then◌else◌}
+use Rattle.std.specs.Prelude.{ℕ, Bool, List, ◌++◌, codes, Option, None, Some, if◌then◌else◌}
 use Rattle.std.specs.List.{flat_map}
 use Rattle.histar_base.specs.Paths.{same}
 use Rattle.histar_flat.specs.Texts.{path_text, process_text}
@@ -9,10 +9,13 @@ use Rattle.histar_rights.specs.Rights.{rights_text}
 use Rattle.histar_diff.specs.declared.lone.Lone.{Lone}
 use Rattle.histar_diff.specs.declared.differences.Difference.{Difference}
 
+-- `new` or `gone` after a space, and a line end
+abbrev pub fate_text : Bool → List ℕ
+fate_text is_new = if is_new then codes " new\n" else codes " gone\n"
+
 -- the line of a process that runs on one side only: its name, its user, and `new` or `gone`
 abbrev pub lone_text : Lone → List ℕ
-lone_text l =
-    codes "process " ++ process_text l.process ++ codes " " ++ l.user ++ (if l.is_new then codes " new\n" else codes " gone\n")
+lone_text l = codes "process " ++ process_text l.process ++ codes " " ++ l.user ++ fate_text l.is_new
 
 -- a user, or the old one, `>` and the new one if they differ
 abbrev pub user_text : Name → Name → List ℕ

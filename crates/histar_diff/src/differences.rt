@@ -140,14 +140,14 @@ fn column_difference(
 }
 
 /// Returns the rights at this place of the list, if there is a list.
-fn letters_at(rights: Option<&[Rights]>, place: usize) -> Option<Rights>
+pub(crate) fn letters_at(rights: Option<&[Rights]>, place: usize) -> Option<Rights>
     ensures { result ≡ letters_at (option_copied rights.entry) (Some place) }
 {
     Some(rights?.get(place).copied().unwrap_or(Rights::NONE))
 }
 
 /// Checks whether the letters are the same, where a path that is not there gives none.
-fn same_letters(before: Option<Rights>, after: Option<Rights>) -> bool
+pub(crate) fn same_letters(before: Option<Rights>, after: Option<Rights>) -> bool
     ensures { result ≡ same_letters before after }
 {
     letters(before) == letters(after)

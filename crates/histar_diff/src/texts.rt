@@ -1,7 +1,7 @@
 //! The text of what differs.
 ghost use Rattle.std.specs.Prelude.{◌≡◌, ◌++◌, IfOk, OnOk};
 ghost use Rattle.std.specs.List.{flat_map};
-ghost use Rattle.histar_diff.specs.Texts.{change_text, difference_text, differences_text};
+ghost use Rattle.histar_diff.specs.Texts.{change_text, difference_text, differences_text, fate_text};
 ghost use Rattle.histar_diff.specs.Texts.{letters_text, lone_text, user_text};
 
 use crate::differences::{Difference, Differences};
@@ -40,7 +40,14 @@ fn push_lone(text: &mut Vec<u8>, lone: &Lone) -> Result<(), AllocError>
     push_process(text, &lone.process)?;
     text.extend_from_slice(b" ")?;
     text.extend_from_slice(lone.user.as_bytes())?;
-    text.extend_from_slice(if lone.is_new {
+    push_fate(text, lone.is_new)
+}
+
+/// Adds a space, `new` or `gone`, and a line end.
+pub(crate) fn push_fate(text: &mut Vec<u8>, is_new: bool) -> Result<(), AllocError>
+    ensures { OnOk result (text.new.items ≡ text.old.items ++ fate_text is_new) }
+{
+    text.extend_from_slice(if is_new {
         b" new\n".as_slice()
     } else {
         b" gone\n".as_slice()
@@ -82,7 +89,7 @@ fn push_user(text: &mut Vec<u8>, old: Name, new: Name) -> Result<(), AllocError>
 }
 
 /// Adds the letters in the old and in the new table, each after a space, and a line end.
-fn push_change(
+pub(crate) fn push_change(
     text: &mut Vec<u8>,
     before: Option<Rights>,
     after: Option<Rights>,

@@ -20,10 +20,12 @@ use Rattle.histar_flat.specs.FlatCalls.{flat_after, running}
 use Rattle.histar_flat.specs.Meaning.{boot, flat_end}
 use Rattle.histar_rights.specs.Running.{process_cmp, running_in}
 use Rattle.histar_rights.proofs.Listed.{running_are_listed}
+use Rattle.histar_rights.specs.declared.rights.Rights.{Rights}
 use Rattle.histar_diff.specs.Shown.{rights_of}
 use Rattle.histar_diff.proofs.Steps.{process_cmp_exact, process_cmp_total}
-use Rattle.histar_ever.specs.Ever.{paths_in, processes_in, rising}
-use Rattle.histar_ever.specs.Laws.{HeldOnce, LettersWereThere, PathsWereThere, ProcessesRan}
+use Rattle.histar_cells.specs.ByUser.{user_rights_at}
+use Rattle.histar_ever.specs.Ever.{any_rights, paths_in, processes_in, rising}
+use Rattle.histar_ever.specs.Laws.{HeldOnce, LettersOfUsersWereThere, LettersWereThere, PathsWereThere, ProcessesRan, WereLettersOf}
 use Rattle.histar_ever.specs.States.{states_from}
 use Rattle.histar_ever.proofs.Keys.{among_rising, in_ever, rising_rise}
 use Rattle.histar_ever.proofs.Letters.{any_letter}
@@ -80,16 +82,23 @@ held_alike accounts f calls one other same h = record { front = h.front; rest = 
 
 -- ---- letters
 
+module _ (accounts : Accounts) (calls : List CallLine) (g : Flat → Rights) where
+  -- the letters of these rights in one of the states are those that they had once
+  were_letters : WereLettersOf accounts calls g (any_rights g (states_from accounts (boot accounts) calls))
+  were_letters =
+      let fs = states_from accounts (boot accounts) calls in
+      record {
+        stat = held_exactly accounts (λ f. (g f).stat) (boot accounts) calls _ (any_letter g (λ r. r.stat) refl (λ a b. refl) fs);
+        read = held_exactly accounts (λ f. (g f).read) (boot accounts) calls _ (any_letter g (λ r. r.read) refl (λ a b. refl) fs);
+        write = held_exactly accounts (λ f. (g f).write) (boot accounts) calls _ (any_letter g (λ r. r.write) refl (λ a b. refl) fs);
+        remove = held_exactly accounts (λ f. (g f).remove) (boot accounts) calls _ (any_letter g (λ r. r.remove) refl (λ a b. refl) fs);
+      }
+
 pub letters_were_there : LettersWereThere
-letters_were_there accounts calls q p =
-    let g = λ (f : Flat). rights_of accounts f q p in
-    let fs = states_from accounts (boot accounts) calls in
-    record {
-      stat = held_exactly accounts (λ f. (g f).stat) (boot accounts) calls _ (any_letter g (λ r. r.stat) refl (λ a b. refl) fs);
-      read = held_exactly accounts (λ f. (g f).read) (boot accounts) calls _ (any_letter g (λ r. r.read) refl (λ a b. refl) fs);
-      write = held_exactly accounts (λ f. (g f).write) (boot accounts) calls _ (any_letter g (λ r. r.write) refl (λ a b. refl) fs);
-      remove = held_exactly accounts (λ f. (g f).remove) (boot accounts) calls _ (any_letter g (λ r. r.remove) refl (λ a b. refl) fs);
-    }
+letters_were_there accounts calls q p = were_letters accounts calls (λ f. rights_of accounts f q p)
+
+pub letters_of_users_were_there : LettersOfUsersWereThere
+letters_of_users_were_there accounts calls q user = were_letters accounts calls (λ f. user_rights_at accounts f q user)
 
 -- ---- paths
 

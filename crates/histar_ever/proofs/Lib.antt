@@ -2,9 +2,12 @@
 pub mod Letters
 pub mod Keys
 pub mod Tabled
+pub mod UsersTabled
 pub mod Adding
 pub mod Gathered
+pub mod UsersGathered
 pub mod Held
 pub mod Questions
 pub mod Again
 pub mod Making
+pub mod Runs

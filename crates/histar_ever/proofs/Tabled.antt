@@ -23,7 +23,7 @@ use Rattle.histar_diff.specs.declared.table.Runner.{Runner}
 use Rattle.histar_diff.specs.declared.table.Table.{Table}
 use Rattle.histar_diff.specs.declared.table.TableLine.{TableLine}
 use Rattle.histar_diff.specs.Shown.{ShowsRights, rights_if as rights_shown, rights_line, rights_of, runner}
-use Rattle.histar_diff.specs.Tables.{no_rights}
+use Rattle.histar_diff.specs.Tables.{by_path, no_rights}
 use Rattle.histar_diff.proofs.Joins.{behind, missed, rest_of}
 use Rattle.histar_diff.proofs.Steps.{process_cmp_exact, process_cmp_total}
 use Rattle.histar_ever.specs.Ever.{any_rights, either, paths_in, processes_in}
@@ -58,14 +58,29 @@ module _ {K X : Type 0} (R : K → K → Ordering) (total : IsTotalOrder R) (exa
 
 -- ---- a line
 
-none_twice : (a : Bool) → no_rights ≡ cond a no_rights no_rights
+pub none_twice : (a : Bool) → no_rights ≡ cond a no_rights no_rights
 none_twice true = refl
 none_twice false = refl
 
-cell_and_rest : (a b : Bool) (x rest : Rights)
+pub cell_and_rest : (a b : Bool) (x rest : Rights)
     → either (cond (a && b) x no_rights) (cond a rest no_rights) ≡ cond a (either (cond b x no_rights) rest) no_rights
 cell_and_rest true b x rest = refl
 cell_and_rest false b x rest = refl
+
+-- the paths of the lines that are made of the entries of a state are those in the state
+pub line_paths : {X : Type 0} (line : Path × Node → X) (shown : X → Path × List Rights) → ((e : Path × Node) → (shown (line e)).0 ≡ e.0)
+    → (f : Flat) (q : Path) (ls : List TableLine) → by_path ls ≡ map shown (map line f.files.entries)
+    → list_any (λ (l : TableLine). eq_by_cmp path_cmp l.path q) ls ≡ list_any (eq_by_cmp path_cmp q) (paths_in f)
+line_paths line shown same f q ls are =
+    let es = f.files.entries in
+    let at = λ (d : Path). eq_by_cmp path_cmp d q in
+    sym (any_test (λ (e : Path × List Rights). at e.0) (λ (l : TableLine). (l.path, l.rights.items)) ls)
+    ∙ ap (list_any (λ (e : Path × List Rights). at e.0)) are
+    ∙ any_test (λ (e : Path × List Rights). at e.0) shown (map line es)
+    ∙ any_test (λ x. at (shown x).0) line es
+    ∙ ap (λ (t : Path × Node → Bool). list_any t es) (λ i e. at (same e i))
+    ∙ sym (any_test at (λ (e : Path × Node). e.0) es)
+    ∙ either_way path_cmp path_cmp_total q (map (λ (e : Path × Node). e.0) es)
 
 module _ (accounts : Accounts) (f : Flat) (q : Path) (p : ProcName) where
   -- the letters of a process at a path with a node, if it is this one
@@ -123,20 +138,6 @@ module _ (accounts : Accounts) (f : Flat) (q : Path) (p : ProcName) where
       (if_at path_cmp path_cmp_total path_cmp_exact (of_line ns) q) (λ e. a_row e ns) es
       ∙ any_found path_cmp path_cmp_total path_cmp_exact (of_line ns) q es f.files.sorted
       ∙ found_node (get f.files q) are
-
-  -- the paths in a table of the state are those in the state
-  pub table_paths : (t : Table) → ShowsRights accounts f t
-      → list_any (λ (l : TableLine). eq_by_cmp path_cmp l.path q) t.lines.items ≡ list_any (eq_by_cmp path_cmp q) (paths_in f)
-  table_paths t shows =
-      let ns = running_in f in
-      let es = f.files.entries in
-      let at = λ (d : Path). eq_by_cmp path_cmp d q in
-      sym (any_test (λ (e : Path × List Rights). at e.0) (λ (l : TableLine). (l.path, l.rights.items)) t.lines.items)
-      ∙ ap (list_any (λ (e : Path × List Rights). at e.0)) shows.lines
-      ∙ any_test (λ (e : Path × List Rights). at e.0) rights_line (map (line_of accounts f ns) es)
-      ∙ any_test (λ l. at (rights_line l).0) (line_of accounts f ns) es
-      ∙ sym (any_test at (λ (e : Path × Node). e.0) es)
-      ∙ either_way path_cmp path_cmp_total q (map (λ (e : Path × Node). e.0) es)
 
   -- the processes in a table of the state are those that run in the state
   pub table_processes : (t : Table) → ShowsRights accounts f t

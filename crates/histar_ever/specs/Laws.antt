@@ -4,7 +4,7 @@ use Rattle.std.specs.List.{Contains}
 use Rattle.std.specs.List.Sorted.{IsStrictlySortedBy}
 use Rattle.histar_flat.specs.declared.calls.CallLine.{CallLine}
 use Rattle.histar_flat.specs.declared.calls.UnixCall.{UnixCall}
-use Rattle.histar_flat.specs.Words.{Path, ProcName}
+use Rattle.histar_flat.specs.Words.{Name, Path, ProcName}
 use Rattle.histar_base.specs.Paths.{path_cmp}
 use Rattle.histar_flat.specs.Accounts.{Accounts}
 use Rattle.histar_flat.specs.FlatState.{Flat, is_there}
@@ -13,8 +13,10 @@ use Rattle.histar_flat.specs.Meaning.{boot, flat_end}
 use Rattle.histar_rights.specs.declared.rights.Rights.{Rights}
 use Rattle.histar_rights.specs.Running.{process_cmp}
 use Rattle.histar_diff.specs.Shown.{rights_of}
+use Rattle.histar_cells.specs.ByUser.{user_rights_at}
 use Rattle.histar_ever.specs.Changing.{may_change}
 use Rattle.histar_ever.specs.Ever.{ever_paths, ever_processes, ever_rights}
+use Rattle.histar_ever.specs.EverUsers.{ever_user_rights}
 use Rattle.histar_ever.specs.States.{states_from}
 
 -- in a run from this state the test holds of the flat state before some of these calls, or after the last
@@ -24,18 +26,25 @@ pub record HeldOnce (accounts : Accounts) (f : Flat) (calls : List CallLine) (te
   pub parts : calls ≡ front ++ rest
   pub held : test (flat_end accounts f front) ≡ true
 
--- each letter is there exactly if the process had it at the path before some of the calls, or after the last
-pub record WereLettersOf (accounts : Accounts) (calls : List CallLine) (q : Path) (p : ProcName) (letters : Rights) : Type 0 where
-  pub stat : (letters.stat ≡ true) ↔ HeldOnce accounts (boot accounts) calls (λ f. (rights_of accounts f q p).stat)
-  pub read : (letters.read ≡ true) ↔ HeldOnce accounts (boot accounts) calls (λ f. (rights_of accounts f q p).read)
-  pub write : (letters.write ≡ true) ↔ HeldOnce accounts (boot accounts) calls (λ f. (rights_of accounts f q p).write)
-  pub remove : (letters.remove ≡ true) ↔ HeldOnce accounts (boot accounts) calls (λ f. (rights_of accounts f q p).remove)
+-- each letter is there exactly if it was one of these rights before some of the calls, or after the last
+pub record WereLettersOf (accounts : Accounts) (calls : List CallLine) (rights : Flat → Rights) (letters : Rights) : Type 0 where
+  pub stat : (letters.stat ≡ true) ↔ HeldOnce accounts (boot accounts) calls (λ f. (rights f).stat)
+  pub read : (letters.read ≡ true) ↔ HeldOnce accounts (boot accounts) calls (λ f. (rights f).read)
+  pub write : (letters.write ≡ true) ↔ HeldOnce accounts (boot accounts) calls (λ f. (rights f).write)
+  pub remove : (letters.remove ≡ true) ↔ HeldOnce accounts (boot accounts) calls (λ f. (rights f).remove)
 
 -- the letters of a process at a path are those that it had there before some call, or after the last
 abbrev pub LettersWereThere : Type 0
 LettersWereThere =
     (accounts : Accounts) (calls : List CallLine) (q : Path) (p : ProcName)
-    → WereLettersOf accounts calls q p (ever_rights accounts (states_from accounts (boot accounts) calls) q p)
+    → WereLettersOf accounts calls (λ f. rights_of accounts f q p) (ever_rights accounts (states_from accounts (boot accounts) calls) q p)
+
+-- the letters of a user at a path are those that it had there before some call, or after the last
+abbrev pub LettersOfUsersWereThere : Type 0
+LettersOfUsersWereThere =
+    (accounts : Accounts) (calls : List CallLine) (q : Path) (user : Name)
+    → WereLettersOf accounts calls (λ f. user_rights_at accounts f q user)
+    (ever_user_rights accounts (states_from accounts (boot accounts) calls) q user)
 
 -- the paths rise, each once, and a path is among them exactly if it was there before some call, or after the last
 pub record PathsWereThere : Type 0 where

@@ -1,8 +1,10 @@
 -- The definitions of this crate that contracts cite.
 pub mod States
 pub mod Ever
+pub mod EverUsers
 pub mod Changing
 pub mod Laws
 pub mod Gathering
+pub mod GatheringUsers
 pub mod Following
 pub mod Session

@@ -5,11 +5,15 @@ ghost use Rattle.histar_flat.specs.Accounts.{Accounts};
 ghost use Rattle.histar_rights.specs.Running.{process_cmp};
 ghost use Rattle.histar_ever.specs.Gathering.{AddsTable, AreKeys, Gathers, letters_at as letters_of};
 
+use crate::gather::Gather;
 use crate::gathering::{Letters, add_lines, add_paths, add_processes, letters_at};
 use crate::member::Member;
+use histar_access::table_of;
 use histar_diff::Table;
 use histar_flat::{Path, ProcName};
+use histar_label::LabelStore;
 use histar_rights::Rights;
+use histar_shell::Machine;
 use std::alloc::{AllocError, Global};
 use std::collections::{BTreeMap, BTreeSet};
 
@@ -76,4 +80,21 @@ impl Ever {
     {
         letters_at(&self.letters, path, process)
     }
+}
+
+impl Gather for Ever {
+    ghost use Rattle.histar_ever.specs.Gathering.{Gathers as gathers_rights};
+
+    ghost Gathers = { gathers_rights };
+
+    fn add_state<S: LabelStore + Drop>(
+        &mut self,
+        alloc: Global,
+        machine: &Machine<S>,
+    ) -> Result<(), AllocError> {
+        let table = table_of(alloc, machine)?;
+        self.add(&table)
+    }
+
+    fn adds_nothing_again() {}
 }

@@ -1,11 +1,18 @@
 //! What the letters, the paths and the processes of a run mean. Each law is the contract of a function that
 //! does nothing.
-ghost use Rattle.histar_ever.specs.Laws.{LettersWereThere, OthersChangeNothing, PathsWereThere, ProcessesRan};
+ghost use Rattle.histar_ever.specs.Laws.{LettersOfUsersWereThere, LettersWereThere, OthersChangeNothing};
+ghost use Rattle.histar_ever.specs.Laws.{PathsWereThere, ProcessesRan};
 
 /// Shows that a process has a letter at a path exactly if it had it there before some call of the script, or
 /// after the last one.
 pub fn letters_were_there()
     ensures { LettersWereThere }
+{}
+
+/// Shows that a user has a letter at a path exactly if it had it there before some call of the script, or after the
+/// last one.
+pub fn letters_of_users_were_there()
+    ensures { LettersOfUsersWereThere }
 {}
 
 /// Shows that each path is listed once, by rising paths, and exactly if it was there before some call, or after

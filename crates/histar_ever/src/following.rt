@@ -1,64 +1,65 @@
 //! Machines that make calls, with what is gathered after each.
 ghost use Rattle.std.specs.Prelude.{◌≡◌, IfOk, OnOk, [], ◌∷◌};
 ghost use Rattle.histar_prefix.specs.Prefix.{calls_before, is_before as comes_before};
-ghost use Rattle.histar_access.specs.Shown.{IsShown};
-ghost use Rattle.histar_ever.specs.Following.{AddsState, FollowsCalls, GathersRun, IsRunning, IsStarted};
+ghost use Rattle.histar_ever.specs.Following.{FollowsCalls, GathersNone, GathersRun, IsRunning, IsStarted};
 
 use crate::changing::{is_question, may_change};
-use crate::ever::Ever;
-use histar_access::table_of;
+use crate::gather::Gather;
 use histar_flat::CallLine;
 use histar_label::LabelStore;
 use histar_script::Fault;
 use histar_shell::Machine;
-use std::alloc::{AllocError, Global};
+use std::alloc::Global;
 
 /// Makes the calls on the lines before the given one, or all, on a machine that was just booted, and gathers
-/// what is there before and after each.
-pub(crate) fn ever_on<S: LabelStore + Drop>(
+/// its states before and after each. It returns what was gathered.
+pub(crate) fn follow<S: LabelStore + Drop, G: Gather>(
     alloc: Global,
     machine: &mut Machine<S>,
     calls: Vec<CallLine>,
     at: Option<u32>,
-) -> Result<Ever, Fault>
-    requires { IsStarted machine.old }
-    ensures { IfOk result (GathersRun (calls_before at calls.items) machine.old) }
+    nothing: G,
+) -> Result<G, Fault>
+    requires started { IsStarted machine.old }
+    requires nothing { GathersNone G.Gathers machine.old nothing }
+    ensures { IfOk result (GathersRun G.Gathers (calls_before at calls.items) machine.old) }
 {
-    let mut ever = Ever::new(alloc);
-    add_state(alloc, machine, &mut ever)?;
-    make_calls(alloc, machine, calls, at, &mut ever)?;
-    Ok(ever)
+    let mut gathered = nothing;
+    gathered.add_state(alloc, machine)?;
+    make_calls(alloc, machine, calls, at, &mut gathered)?;
+    Ok(gathered)
 }
 
 /// Makes the calls on the lines before the given one, in their order, or all calls.
-fn make_calls<S: LabelStore + Drop>(
+fn make_calls<S: LabelStore + Drop, G: Gather>(
     alloc: Global,
     machine: &mut Machine<S>,
     calls: Vec<CallLine>,
     at: Option<u32>,
-    ever: &mut Ever,
+    gathered: &mut G,
 ) -> Result<(), Fault>
-    requires { IsRunning machine.old ever.old }
-    ensures { OnOk result (FollowsCalls (calls_before at calls.items)
-        machine.old machine.new ever.old ever.new) }
+    requires { IsRunning G.Gathers machine.old gathered.old }
+    ensures { OnOk result (FollowsCalls G.Gathers (calls_before at calls.items)
+        machine.old machine.new gathered.old gathered.new) }
 {
     'calls: for call in calls {
         if is_before(at, call.line) {
-            make_call(alloc, machine, call, ever)?;
+            make_call(alloc, machine, call, gathered)?;
         }
     }
     Ok(())
 }
 
-/// Makes one call, and adds the table that the machine has then, if the call may have changed something.
-fn make_call<S: LabelStore + Drop>(
+/// Makes one call, and gathers the state that the machine has then, if the call may have changed something.
+fn make_call<S: LabelStore + Drop, G: Gather>(
     alloc: Global,
     machine: &mut Machine<S>,
     call: CallLine,
-    ever: &mut Ever,
+    gathered: &mut G,
 ) -> Result<(), Fault>
-    requires { IsRunning machine.old ever.old }
-    ensures { OnOk result (FollowsCalls (call ∷ []) machine.old machine.new ever.old ever.new) }
+    requires { IsRunning G.Gathers machine.old gathered.old }
+    ensures { OnOk result (FollowsCalls G.Gathers (call ∷ [])
+        machine.old machine.new gathered.old gathered.new) }
 {
     let CallLine {
         line,
@@ -70,22 +71,10 @@ fn make_call<S: LabelStore + Drop>(
         return Err(Fault::OutOfMemory);
     };
     if may_change(question, &reply) {
-        add_state(alloc, machine, ever)?;
+        gathered.add_state(alloc, machine)?;
+    } else {
+        G::adds_nothing_again();
     }
-    Ok(())
-}
-
-/// Adds the table of a machine.
-fn add_state<S: LabelStore + Drop>(
-    alloc: Global,
-    machine: &Machine<S>,
-    ever: &mut Ever,
-) -> Result<(), AllocError>
-    requires { IsShown machine.now }
-    ensures { OnOk result (AddsState machine.now ever.old ever.new) }
-{
-    let table = table_of(alloc, machine)?;
-    ever.add(&table)?;
     Ok(())
 }
 

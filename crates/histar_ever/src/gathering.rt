@@ -97,7 +97,7 @@ pub(crate) fn letters_at(letters: &Letters, path: &Path, process: &ProcName) -> 
 }
 
 /// Returns the letters of one or of the other.
-fn either(a: Rights, b: Rights) -> Rights
+pub(crate) fn either(a: Rights, b: Rights) -> Rights
     ensures { result ≡ either a b }
 {
     Rights {

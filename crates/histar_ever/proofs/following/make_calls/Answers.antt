@@ -4,9 +4,9 @@ use Rattle.histar_ever.proofs.Making.{none_made, still_running}
 use Rattle.histar_ever.proofs.following.make_calls.Goals as goal
 
 pub calls-init : goal.calls-init
-calls-init g c = none_made c.args.machine.now c.args.ever.now
+calls-init g c = none_made g.G.Gather.Gathers c.args.machine.now c.args.gathered.now
 
 pub make_call-requires : goal.make_call-requires
 make_call-requires g c =
-    still_running (calls_before c.args.at c.calls.yielded) c.args.machine.now c.calls.machine c.args.ever.now c.calls.ever
-    c.requires c.calls.invariant
+    still_running g.G.Gather.Gathers (calls_before c.args.at c.calls.yielded) c.args.machine.now c.calls.machine c.args.gathered.now
+    c.calls.gathered c.requires c.calls.invariant

@@ -4,4 +4,4 @@ use Rattle.histar_ever.specs.Following.{FollowsCalls}
 use Rattle.histar_ever.proofs.following.make_calls.Given as goal
 
 abbrev pub invariant-calls : goal.invariant-calls
-invariant-calls g l = FollowsCalls (calls_before l.at l.yielded) l.fn.machine l.machine l.fn.ever l.ever
+invariant-calls g l = FollowsCalls g.G.Gather.Gathers (calls_before l.at l.yielded) l.fn.machine l.machine l.fn.gathered l.gathered

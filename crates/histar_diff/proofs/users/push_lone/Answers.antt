@@ -1,0 +1,8 @@
+-- Proves the goals of `push_lone` of src/users.rt that the search leaves open.
+use Rattle.std.proofs.Common.{arith}
+use Rattle.std.proofs.lemmas.Grind.{common_steps}
+use Rattle.std.proofs.lemmas.List.Elements.{filter_map-append}
+use Rattle.histar_diff.proofs.users.push_lone.Goals as goal
+
+pub loop-user-preserved : goal.loop-user-preserved
+loop-user-preserved c = grind (arith, common_steps, filter_map-append)

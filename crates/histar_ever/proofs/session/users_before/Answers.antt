@@ -1,0 +1,7 @@
+-- Proves the goal of `users_before` of src/session.rt that the search leaves open.
+use Rattle.histar_ever.specs.GatheringUsers.{GathersUsers}
+use Rattle.histar_ever.proofs.Runs.{gathered_script}
+use Rattle.histar_ever.proofs.session.users_before.Goals as goal
+
+pub returns : goal.returns
+returns c = ?
