@@ -12,3 +12,4 @@ pub mod Changes
 pub mod UsersShown
 pub mod UserListing
 pub mod UserMeaning
+pub mod UserOrder

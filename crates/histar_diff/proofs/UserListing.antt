@@ -1,16 +1,16 @@
 -- Which users, and which paths and users, are listed.
-use Rattle.std.specs.Prelude.{◌≡◌, ◌≢◌, ◌↔◌, Bool, true, false, not, ◌&&◌, ◌||◌, cond, if◌then◌else◌, is_some, List, [], ◌∷◌, ◌++◌}
+use Rattle.std.specs.Prelude.{◌≡◌, ◌≢◌, ◌↔◌, Bool, true, false, not, ◌&&◌, ◌||◌, cond, if◌then◌else◌, is_some, List, [], ◌∷◌}
 use Rattle.std.specs.Prelude.{Option, None, Some, option_map, refl}
 use Rattle.std.specs.List.{cons_option, filter, filter_map, flat_map, list_any}
-use Rattle.std.proofs.Common.{ap, inl, inr, sym, ◌∙◌, subst}
-use Rattle.std.proofs.lemmas.Bool.{and_parts, false_from_ne_true, true≢false}
+use Rattle.std.proofs.Common.{ap, inl, inr, sym, ◌∙◌}
+use Rattle.std.proofs.lemmas.Bool.{and_parts, true≢false}
 use Rattle.std.proofs.lemmas.List.Folds.{list_any-append}
 use Rattle.std.specs.Ordering.{eq_by_cmp}
 use Rattle.histar_flat.specs.Accounts.{Accounts, has}
 use Rattle.histar_flat.specs.Files.{get}
 use Rattle.histar_flat.specs.FlatState.{Flat, Node}
 use Rattle.histar_flat.specs.Words.{Name, Path}
-use Rattle.histar_flat.proofs.FileLemmas.{same_itself, same_path_found, ties}
+use Rattle.histar_flat.proofs.FileLemmas.{same_path_found, ties}
 use Rattle.histar_base.specs.Paths.{path_cmp, same, same_path}
 use Rattle.histar_base.proofs.PathLaws.{path_cmp_exact, path_cmp_total}
 use Rattle.histar_rights.specs.declared.rights.Rights.{Rights}

@@ -1,13 +1,13 @@
 -- What differs between two tables that show the rights of users is what changed between the two flat states.
-use Rattle.std.specs.Prelude.{◌≡◌, ℕ, Bool, true, false, cond, is_some, T, List, [], ◌∷◌, map, Option, None, Some, option_map, position, refl}
+use Rattle.std.specs.Prelude.{◌≡◌, ℕ, Bool, true, false, cond, is_some, List, [], ◌∷◌, map, Option, None, Some, option_map, position, refl}
 use Rattle.std.specs.Prelude.{◌+◌, ◌||◌, slice_index_or}
-use Rattle.std.specs.List.{AllByRecursion, cons_option, filter, filter_map, flat_map, list_any, position_from}
-use Rattle.std.proofs.Common.{ap, inl, inr, sym, ◌∙◌, subst}
+use Rattle.std.specs.List.{AllByRecursion, cons_option, filter, filter_map, flat_map, position_from}
+use Rattle.std.proofs.Common.{ap, inl, inr, sym, ◌∙◌}
 use Rattle.std.proofs.lemmas.Bool.{or_right, true≢false}
 use Rattle.std.proofs.lemmas.Iterator.Adapters.{position_from-zero}
 use Rattle.std.proofs.lemmas.List.{get_or-map}
 use Rattle.std.proofs.lemmas.List.Quantifiers.{position-Some}
-use Rattle.std.specs.FinMap.{find, is_sorted}
+use Rattle.std.specs.FinMap.{find}
 use Rattle.histar_flat.specs.Accounts.{Accounts, has}
 use Rattle.histar_flat.specs.Files.{get}
 use Rattle.histar_flat.specs.FlatState.{Flat, Node}
@@ -17,17 +17,15 @@ use Rattle.histar_base.specs.Paths.{path_cmp, same}
 use Rattle.histar_base.proofs.PathLaws.{path_cmp_exact, path_cmp_total}
 use Rattle.histar_rights.specs.declared.rights.Rights.{Rights}
 use Rattle.histar_rights.specs.declared.users.UserRights.{UserRights}
-use Rattle.histar_rights.specs.Users.{rights_of_user, somebody, user_at, users_line, users_table}
+use Rattle.histar_rights.specs.Users.{rights_of_user, somebody, user_at, users_line}
 use Rattle.histar_diff.specs.declared.table.TableLine.{TableLine}
 use Rattle.histar_diff.specs.declared.user_differences.UserDifference.{UserDifference}
-use Rattle.histar_diff.specs.declared.users.LoneUser.{LoneUser}
 use Rattle.histar_diff.specs.declared.users.SharedUser.{SharedUser}
-use Rattle.histar_diff.specs.declared.users.UsersTable.{UsersTable}
 use Rattle.histar_diff.specs.Joining.{Joined, joined, new_of, old_of}
 use Rattle.histar_diff.specs.Tables.{by_path, letters_at, no_rights}
-use Rattle.histar_diff.specs.UserChanges.{ShowsUsers, lone_users, user_changes, user_changes_at, user_letters, users_rights}
+use Rattle.histar_diff.specs.UserChanges.{user_changes, user_changes_at, users_rights}
 use Rattle.histar_diff.specs.UserLaws.{UserDifferencesAreChanges}
-use Rattle.histar_diff.specs.UserTables.{AreUserDifferences, joined_user_differences, lone_of_both, shared_at, shared_difference}
+use Rattle.histar_diff.specs.UserTables.{joined_user_differences, lone_of_both, shared_at, shared_difference}
 use Rattle.histar_diff.specs.UserTables.{shared_differences, shared_lines_differences, shared_of_both, shared_user, user_difference}
 use Rattle.histar_diff.proofs.JoinedValues.{along_keys, each_joined, each_weaker, find_values, same_keys, values, values_rise}
 
