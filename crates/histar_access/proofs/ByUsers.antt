@@ -3,6 +3,7 @@ use Rattle.std.proofs.Common.{◌≡◌, ℕ, true, List, [], ◌∷◌, ◌++�
 use Rattle.std.proofs.Common.{length, sym, ap, ◌∙◌, refl, append_assoc}
 use Rattle.std.proofs.Common.{append-nil, get_or, ◌+◌}
 use Rattle.std.specs.Prelude.{map, slice_get, suc, ◌≤◌, Option, None, Some}
+use Rattle.std.specs.List.{flat_map}
 use Rattle.std.proofs.lemmas.List.{map-append, take-map, take_more}
 use Rattle.std.proofs.lemmas.Option.{get_or_from_slice_get, slice_get_within}
 use Rattle.histar_flat.specs.declared.calls.User.{User}
@@ -23,8 +24,12 @@ use Rattle.histar_rights.specs.declared.rights.Rights.{Rights}
 use Rattle.histar_rights.specs.declared.users.UserRights.{UserRights}
 use Rattle.histar_rights.specs.Rights.{above_root, rights_below}
 use Rattle.histar_rights.specs.Laws.{HaveFewBytes, rights_above, rights_or}
-use Rattle.histar_rights.specs.Users.{UsersLine, process_of, rights_of_user, somebody, users_line, users_line_text, users_text}
+use Rattle.histar_rights.specs.Running.{HaveShownNames}
+use Rattle.histar_rights.specs.Users.{UsersLine, process_of, rights_of_user, somebody, users_line, users_table, users_text}
 use Rattle.histar_rights.proofs.Giving.{directories_give_rights}
+use Rattle.histar_diff.specs.declared.users.UsersTable.{UsersTable}
+use Rattle.histar_diff.specs.Tables.{by_path}
+use Rattle.histar_diff.specs.UserChanges.{users_rights}
 use Rattle.histar_readout.specs.declared.tree.TreeNode.{TreeNode}
 use Rattle.histar_readout.specs.Tree.{IsTreeOf}
 use Rattle.histar_readout.specs.TreeEntries.{TreeEntry, flat_entry, tree_entry}
@@ -33,52 +38,62 @@ use Rattle.histar_readout.proofs.FlatTree.{walks_meet_all}
 use Rattle.histar_readout.proofs.OneTree.{states_have_one_tree}
 use Rattle.histar_shell.specs.Ending.{IsTreeIn}
 use Rattle.histar_shell.specs.Machine.{MachineModel}
+use Rattle.histar_shell.specs.Meaning.{Shows}
 use Rattle.histar_prefix.proofs.Listed.{flat_tree, tree_here}
 use Rattle.histar_cells.specs.ByClass.{class_reads, class_writes, from_above, user_below}
 use Rattle.histar_cells.proofs.ClassesAlike.{reads_alike, writes_alike}
 use Rattle.histar_cells.proofs.FlatTrees.{are_tree, few_bytes}
 use Rattle.histar_access.specs.Rows.{last_or, rows_from}
-use Rattle.histar_access.specs.Users.{IsUsersText, starting, users_below, users_from, users_line_at}
+use Rattle.histar_access.specs.Users.{IsUsersText, ShowsUsersTable, name_of, starting, users_below, users_from, users_line_at}
 use Rattle.histar_access.proofs.Descent.{descent, found_above, found_at}
 use Rattle.histar_access.proofs.Tables.{last_made, map_twice}
 
 -- ---- line by line
 
-module _ (users : Accounts) (start : List UserRights) (tree : List TreeNode) where
-  -- the text of the lines of these nodes
-  abbrev rest_text : List (List UserRights) → List TreeNode → List ℕ
-  rest_text way left = users_text (users_from users start way left)
+-- the line of a table as a value
+abbrev pub one_line : UsersLine → List (Path × List Rights)
+one_line l = users_rights l ∷ []
+
+-- what is made of each line alone is made of all
+pub one_each : (lines : List UsersLine) → flat_map one_line lines ≡ map users_rights lines
+one_each [] = refl
+one_each (l ∷ lines) = ap (λ ls. users_rights l ∷ ls) (one_each lines)
+
+module _ {X : Type 0} (made_of : UsersLine → List X) (users : Accounts) (start : List UserRights) (tree : List TreeNode) where
+  -- what is made of the lines of these nodes
+  abbrev rest_made : List (List UserRights) → List TreeNode → List X
+  rest_made way left = flat_map made_of (users_from users start way left)
 
   -- the row of the next node
   abbrev pub next_users : List (List UserRights) → TreeNode → List UserRights
   next_users way node = users_below users node.class (last_or start (take (length node.path) way))
 
-  -- this is the text of the first lines of the table, and these nodes are left
-  pub record AreUsersLines (way : List (List UserRights)) (left : List TreeNode) (text : List ℕ) : Type 0 where
-    pub are : rest_text [] tree ≡ text ++ rest_text way left
+  -- this is made of the first lines of the table, and these nodes are left
+  pub record AreUsersLines (way : List (List UserRights)) (left : List TreeNode) (made : List X) : Type 0 where
+    pub are : rest_made [] tree ≡ made ++ rest_made way left
 
-  -- there is no text at first
-  pub no_text : {way : List (List UserRights)} {text : List ℕ} → way ≡ [] → text ≡ [] → AreUsersLines way tree text
-  no_text no_way none = record { are = λ i. sym none i ++ rest_text (sym no_way i) tree }
+  -- nothing is made at first
+  pub nothing_made : {way : List (List UserRights)} {made : List X} → way ≡ [] → made ≡ [] → AreUsersLines way tree made
+  nothing_made no_way none = record { are = λ i. sym none i ++ rest_made (sym no_way i) tree }
 
-  -- there is one more line
-  pub text_more : {way next : List (List UserRights)} {left rest : List TreeNode} {text longer : List ℕ} → (node : TreeNode)
+  -- one more line is made
+  pub made_more : {way next : List (List UserRights)} {left rest : List TreeNode} {made longer : List X} → (node : TreeNode)
       → left ≡ node ∷ rest → next ≡ take (length node.path) way ++ next_users way node ∷ []
-      → longer ≡ text ++ users_line_text (users_line_at node (next_users way node)) → AreUsersLines way left text
+      → longer ≡ made ++ made_of (users_line_at node (next_users way node)) → AreUsersLines way left made
       → AreUsersLines next rest longer
-  text_more {way = way} {rest = rest} {text = text} node turn pushed added are =
-      let line = users_line_text (users_line_at node (next_users way node)) in
-      let later = rest_text (take (length node.path) way ++ next_users way node ∷ []) rest in
+  made_more {way = way} {rest = rest} {made = made} node turn pushed added are =
+      let line = made_of (users_line_at node (next_users way node)) in
+      let later = rest_made (take (length node.path) way ++ next_users way node ∷ []) rest in
       record {
         are =
-            are.are ∙ ap (λ l. text ++ rest_text way l) turn ∙ sym (append_assoc text line later)
-            ∙ (λ i. sym added i ++ rest_text (sym pushed i) rest);
+            are.are ∙ ap (λ l. made ++ rest_made way l) turn ∙ sym (append_assoc made line later)
+            ∙ (λ i. sym added i ++ rest_made (sym pushed i) rest);
       }
 
-  -- at the end it is the whole text
-  pub whole_text : {way : List (List UserRights)} {left : List TreeNode} {text : List ℕ} → left ≡ [] → AreUsersLines way left text
-      → text ≡ rest_text [] tree
-  whole_text {way = way} {text = text} none are = sym (are.are ∙ ap (λ l. text ++ rest_text way l) none ∙ append-nil text)
+  -- at the end all is made
+  pub all_made : {way : List (List UserRights)} {left : List TreeNode} {made : List X} → left ≡ [] → AreUsersLines way left made
+      → made ≡ rest_made [] tree
+  all_made {way = way} {made = made} none are = sym (are.are ∙ ap (λ l. made ++ rest_made way l) none ∙ append-nil made)
 
 -- the users so far with one more
 pub names_more : (users : List User) (place : ℕ) (name : Name) → slice_get users place ≡ Some (called name)
@@ -232,19 +247,37 @@ module _ (accounts : Accounts) (f : Flat) where
 
 -- ---- on a machine
 
+-- the names of the users with which a walk starts
+names_again : (r : Name → Rights) (names : List Name) → map name_of (map (λ (user : Name). record { user = user; rights = r user }) names) ≡ names
+names_again r [] = refl
+names_again r (name ∷ names) = ap (λ ns. name ∷ ns) (names_again r names)
+
 module _ (m : MachineModel) (tree : List TreeNode) (is : IsTreeIn m tree) where
-  -- the text that is computed from a machine's tree is that of its table by users
-  pub users_shown : IsUsersText m (users_text (users_from m.users (starting m.users) [] tree))
+  -- the lines that are computed from a machine's tree are those of its table by users
+  lines_shown : (accounts : Accounts) (f : Flat) → Shows accounts m f → HaveShownNames f
+      → users_from m.users (starting m.users) [] tree ≡ users_table accounts f
   unfolding IsTreeOf
-  users_shown accounts f shows named =
+  lines_shown accounts f shows named =
       let s = state m.kernel in
       let l = shows.represents.matched in
       let has_tree = flat_tree accounts m f shows named in
       let es = f.files.entries in
       let same_tree = states_have_one_tree m.users s m.roots tree has_tree.tree is (tree_here accounts m f shows named) in
       let found = rows_found accounts f (are_tree accounts s f l) (few_bytes f shows.small) (root_is_dir accounts s f l) shows.shallow in
-      ap users_text
-      ((λ i. users_from (shows.users i) (starting (shows.users i)) [] (same_tree i))
+      (λ i. users_from (shows.users i) (starting (shows.users i)) [] (same_tree i))
       ∙ ap (λ start. users_from (without_passwords accounts) start [] has_tree.tree) (start_is accounts f)
       ∙ lines_alike accounts f s l.category has_tree.tree es has_tree.same has_tree.lines []
-      ∙ ap (zipped accounts f es) found ∙ zipped_values accounts f es)
+      ∙ ap (zipped accounts f es) found ∙ zipped_values accounts f es
+
+  -- the text that is computed from a machine's tree is that of its table by users
+  pub users_shown : IsUsersText m (users_text (users_from m.users (starting m.users) [] tree))
+  users_shown accounts f shows named = ap users_text (lines_shown accounts f shows named)
+
+  -- a table with the users and the lines that are computed shows the rights of the users
+  pub users_table_shown : (t : UsersTable) → t.users.items ≡ map name_of (starting m.users)
+      → by_path t.lines.items ≡ map users_rights (users_from m.users (starting m.users) [] tree) → ShowsUsersTable m t
+  users_table_shown t users lines accounts f shows named = record {
+    users = users ∙ (λ i. map name_of (starting (shows.users i))) ∙ ap (map name_of) (start_is accounts f)
+        ∙ names_again (start accounts f) (somebody accounts);
+    lines = lines ∙ ap (map users_rights) (lines_shown accounts f shows named);
+  }

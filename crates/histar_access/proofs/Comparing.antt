@@ -1,7 +1,7 @@
 -- The contract of `diff`, put together from those of its parts.
 use Rattle.std.proofs.Common.{◌≡◌, ℕ, true, false, List, [], ◌∷◌, length, Option, Some, None, Result, Ok, Err, refl, sym, ap, subst}
 use Rattle.std.proofs.Common.{◌∙◌, arith, inl, inr}
-use Rattle.std.specs.Prelude.{◌↔◌, ◌==◌, Bool, IfSome, IsOk, MatchResult, is_ok}
+use Rattle.std.specs.Prelude.{◌↔◌, ◌==◌, Bool, IfSome, IsOk, MatchBool, MatchResult, is_ok}
 use Rattle.std.specs.Io.KnownBytes.{Appends, Keeps}
 use Rattle.std.proofs.lemmas.Bool.{false≢true}
 use Rattle.std.proofs.lemmas.Bool.Decides.{nat_tests}
@@ -18,17 +18,25 @@ use Rattle.histar_script.specs.Runs.{is_read_failed}
 use Rattle.histar_diff.specs.declared.lone.Lone.{Lone}
 use Rattle.histar_diff.specs.declared.differences.Difference.{Difference}
 use Rattle.histar_diff.specs.declared.table.Table.{Table}
+use Rattle.histar_diff.specs.declared.user_differences.UserDifference.{UserDifference}
+use Rattle.histar_diff.specs.declared.users.LoneUser.{LoneUser}
+use Rattle.histar_diff.specs.declared.users.UsersTable.{UsersTable}
 use Rattle.histar_diff.specs.Differences.{AreDifferences}
 use Rattle.histar_diff.specs.Tables.{IsTable}
 use Rattle.histar_diff.specs.Texts.{differences_text}
+use Rattle.histar_diff.specs.UserTables.{AreUserDifferences}
+use Rattle.histar_diff.specs.UserTexts.{user_differences_text}
 use Rattle.histar_diff.proofs.Changes.{differences_are_changes}
 use Rattle.histar_diff.proofs.ShownTables.{shown_tables_rise}
-use Rattle.histar_diff.proofs.TextLemmas.{no_text}
+use Rattle.histar_diff.proofs.TextLemmas.{no_text, no_user_text}
+use Rattle.histar_diff.proofs.UsersShown.{user_differences_are_changes}
 use Rattle.histar_access.specs.Diff.{ChangesAtFault, ComparesInputs, ComparesTaken, ComparesTexts, CountsOneFailure, Inputs}
-use Rattle.histar_access.specs.Diff.{IsFaultOf, IsTableOf, IsTextBetween, Scripts, StopsAtInput, WritesChanges, both_read, lone_shown}
-use Rattle.histar_access.specs.Diff.{scripts_of, shown}
+use Rattle.histar_access.specs.Diff.{IsFaultOf, IsTableOf, IsTextBetween, IsTextOfChanges, IsTextOfProcesses, IsTextOfUsers, IsUsersTableOf}
+use Rattle.histar_access.specs.Diff.{ReadsChanges, ReadsProcessChanges, ReadsUserChanges, Scripts, StopsAtInput, WritesChanges, both_read}
+use Rattle.histar_access.specs.Diff.{lone_shown, lone_users_of, lone_users_shown, scripts_of, shown, user_changes_of, user_changes_shown}
 use Rattle.histar_access.specs.declared.changes.DiffOptions.{DiffOptions}
-use Rattle.histar_prefix.specs.Prefix.{calls_before}
+use Rattle.std.specs.Global.{Vec}
+use Rattle.histar_prefix.specs.Prefix.{calls_before, state_before}
 use Rattle.histar_command.proofs.KnownInputs.{same_script}
 
 -- the result of `diff`
@@ -55,7 +63,8 @@ module _ (options : DiffOptions) where
 
   -- the text of what is to be shown is that of what changed
   pub text_between : {a b : List ℕ} {lone : List Lone} {ds : List Difference} → AreCompared a b lone ds
-      → (text : List ℕ) → text ≡ differences_text (lone_shown options.more lone) (shown options.more ds) → IsTextBetween options a b text
+      → (text : List ℕ) → text ≡ differences_text (lone_shown options.more lone) (shown options.more ds)
+      → IsTextBetween (IsTextOfProcesses options) a b text
   text_between {lone = lone} {ds = ds} c text is =
       let old = c.is_before.script in
       let new = c.is_after.script in
@@ -73,9 +82,61 @@ module _ (options : DiffOptions) where
         };
       }
 
+  -- the tables by users of two texts, and what differs between them
+  pub record AreComparedForUsers (a b : List ℕ) (lone : List LoneUser) (ds : List UserDifference) : Type 0 where
+    pub before : UsersTable
+    pub after : UsersTable
+    pub is_before : IsUsersTableOf options.old_at a before
+    pub is_after : IsUsersTableOf options.new_at b after
+    pub are : AreUserDifferences before after lone ds
+
+  -- the text of what is to be shown is that of what changed for users
+  pub users_text_between : {a b : List ℕ} {lone : List LoneUser} {ds : List UserDifference} → AreComparedForUsers a b lone ds
+      → (text : List ℕ) → text ≡ user_differences_text (lone_users_shown options.more lone) (user_changes_shown options.more ds)
+      → IsTextBetween (IsTextOfUsers options) a b text
+  users_text_between {lone = lone} {ds = ds} c text is =
+      let old = c.is_before.script in
+      let new = c.is_after.script in
+      let same = user_differences_are_changes old.accounts (state_before options.old_at old) new.accounts (state_before options.new_at new) c.before
+      c.after lone ds c.is_before.shows c.is_after.shows c.are in
+      let gone_or_new = lone_users_shown options.more (lone_users_of (old, new)) in
+      let changed = user_changes_shown options.more (user_changes_of options (old, new)) in
+      let whole : text ≡ user_differences_text gone_or_new changed =
+      is ∙ (λ i. user_differences_text (lone_users_shown options.more (same.0 i)) (user_changes_shown options.more (same.1 i))) in
+      record {
+        scripts = (old, new);
+        are_read = λ i. both_read (c.is_before.is_read i) (c.is_after.is_read i);
+        is_text = record {
+          is = whole;
+          none = subst (λ (t : List ℕ). (t ≡ []) ↔ ((gone_or_new ≡ []) × (changed ≡ []))) (sym whole) (no_user_text gone_or_new changed);
+        };
+      }
+
+  module _ (a b : List ℕ) where
+    -- the text of what changed for users is that of what changed, if users are asked for
+    pub of_users : options.users ≡ true → (result : Result (Vec ℕ) Fault) → ReadsUserChanges options a b result → ReadsChanges options a b result
+    of_users asked (Ok text) is = record {
+      scripts = is.scripts;
+      are_read = is.are_read;
+      is_text = subst (λ t. MatchBool t (IsTextOfUsers options is.scripts text.items) (IsTextOfProcesses options is.scripts text.items)) (sym asked)
+          is.is_text;
+    }
+    of_users asked (Err fault) is = is
+
+    -- and else that of what changed for processes
+    pub of_processes : options.users ≡ false → (result : Result (Vec ℕ) Fault) → ReadsProcessChanges options a b result
+        → ReadsChanges options a b result
+    of_processes not_asked (Ok text) is = record {
+      scripts = is.scripts;
+      are_read = is.are_read;
+      is_text = subst (λ t. MatchBool t (IsTextOfUsers options is.scripts text.items) (IsTextOfProcesses options is.scripts text.items))
+          (sym not_asked) is.is_text;
+    }
+    of_processes not_asked (Err fault) is = is
+
   -- ---- the text
 
-  module _ (a b text : List ℕ) (is : IsTextBetween options a b text) (old new : Option (List ℕ)) where
+  module _ (a b text : List ℕ) (is : IsTextBetween (IsTextOfChanges options) a b text) (old new : Option (List ℕ)) where
     -- the text was written
     pub text_written : (none : Bool) → (none ≡ true) ↔ (text ≡ []) → Appends old new text → ComparesTexts options a b old new (Ok none)
     text_written none answered written = record {

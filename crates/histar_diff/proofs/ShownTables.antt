@@ -26,6 +26,7 @@ use Rattle.histar_diff.specs.declared.table.Table.{Table}
 use Rattle.histar_diff.specs.Tables.{by_process, letters_at, letters_in, no_rights, place_of, process_in, rights_at, rights_in, row_in, user_at}
 use Rattle.histar_diff.specs.Shown.{ShowsRights, letters_of, rights_if, rights_line, rights_of, runner, user_of}
 use Rattle.histar_diff.specs.Laws.{ShownTablesRise, TablesShowRights}
+use Rattle.histar_diff.proofs.JoinedValues.{find_values, values, values_rise}
 use Rattle.histar_diff.proofs.Steps.{process_cmp_exact}
 
 -- ---- processes
@@ -76,40 +77,14 @@ module _ (accounts : Accounts) (f : Flat) (ns : List Named) where
   abbrev rights_there : Path → Node → List Rights
   rights_there q node = map (λ (n : Named). rights_by_calls accounts f n.0 n.1 q node) ns
 
-  abbrev there : Path × Node → Path × List Rights
-  there e = (e.0, rights_there e.0 e.1)
-
   rights_of_cells : (e : Path × Node) (cs : List Named) → map (λ (c : Cell). c.rights) (map (cell_at accounts f e) cs)
       ≡ map (λ (n : Named). rights_by_calls accounts f n.0 n.1 e.0 e.1) cs
   rights_of_cells e [] = refl
   rights_of_cells e (n ∷ cs) = ap (λ rs. rights_by_calls accounts f n.0 n.1 e.0 e.1 ∷ rs) (rights_of_cells e cs)
 
-  rights_lines : (es : List (Path × Node)) → map rights_line (map (line_of accounts f ns) es) ≡ map there es
+  rights_lines : (es : List (Path × Node)) → map rights_line (map (line_of accounts f ns) es) ≡ values rights_there es
   rights_lines [] = refl
   rights_lines (e ∷ es) = λ i. (e.0, rights_of_cells e ns i) ∷ rights_lines es i
-
-  below_there : (z : Path) (es : List (Path × Node)) → T (below_all path_cmp z es) → T (below_all path_cmp z (map there es))
-  below_there z [] h = tt
-  below_there z (e ∷ es) h =
-      both (is_lt (path_cmp z e.0)) _ (first (is_lt (path_cmp z e.0)) (below_all path_cmp z es) h)
-      (below_there z es (second (is_lt (path_cmp z e.0)) (below_all path_cmp z es) h))
-
-  there_rise : (es : List (Path × Node)) → T (is_sorted path_cmp es) → T (is_sorted path_cmp (map there es))
-  there_rise [] h = tt
-  there_rise (e ∷ es) h =
-      both (below_all path_cmp e.0 (map there es)) _ (below_there e.0 es (first (below_all path_cmp e.0 es) (is_sorted path_cmp es) h))
-      (there_rise es (second (below_all path_cmp e.0 es) (is_sorted path_cmp es) h))
-
-  -- the rights found at a path are the rights there
-  find_there : (q : Path) (es : List (Path × Node)) → find path_cmp q (map there es) ≡ option_map (rights_there q) (find path_cmp q es)
-  find_there q [] = refl
-  find_there q (e ∷ es) = by (eq_by_cmp path_cmp q e.0) refl (find_there q es)
-    where
-      by : (t : Bool) → eq_by_cmp path_cmp q e.0 ≡ t → find path_cmp q (map there es) ≡ option_map (rights_there q) (find path_cmp q es)
-          → cond t (Some (rights_there e.0 e.1)) (find path_cmp q (map there es))
-          ≡ option_map (rights_there q) (cond t (Some e.1) (find path_cmp q es))
-      by true t later = ap (λ k. Some (rights_there k e.1)) (sym (path_cmp_exact q e.0 (equal (path_cmp q e.0) t)))
-      by false t later = later
 
 -- a table that shows the rights after the calls of a script is in order
 pub shown_tables_rise : ShownTablesRise
@@ -118,7 +93,7 @@ shown_tables_rise accounts calls t shows =
     let ns = running_in f in
     record {
       paths = subst (λ es. T (is_sorted path_cmp es)) (sym (shows.lines
-          ∙ rights_lines accounts f ns f.files.entries)) (there_rise accounts f ns f.files.entries f.files.sorted);
+          ∙ rights_lines accounts f ns f.files.entries)) (values_rise path_cmp (rights_there accounts f ns) f.files.entries f.files.sorted);
       processes = subst (λ rs. T (is_sorted process_cmp (by_process 0 rs))) (sym shows.processes)
           (placed_rise 0 ns (running_are_listed accounts calls).rising);
     }
@@ -143,7 +118,7 @@ tables_show_rights accounts calls t shows q p =
     let ns = running_in f in
     let lines = shows.lines ∙ rights_lines accounts f ns f.files.entries in
     (λ i. rights_at (unwrap_or (find path_cmp q (lines i)) []) (place_of (find process_cmp p (by_process 0 (shows.processes i)))))
-    ∙ ap (λ o. rights_at (unwrap_or o []) (place_of (find process_cmp p (by_process 0 (map runner ns))))) (find_there accounts f ns q f.files.entries)
+    ∙ ap (λ o. rights_at (unwrap_or o []) (place_of (find process_cmp p (by_process 0 (map runner ns))))) (find_values path_cmp (rights_there accounts f ns) path_cmp_exact q f.files.entries)
     ∙ if_there accounts f q p (place_of (find process_cmp p (by_process 0 (map runner ns)))) ns (get f.files q) (running f p)
     (λ x. at_place (λ (n : Named). rights_by_calls accounts f n.0 n.1 q x) p [] 0 ns refl
     ∙ ap (of_found (λ (n : Named). rights_by_calls accounts f n.0 n.1 q x) p) ((running_are_listed accounts calls).each p))
@@ -156,7 +131,7 @@ paths_shown accounts calls t shows q r =
     let f = flat_end accounts (boot accounts) calls in
     let ns = running_in f in
     (λ i. option_map (λ row. r) (find path_cmp q ((shows.lines ∙ rights_lines accounts f ns f.files.entries) i)))
-    ∙ ap (λ o. option_map (λ row. r) o) (find_there accounts f ns q f.files.entries)
+    ∙ ap (λ o. option_map (λ row. r) o) (find_values path_cmp (rights_there accounts f ns) path_cmp_exact q f.files.entries)
     ∙ twice (get f.files q)
   where
     twice : (o : Option Node) → option_map (λ row. r)
