@@ -1,6 +1,6 @@
 //! Letters of rights that are written one after another, without those that are withheld.
-ghost use Rattle.std.specs.Prelude.{◌≡◌, ◌++◌, OnOk};
-ghost use Rattle.histar_never.specs.Letters.{after_letter, common, has_letter, letters_of, letters_text};
+ghost use Rattle.std.specs.Prelude.{◌≡◌, ◌++◌, ◌∷◌, [], OnOk};
+ghost use Rattle.histar_never.specs.Letters.{after_letter, common, has_letter, letter_if, letters_of, letters_text};
 
 use histar_lint::line_rules::begins_with;
 use histar_rights::Rights;
@@ -55,12 +55,22 @@ pub(crate) fn read_letters(text: &[u8]) -> Option<Rights>
     Some(letters)
 }
 
+/// Adds a letter, if it is there.
+fn push_letter(text: &mut Vec<u8>, is_there: bool, letter: u8) -> Result<(), AllocError>
+    ensures { OnOk result (text.new.items ≡ text.old.items ++ letter_if is_there (letter ∷ [])) }
+{
+    if is_there {
+        text.push(letter)?;
+    }
+    Ok(())
+}
+
 /// Adds the letters that are there, in the order of `srwd`.
 pub(crate) fn push_some_letters(text: &mut Vec<u8>, rights: Rights) -> Result<(), AllocError>
     ensures { OnOk result (text.new.items ≡ text.old.items ++ letters_text rights) }
 {
-    text.extend_from_slice(if rights.stat { b"s".as_slice() } else { b"".as_slice() })?;
-    text.extend_from_slice(if rights.read { b"r".as_slice() } else { b"".as_slice() })?;
-    text.extend_from_slice(if rights.write { b"w".as_slice() } else { b"".as_slice() })?;
-    text.extend_from_slice(if rights.remove { b"d".as_slice() } else { b"".as_slice() })
+    push_letter(text, rights.stat, b's')?;
+    push_letter(text, rights.read, b'r')?;
+    push_letter(text, rights.write, b'w')?;
+    push_letter(text, rights.remove, b'd')
 }

@@ -19,6 +19,7 @@ mod words;
 pub use breaches::{Breach, Holder, LateBreach, breach_text};
 pub use changing::{is_question, may_change};
 pub use claims::{Never, read_never};
-pub use faults::never_sentence;
+pub use faults::{PATH, never_sentence};
 pub use machines::breach_on;
 pub use whom::{Excepted, Whom};
+pub use words::split_at_spaces;
