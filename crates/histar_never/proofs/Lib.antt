@@ -1,1 +1,7 @@
 -- The lemmas of this crate.
+pub mod Parts
+pub mod Spelled
+pub mod BadClaims
+pub mod Questions
+pub mod Firsts
+pub mod Broken
