@@ -14,6 +14,11 @@ use Rattle.histar_flat.proofs.Finding.{equal, find_first, find_later}
 use Rattle.histar_diff.proofs.Joins.{behind, missed, rest_of}
 use Rattle.histar_never.specs.Breaches.{first_of}
 
+-- an answer, or else none
+pub or_none : {B : Type 0} (o : Option B) → option_or o None ≡ o
+or_none None = refl
+or_none (Some b) = refl
+
 -- neither of two answers is there
 pub none_both : {B : Type 0} (x y : Option B) → option_or x y ≡ None → (x ≡ None) × (y ≡ None)
 none_both None y e = (refl, e)
@@ -134,10 +139,6 @@ module _ {K X B : Type 0} (R : K → K → Ordering) (total : IsTotalOrder R) (e
     where
       later : Option B
       later = first_of (λ e. if test e.0 then answer e else None) es
-
-      or_none : (o : Option B) → option_or o None ≡ o
-      or_none None = refl
-      or_none (Some b) = refl
 
       by : (t : Bool) → eq_by_cmp R key d.0 ≡ t → (s : Bool) → test d.0 ≡ s
           → later ≡ option_and_then (λ x. answer (key, x)) (find R key es)

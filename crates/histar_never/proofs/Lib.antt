@@ -5,3 +5,5 @@ pub mod BadClaims
 pub mod Questions
 pub mod Firsts
 pub mod Broken
+pub mod Alone
+pub mod OnMachines
