@@ -32,7 +32,7 @@ use Rattle.histar_never.specs.declared.claims.Never.{Never}
 use Rattle.histar_never.specs.declared.whom.Whom.TheVariants.{OfProcess}
 use Rattle.histar_never.specs.Breaches.{breach_by, breach_of, first_of, runner_breach, user_breach}
 use Rattle.histar_never.specs.Machines.{FindsBreach, IsBreachAmong, IsBreachByAll, IsBreachByOne, IsBreachByUsers, IsBreachOf, IsUserBreach}
-use Rattle.histar_never.specs.Machines.{node_breach}
+use Rattle.histar_never.specs.Machines.{IsNodeBreach, node_breach}
 use Rattle.histar_never.specs.Whom.{is_meant_user}
 use Rattle.histar_never.proofs.Alone.{of_one}
 use Rattle.histar_never.proofs.Broken.{breach_parts}
@@ -99,18 +99,23 @@ module _ (m : MachineModel) (never : Never) where
 
   -- ---- processes
 
-  -- the breach is by the first of these processes exactly if it is by the first of those
-  pub record SameAmong (nodes rest : List ProcessNode) : Type 0 where
-    pub same : (accounts : Accounts) (f : Flat)
-        → first_of (node_breach accounts f never) nodes ≡ first_of (node_breach accounts f never) rest
+  -- the first of these processes breaks the claim
+  pub node_breaks : (nodes : List ProcessNode) (node : ProcessNode) (more : List ProcessNode) (found : Option Breach)
+      → ((accounts : Accounts) (f : Flat) → first_of (node_breach accounts f never) nodes ≡ first_of (node_breach accounts f never) (node ∷ more))
+      → IsNodeBreach m never node found → is_some found ≡ true → IsBreachAmong m never nodes found
+  node_breaks nodes node more found so_far one some accounts f shows =
+      comes_first found _ some
+      ∙ ap (λ o. option_or o (first_of (node_breach accounts f never) more)) (one accounts f shows)
+      ∙ sym (so_far accounts f)
 
   -- ---- users
 
   -- the breach is by the first of these users exactly if it is by the first of those
-  pub record SameByUsers (users rest : List User) : Type 0 where
-    pub same : (accounts : Accounts) (f : Flat) → Shows accounts m f
-        → first_of (user_breach accounts f never) (map (λ (u : User). u.name) users)
-        ≡ first_of (user_breach accounts f never) (map (λ (u : User). u.name) rest)
+  abbrev pub SameByUsers : List User → List User → Type 0
+  SameByUsers users rest =
+      (accounts : Accounts) (f : Flat) → Shows accounts m f
+      → first_of (user_breach accounts f never) (map (λ (u : User). u.name) users)
+      ≡ first_of (user_breach accounts f never) (map (λ (u : User). u.name) rest)
 
   -- the users from a place on are the one there, and those from the next place on
   from_place : (users : List User) (place : ℕ) (name : Name) → slice_get users place ≡ Some (called name)
@@ -125,7 +130,7 @@ module _ (m : MachineModel) (never : Never) where
         → first_of (user_breach accounts f never) (map (λ (u : User). u.name) users)
         ≡ option_or found (first_of (user_breach accounts f never) (map (λ (u : User). u.name) (drop (place + 1) users)))
     first_here accounts f shows =
-        so_far.same accounts f shows
+        so_far accounts f shows
         ∙ ap (λ us. first_of (user_breach accounts f never) (map (λ (u : User). u.name) us)) (from_place users place name is)
         ∙ ap (λ o. option_or o (first_of (user_breach accounts f never) (map (λ (u : User). u.name) (drop (place + 1) users))))
         (sym (one accounts f shows))
@@ -136,7 +141,7 @@ module _ (m : MachineModel) (never : Never) where
 
     -- it doesn't, so that the others are looked at
     pub user_keeps : is_some found ≡ false → SameByUsers users (drop (place + 1) users)
-    user_keeps none = record { same = λ accounts f shows. first_here accounts f shows ∙ sym (comes_next found _ none) }
+    user_keeps none accounts f shows = first_here accounts f shows ∙ sym (comes_next found _ none)
 
   -- the breach by nobody, or else by one of the users
   pub nobody_first : (users : List Name) (found : Option Breach) → IsUserBreach m never nobody found → is_some found ≡ true
