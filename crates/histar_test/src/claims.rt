@@ -12,7 +12,7 @@ ghost use Rattle.histar_test.specs.Checks.{names_text};
 ghost use Rattle.histar_test.specs.Running.{AsksMachine, ShowsTrusted, ShowsTrustedAt, shown_trusted};
 ghost use Rattle.histar_test.specs.Steps.{are_processes, claim_of, claimed_of, is_process_word};
 
-use crate::checks::{Check, Made};
+use crate::checks::{Check, Made, Wanted};
 use histar_base::Bytes;
 use histar_flat::{Group, Name, OwnedPath, Path, ProcName, read_path, read_process};
 use histar_label::InternStore;
@@ -143,7 +143,7 @@ pub(crate) fn ask_trusted(
     };
     Ok(Check {
         made,
-        wanted: Some(wanted),
+        wanted: Wanted::Text(wanted),
     })
 }
 
