@@ -14,14 +14,10 @@ use crate::steps::{expectation_of, forbidden_of};
 use histar_flat::{Accounts, read_path, read_process};
 use histar_lint::copied;
 use histar_lint::line_rules::rest_of;
-use histar_never::never_sentence;
+use histar_never::{PATH, never_sentence};
 use histar_rights::read_rights;
 use histar_script::{Fault, Item, read_item, read_script, split_line, split_word};
 use std::alloc::{AllocError, Global};
-
-/// What a path has to be.
-const PATH: &str =
-    "a path is / or up to 8 names, each behind a slash and of 1 to 32 of a-z, 0-9, dot, underscore and hyphen";
 
 /// What a process has to be.
 const PROCESS: &str =
