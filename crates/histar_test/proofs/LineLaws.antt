@@ -140,19 +140,20 @@ module _ (is : List ℕ → Bool) (n : ℕ) (line : List ℕ) (lines : List (Lis
 
 -- ---- lines with claims `#never`
 
--- a claim `#never` is no question, no claim on trust and no expectation
+-- the line has no question, no claim on trust and no expectation
+abbrev IsAlone : List ℕ → Type 0
+IsAlone line = (asked_of line ≡ None) × (expectation_of line ≡ None)
+
+-- a claim `#never` has none of them
 pub forbids_alone : (line c : List ℕ) → forbidden_of line ≡ Some c → (asked_of line ≡ None) × (expectation_of line ≡ None)
 forbids_alone line c is = by (bytes_eq (take 7 line) (codes "#never ")) (bytes_eq line (codes "#never")) refl refl
   where
-    Alone : List ℕ → Type 0
-    Alone l = (asked_of l ≡ None) × (expectation_of l ≡ None)
-
-    by : (a b : Bool) → bytes_eq (take 7 line) (codes "#never ") ≡ a → bytes_eq line (codes "#never") ≡ b → Alone line
+    by : (a b : Bool) → bytes_eq (take 7 line) (codes "#never ") ≡ a → bytes_eq line (codes "#never") ≡ b → IsAlone line
     by true b first whole =
         let parts : codes "#never " ++ drop 7 line ≡ line =
         ap (λ (front : List ℕ). front ++ drop 7 line) (sym ((bytes_eq-Decides (take 7 line) (codes "#never ")).0 first)) ∙ take-append-drop 7 line in
-        subst Alone parts (refl, refl)
-    by false true first whole = subst Alone (sym ((bytes_eq-Decides line (codes "#never")).0 whole)) (refl, refl)
+        subst IsAlone parts (refl, refl)
+    by false true first whole = subst IsAlone (sym ((bytes_eq-Decides line (codes "#never")).0 whole)) (refl, refl)
     by false false first whole =
         let none : forbidden_of line ≡ None =
         ap₂ (λ (a b : Bool). let claim : Option (List ℕ) = if a || b then Some (drop 1 line) else None in claim) first whole in
@@ -199,7 +200,7 @@ module _ (script : ScriptModel) where
         → HasLast calls last → AreOfLines (n + 1) lines calls last rest
 
     -- a step of the line that is no claim `#never`
-    abbrev own : (step : Option Step) → step_of script.accounts n line ≡ Ok step → nevers_by step ≡ []
+    own : (step : Option Step) → step_of script.accounts n line ≡ Ok step → nevers_by step ≡ []
         → (forbidden_of line ≡ None) × (step_by n line (asked_of line) (expectation_of line) (call_in n (item_of line)) ≡ Ok step)
     own step is none = no_claim script.accounts n (forbidden_of line) _ step is none
 

@@ -46,6 +46,10 @@ pub record IsWatched (accounts : Accounts) (f : Flat) (w : Watched) : Type 0 whe
   pub shows : ShowsReached accounts w.machine f
   pub up_to_date : w.has_called ≡ true → AreUpToDate accounts f w.watches.items
 
+-- the machine represents some flat state in this way
+abbrev pub HasWatched : Watched → Type 0
+HasWatched w = (accounts : Accounts) × (f : Flat) × IsWatched accounts f w
+
 -- a call was made from a flat state: its reply is that of the flat rules, and each claim that it broke first is known
 pub record IsMade (accounts : Accounts) (f : Flat) (old new : Watched) (call : CallLine) (said : List ℕ) (made : Made) : Type 0 where
   pub watched : IsWatched accounts (flat_after accounts f call.process call.call) new

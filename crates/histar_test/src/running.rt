@@ -5,10 +5,10 @@ ghost use Rattle.histar_io.specs.Device.{CountsFailure};
 ghost use Rattle.histar_io.specs.Writing.{AppendsFront};
 ghost use Rattle.histar_script.specs.Runs.{IsOutputFault, is_write_failed};
 ghost use Rattle.histar_script.specs.Script.{IsDeclared};
-ghost use Rattle.histar_trust.specs.Findings.{HasState};
 ghost use Rattle.histar_test.specs.Checks.{check_text};
 ghost use Rattle.histar_test.specs.Running.{BeginsStep, BeginsSteps, BeginsTest, Calls, Closes, CountsCheck, CountsClaims};
 ghost use Rattle.histar_test.specs.Running.{IsMemory, RunsTest, Starts, TakesStep, TakesSteps, WritesStep, claims_text, close_text};
+ghost use Rattle.histar_test.specs.Watching.{HasWatched};
 
 use crate::asking::{Asking, ask};
 use crate::checks::{Check, Made, Wanted, check_text, unexpected};
@@ -97,7 +97,7 @@ impl Run {
 
     /// Makes a call on the machine; it is then the last one.
     fn make_call(&mut self, alloc: Global, call: CallLine, said: Bytes) -> Result<(), Fault>
-        requires { HasState self.old.watched.machine }
+        requires { HasWatched self.old.watched }
         ensures ok { OnOk result (Calls self.old self.new call said) }
         ensures faults { IfErr result IsMemory }
     {
@@ -162,7 +162,7 @@ impl Run {
         said: Bytes,
         writer: &mut W,
     ) -> Result<(), Fault>
-        requires { HasState self.old.watched.machine }
+        requires { HasWatched self.old.watched }
         ensures ok { OnOk result (TakesStep self.old self.new (Step.Makes call said)) }
         ensures written { OnOk result (WritesStep file.now self.old (Step.Makes call said)
             (W.written writer.old) (W.written writer.new)) }
@@ -211,7 +211,7 @@ impl Run {
         asking: Asking,
         writer: &mut W,
     ) -> Result<(), Fault>
-        requires { HasState self.old.watched.machine }
+        requires { HasWatched self.old.watched }
         ensures ok { OnOk result (TakesStep self.old self.new (Step.Asks asking)) }
         ensures written { OnOk result (WritesStep file.now self.old (Step.Asks asking)
             (W.written writer.old) (W.written writer.new)) }
@@ -233,7 +233,7 @@ impl Run {
         step: Step,
         writer: &mut W,
     ) -> Result<(), Fault>
-        requires { HasState self.old.watched.machine }
+        requires { HasWatched self.old.watched }
         ensures ok { OnOk result (TakesStep self.old self.new step) }
         ensures written { OnOk result (WritesStep file.now self.old step
             (W.written writer.old) (W.written writer.new)) }
@@ -260,7 +260,7 @@ impl Run {
         steps: Vec<Step>,
         writer: &mut W,
     ) -> Result<(), Fault>
-        requires { HasState self.old.watched.machine }
+        requires { HasWatched self.old.watched }
         ensures ok { OnOk result (TakesSteps file.now self.old self.new steps.items
             (W.written writer.old) (W.written writer.new)) }
         ensures err { OnErr result (BeginsSteps file.now self.old steps.items
@@ -307,7 +307,7 @@ impl Run {
         steps: Vec<Step>,
         writer: &mut W,
     ) -> Result<(), Fault>
-        requires { HasState self.old.watched.machine }
+        requires { HasWatched self.old.watched }
         ensures ok { OnOk result (RunsTest file.now self.old self.new steps.items
             (W.written writer.old) (W.written writer.new)) }
         ensures err { OnErr result (BeginsTest file.now self.old steps.items

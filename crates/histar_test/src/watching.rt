@@ -3,10 +3,9 @@ ghost use Rattle.std.specs.Prelude.{◌≡◌, IfErr, IfOk, OnOk};
 ghost use Rattle.histar_flat.specs.Texts.{reply_text};
 ghost use Rattle.histar_prefix.specs.Listing.{HasProcesses};
 ghost use Rattle.histar_reasons.specs.Laws.{is_refusal};
-ghost use Rattle.histar_trust.specs.Findings.{HasState};
 ghost use Rattle.histar_test.specs.Checks.{found_text};
 ghost use Rattle.histar_test.specs.Running.{AreSplit, AreSplitWith, IsMemory};
-ghost use Rattle.histar_test.specs.Watching.{Looks, LooksAt, LooksAtAll, MakesCall, watch_check};
+ghost use Rattle.histar_test.specs.Watching.{HasWatched, Looks, LooksAt, LooksAtAll, MakesCall, watch_check};
 
 use crate::checks::{Check, Made, Wanted};
 use crate::steps::Step;
@@ -64,7 +63,7 @@ impl Watched {
         call: CallLine,
         said: Bytes,
     ) -> Result<Made, Fault>
-        requires { HasState self.old.machine }
+        requires { HasWatched self.old }
         ensures ok { IfOk result (MakesCall self.old self.new call said) }
         ensures faults { IfErr result IsMemory }
     {
