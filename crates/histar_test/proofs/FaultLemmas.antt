@@ -16,7 +16,7 @@ use Rattle.histar_lint.specs.Lines.{after_word, first_sentence, rest_of, word_of
 use Rattle.histar_never.specs.declared.claims.Never.{Never}
 use Rattle.histar_never.specs.Claims.{never_of}
 use Rattle.histar_never.specs.Faults.{never_rules}
-use Rattle.histar_never.proofs.NEVERFAULTS.{bad_claims_have_sentences}
+use Rattle.histar_never.proofs.BadClaims.{bad_claims_have_sentences}
 use Rattle.histar_test.specs.declared.asking.Asking.TheVariants.{OfRights, OfTrust}
 use Rattle.histar_test.specs.declared.claims.Claim.{Claim}
 use Rattle.histar_test.specs.declared.questions.Question.{Question}

@@ -16,7 +16,7 @@ use Rattle.histar_never.specs.declared.claims.Never.{Never}
 use Rattle.histar_never.specs.declared.breaches.LateBreach.{LateBreach}
 use Rattle.histar_never.specs.Breaches.{breach_text, first_breach}
 use Rattle.histar_never.specs.Laws.{IsNever}
-use Rattle.histar_never.proofs.NEVERLAWS.{claims_are_never_broken}
+use Rattle.histar_never.proofs.Broken.{claims_are_never_broken}
 use Rattle.histar_test.specs.declared.checks.Check.{Check}
 use Rattle.histar_test.specs.declared.checks.Made.{Made}
 use Rattle.histar_test.specs.declared.checks.Wanted.TheVariants.{NoRefusal}

@@ -25,7 +25,7 @@ use Rattle.histar_never.specs.declared.breaches.LateBreach.{LateBreach}
 use Rattle.histar_never.specs.declared.claims.Never.{Never}
 use Rattle.histar_never.specs.Breaches.{breach_in, first_breach, late}
 use Rattle.histar_never.specs.Changing.{may_change}
-use Rattle.histar_never.proofs.NEVERCHANGES.{others_change_nothing}
+use Rattle.histar_never.proofs.Questions.{others_change_nothing}
 use Rattle.histar_test.specs.declared.checks.Made.{Made}
 use Rattle.histar_test.specs.declared.watching.Watch.{Watch}
 use Rattle.histar_test.specs.declared.watching.Watched.{Watched}
