@@ -9,7 +9,7 @@ use Rattle.histar_test.specs.declared.checks.Check.{Check}
 use Rattle.histar_test.specs.declared.checks.Made.{Made}
 use Rattle.histar_test.specs.declared.running.Tally.{Tally}
 use Rattle.histar_test.specs.declared.steps.Step.{Step}
-use Rattle.histar_test.specs.declared.steps.Step.TheVariants.{Makes, Expects, Asks}
+use Rattle.histar_test.specs.declared.steps.Step.TheVariants.{Makes, Expects, Asks, Forbids}
 use Rattle.histar_test.specs.Checks.{check_text, checks_from, checks_text, is_met}
 use Rattle.histar_test.specs.Running.{check_at, flat_at, last_at, tally_with}
 
@@ -54,3 +54,4 @@ check_first strict accounts f last (Makes c said) later = refl
 check_first strict accounts f None (Expects text) later = refl
 check_first strict accounts f (Some made) (Expects text) later = refl
 check_first strict accounts f last (Asks q) later = refl
+check_first strict accounts f last (Forbids q) later = refl

@@ -2,9 +2,10 @@
 use Rattle.std.proofs.Common.{◌≡◌, ℕ, Bool, true, false, cond, List, [], ◌∷◌, take, drop, length, map, Option, Some, None}
 use Rattle.std.proofs.Common.{◌&&◌, codes, not, refl, sym, ap, ◌∙◌, arith}
 use Rattle.std.proofs.lemmas.Bool.Decides.{nat_tests}
-use Rattle.std.specs.Prelude.{◌-◌, ◌==◌, is_none, is_some, option_and_then, option_map, unwrap_or, if◌then◌else◌}
+use Rattle.std.specs.Prelude.{◌-◌, ◌==◌, ◌↔◌, is_none, is_some, option_and_then, option_map, unwrap_or, if◌then◌else◌}
 use Rattle.std.specs.List.{list_all, slice_split}
 use Rattle.std.specs.Str.{bytes_eq}
+use Rattle.histar_flat.specs.Accounts.{Accounts}
 use Rattle.histar_flat.specs.Words.{Path, ProcName, path_of, process_of, split_at_first}
 use Rattle.histar_rights.specs.declared.rights.Rights.{Rights}
 use Rattle.histar_rights.specs.Rights.{rights_spelled, rights_text}
@@ -12,6 +13,10 @@ use Rattle.histar_rights.proofs.Spelling.{letters_spell_rights}
 use Rattle.histar_lint.specs.declared.shapes.Kind.TheVariants.{Path as APath, Process}
 use Rattle.histar_lint.specs.Calls.{kind_text}
 use Rattle.histar_lint.specs.Lines.{after_word, first_sentence, rest_of, word_of}
+use Rattle.histar_never.specs.declared.claims.Never.{Never}
+use Rattle.histar_never.specs.Claims.{never_of}
+use Rattle.histar_never.specs.Faults.{never_rules}
+use Rattle.histar_never.proofs.BadClaims.{bad_claims_have_sentences}
 use Rattle.histar_test.specs.declared.asking.Asking.TheVariants.{OfRights, OfTrust}
 use Rattle.histar_test.specs.declared.claims.Claim.{Claim}
 use Rattle.histar_test.specs.declared.questions.Question.{Question}
@@ -207,3 +212,18 @@ asked_judged n text = by (bytes_eq (take 2 text) (codes "! "))
         ≡ is_some (if asks then option_map OfRights (question_of n (drop 2 text)) else option_map OfTrust (claim_of n text))
     by true = question_judged n (drop 2 text) ∙ same_some OfRights (question_of n (drop 2 text))
     by false = claim_judged n text ∙ same_some OfTrust (claim_of n text)
+
+-- ---- a claim `#never`
+
+-- a sentence is there exactly if a claim isn't
+judged_by : (o : Option Never) (said : Option (List ℕ)) → (o ≡ None) ↔ (is_some said ≡ true) → is_none said ≡ is_some o
+judged_by None None law = let e = law.0 refl in absurd cc
+judged_by None (Some text) law = refl
+judged_by (Some q) None law = refl
+judged_by (Some q) (Some text) law = let e = law.1 refl in absurd cc
+
+-- a claim that can be read keeps its rules, and any other breaks one
+pub never_judged : (accounts : Accounts) (n : ℕ) (text : List ℕ)
+    → is_none (first_sentence (never_rules accounts text)) ≡ is_some (never_of accounts n text)
+never_judged accounts n text =
+    judged_by (never_of accounts n text) (first_sentence (never_rules accounts text)) (bad_claims_have_sentences accounts n text)

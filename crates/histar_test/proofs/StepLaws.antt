@@ -1,9 +1,10 @@
 -- The calls and the expectations of a test are those of its lines.
 use Rattle.std.proofs.Common.{◌≡◌, ℕ, ◌+◌, Bool, true, false, List, [], ◌∷◌, ◌++◌, take, drop, length, Option, Some, None, Result, Ok, Err}
-use Rattle.std.proofs.Common.{◌&&◌, ◌||◌, refl, sym, ap, ◌∙◌, append-nil, append_assoc, arith}
+use Rattle.std.proofs.Common.{◌&&◌, ◌||◌, refl, sym, ap, ◌∙◌, append-nil, append_assoc, arith, length-append}
 use Rattle.std.specs.Prelude.{codes, is_some, option_to_list, if◌then◌else◌, ◌==◌}
 use Rattle.std.specs.Option.{option_and_then}
 use Rattle.std.specs.Str.{bytes_eq}
+use Rattle.std.proofs.lemmas.List.{length-map}
 use Rattle.std.proofs.lemmas.List.Elements.{filter_map-append}
 use Rattle.std.proofs.lemmas.List.Sums.{sum_by-append}
 use Rattle.histar_flat.specs.declared.calls.CallLine.{CallLine}
@@ -21,14 +22,17 @@ use Rattle.histar_script.specs.Lines.{is_plain, is_too_long, lines_of}
 use Rattle.histar_script.specs.Reading.{is_empty, item_of, reading, script_of, takes_call, takes_group, takes_user}
 use Rattle.histar_script.specs.Reading.{with_item, with_line, with_lines, words_item}
 use Rattle.histar_script.specs.Script.{ScriptModel, nothing_read}
+use Rattle.histar_never.specs.declared.claims.Never.{Never}
+use Rattle.histar_never.specs.Claims.{never_of}
 use Rattle.histar_test.specs.declared.checks.Made.{Made}
 use Rattle.histar_test.specs.declared.asking.Asking.{Asking}
 use Rattle.histar_test.specs.declared.steps.Step.{Step}
-use Rattle.histar_test.specs.declared.steps.Step.TheVariants.{Makes, Expects, Asks}
-use Rattle.histar_test.specs.Checks.{checks_from, checks_of, made_of}
+use Rattle.histar_test.specs.declared.steps.Step.TheVariants.{Makes, Expects, Asks, Forbids}
+use Rattle.histar_test.specs.Checks.{checks_from, checks_of, made_of, never_check, never_checks}
 use Rattle.histar_test.specs.Laws.{TestsMakeTheCalls}
 use Rattle.histar_test.specs.Steps.{Test, asked_of, asking_of, asking_step, call_in, call_of_step, calls_in, expectation_count, expectation_of}
-use Rattle.histar_test.specs.Steps.{open_after, step_by, step_of, step_then, steps_before, steps_by, steps_from, test_by, test_of}
+use Rattle.histar_test.specs.Steps.{forbidden_of, never_of_step, never_step, nevers_in, open_after, step_by, step_of, step_or, step_then}
+use Rattle.histar_test.specs.Steps.{steps_before, steps_by, steps_from, test_by, test_of, test_with}
 use Rattle.histar_test.proofs.StepLemmas.{Read, by_step}
 
 -- ---- the step of a line, and the line
@@ -72,6 +76,50 @@ rights_wanted n line None (Some text) call q e = absurd cc
 rights_wanted n line None None (Some d) q e = absurd cc
 rights_wanted n line None None None q e = absurd cc
 
+-- ---- claims `#never`
+
+-- the claim `#never` of a step, if it is one
+abbrev pub nevers_by : Option Step → List Never
+nevers_by step = nevers_in (option_to_list step)
+
+-- the claims of a step and of those after it
+pub nevers_on : (step : Option Step) (rest : List Step) → nevers_in (option_to_list step ++ rest) ≡ nevers_by step ++ nevers_in rest
+nevers_on step rest = filter_map-append never_of_step (option_to_list step) rest
+
+-- the step of a line with a claim is that one
+claims_alone : (n : ℕ) (o : Option Never) (step : Option Step) → never_step n o ≡ Ok step → (q : Never) × (step ≡ Some (Forbids q)) × (o ≡ Some q)
+claims_alone n (Some q) step e = (q, cc, refl)
+claims_alone n None step e = absurd cc
+
+-- a line whose step is no claim has none
+pub no_claim : (accounts : Accounts) (n : ℕ) (claim : Option (List ℕ)) (other : Result (Option Step) ℕ) (step : Option Step)
+    → step_or accounts n claim other ≡ Ok step → nevers_by step ≡ [] → (claim ≡ None) × (other ≡ Ok step)
+no_claim accounts n (Some text) other step e none =
+    let alone = claims_alone n (never_of accounts n text) step e in
+    let same : alone.0 ∷ [] ≡ [] = sym (ap nevers_by alone.1) ∙ none in
+    absurd cc
+no_claim accounts n None other step e none = (refl, e)
+
+-- a line without a claim has no claim as its step
+none_forbidden : (n : ℕ) (line : List ℕ) (asked text : Option (List ℕ)) (call : Option CallLine) (step : Option Step)
+    → step_by n line asked text call ≡ Ok step → nevers_by step ≡ []
+none_forbidden n line (Some a) text call step e = let alone = asks_alone n (asking_of n a) step e in ap nevers_by alone.1
+none_forbidden n line None (Some text) call step e = let same : step ≡ Some (Expects text) = cc in ap nevers_by same
+none_forbidden n line None None (Some c) step e = let same : step ≡ Some (Makes c line) = cc in ap nevers_by same
+none_forbidden n line None None None step e = let same : step ≡ None = cc in ap nevers_by same
+
+-- the claim of a step is on its line
+pub claim_wanted : (accounts : Accounts) (n : ℕ) (line : List ℕ) (claim asked text : Option (List ℕ)) (call : Option CallLine) (q : Never)
+    → step_or accounts n claim (step_by n line asked text call) ≡ Ok (Some (Forbids q))
+    → (c : List ℕ) × (claim ≡ Some c) × (never_of accounts n c ≡ Some q)
+claim_wanted accounts n line (Some c) asked text call q e =
+    let alone = claims_alone n (never_of accounts n c) (Some (Forbids q)) e in
+    let same : alone.0 ≡ q = cc in
+    (c, refl, alone.2 ∙ ap (λ (x : Never). Some x) same)
+claim_wanted accounts n line None asked text call q e =
+    let none : q ∷ [] ≡ [] = none_forbidden n line asked text call (Some (Forbids q)) e in
+    absurd cc
+
 -- ---- the steps of lines, one line after another
 
 -- a step that may be there, and the steps of the lines after it
@@ -86,34 +134,35 @@ OpensTo is_open None opened = opened ≡ is_open
 OpensTo is_open (Some step) opened = open_after is_open step ≡ Some opened
 
 -- The steps of lines are the step of the first, if it is one, and then those of the others.
-pub record IsOn (n : ℕ) (is_open : Bool) (line : List ℕ) (lines : List (List ℕ)) (steps : List Step) : Type 0 where
+pub record IsOn (accounts : Accounts) (n : ℕ) (is_open : Bool) (line : List ℕ) (lines : List (List ℕ)) (steps : List Step) : Type 0 where
   pub step : Option Step
-  pub is_step : step_of n line ≡ Ok step
+  pub is_step : step_of accounts n line ≡ Ok step
   pub opened : Bool
   pub opens : OpensTo is_open step opened
   pub rest : List Step
-  pub is_rest : steps_from (n + 1) opened lines ≡ Ok rest
+  pub is_rest : steps_from accounts (n + 1) opened lines ≡ Ok rest
   pub parts : steps ≡ option_to_list step ++ rest
 
-module _ (n : ℕ) (is_open : Bool) (line : List ℕ) (lines : List (List ℕ)) (steps : List Step) where
+module _ (accounts : Accounts) (n : ℕ) (is_open : Bool) (line : List ℕ) (lines : List (List ℕ)) (steps : List Step) where
   -- the case that the first line has this step
-  on_step : (step : Step) → step_of n line ≡ Ok (Some step) → (o : Option Bool) → open_after is_open step ≡ o
-      → step_then n step o (λ opened. steps_from (n + 1) opened lines) ≡ Ok steps → IsOn n is_open line lines steps
+  on_step : (step : Step) → step_of accounts n line ≡ Ok (Some step) → (o : Option Bool) → open_after is_open step ≡ o
+      → step_then n step o (λ opened. steps_from accounts (n + 1) opened lines) ≡ Ok steps → IsOn accounts n is_open line lines steps
   on_step step is None opens read = absurd cc
   on_step step is (Some opened) opens read =
-      let on = read_on step (steps_from (n + 1) opened lines) steps read in
+      let on = read_on step (steps_from accounts (n + 1) opened lines) steps read in
       record { step = Some step; is_step = is; opened = opened; opens = opens; rest = on.0; is_rest = on.1; parts = on.2 }
 
   -- the case of any step of the first line, or none
-  by_read : (step : Result (Option Step) ℕ) → step_of n line ≡ step
-      → steps_by n is_open step (λ opened. steps_from (n + 1) opened lines) ≡ Ok steps → IsOn n is_open line lines steps
+  by_read : (step : Result (Option Step) ℕ) → step_of accounts n line ≡ step
+      → steps_by n is_open step (λ opened. steps_from accounts (n + 1) opened lines) ≡ Ok steps → IsOn accounts n is_open line lines steps
   by_read (Err m) is read = absurd cc
   by_read (Ok None) is read = record { step = None; is_step = is; opened = is_open; opens = refl; rest = steps; is_rest = read; parts = refl }
   by_read (Ok (Some step)) is read = on_step step is (open_after is_open step) refl read
 
   -- the steps of lines have this form
-  pub on_line : steps_from n is_open (line ∷ lines) ≡ Ok steps → IsOn n is_open line lines steps
-  on_line read = by_read (step_of n line) refl (sym (by_step n is_open line lines (step_of n line) refl) ∙ read)
+  pub on_line : steps_from accounts n is_open (line ∷ lines) ≡ Ok steps → IsOn accounts n is_open line lines steps
+  on_line read =
+      by_read (step_of accounts n line) refl (sym (by_step accounts n is_open line lines (step_of accounts n line) refl) ∙ read)
 
 -- ---- how many checks there are
 
@@ -126,9 +175,9 @@ is_in_order is_open (step ∷ steps) = elim (open_after is_open step) [ None ↦
 counted_on : (step : Step) (rest : List Step) → expectation_count (step ∷ rest) ≡ expectation_count (step ∷ []) + expectation_count rest
 counted_on step rest = sum_by-append _ (step ∷ []) rest
 
--- steps in their order have a check for each expectation
+-- steps in their order have a check for each expectation, but for the claims `#never`
 pub steps_counted : (accounts : Accounts) (f : Flat) (last : Option Made) (steps : List Step) → is_in_order (is_some last) steps ≡ true
-    → length (checks_from false accounts f last steps) ≡ expectation_count steps
+    → length (checks_from false accounts f last steps) + length (nevers_in steps) ≡ expectation_count steps
 steps_counted accounts f last [] ordered = refl
 steps_counted accounts f last (Makes c said ∷ steps) ordered =
     let on = steps_counted accounts (flat_after accounts f c.process c.call) (Some (made_of accounts f c said)) steps ordered in
@@ -143,6 +192,10 @@ steps_counted accounts f last (Asks q ∷ steps) ordered =
     let on = steps_counted accounts f last steps ordered in
     let one : expectation_count (Asks q ∷ steps) ≡ 1 + expectation_count steps = counted_on (Asks q) steps ∙ omega arith in
     omega (arith, on, one)
+steps_counted accounts f last (Forbids q ∷ steps) ordered =
+    let on = steps_counted accounts f last steps ordered in
+    let one : expectation_count (Forbids q ∷ steps) ≡ 1 + expectation_count steps = counted_on (Forbids q) steps ∙ omega arith in
+    omega (arith, on, one)
 
 -- a step that opens or closes the call, and steps in their order after it
 ordered_on : (is_open opened : Bool) (step : Option Step) (rest : List Step) → OpensTo is_open step opened → is_in_order opened rest ≡ true
@@ -152,14 +205,14 @@ ordered_on is_open opened (Some step) rest opens ordered =
     ap (λ (o : Option Bool). elim o [ None ↦ false | Some b ↦ is_in_order b rest ]) opens ∙ ordered
 
 -- the steps of lines are in their order
-in_order : (n : ℕ) (is_open : Bool) (lines : List (List ℕ)) (steps : List Step) → steps_from n is_open lines ≡ Ok steps
+in_order : (accounts : Accounts) (n : ℕ) (is_open : Bool) (lines : List (List ℕ)) (steps : List Step) → steps_from accounts n is_open lines ≡ Ok steps
     → is_in_order is_open steps ≡ true
 unfolding steps_from
-in_order n is_open [] steps read = let none : steps ≡ [] = cc in ap (is_in_order is_open) none
-in_order n is_open (line ∷ lines) steps read =
-    let on = on_line n is_open line lines steps read in
+in_order accounts n is_open [] steps read = let none : steps ≡ [] = cc in ap (is_in_order is_open) none
+in_order accounts n is_open (line ∷ lines) steps read =
+    let on = on_line accounts n is_open line lines steps read in
     ap (is_in_order is_open) on.parts
-    ∙ ordered_on is_open on.opened on.step on.rest on.opens (in_order (n + 1) on.opened lines on.rest on.is_rest)
+    ∙ ordered_on is_open on.opened on.step on.rest on.opens (in_order accounts (n + 1) on.opened lines on.rest on.is_rest)
 
 -- ---- the calls
 
@@ -188,6 +241,13 @@ call_says (b ∷ bs) p c is = by (b == 35) (is_plain (b ∷ bs)) is
     by true true i = absurd cc
     by true false i = absurd cc
     by false plain i = refl
+
+-- a line that is no comment has no claim
+pub no_claim_there : (line : List ℕ) → is_comment line ≡ false → forbidden_of line ≡ None
+no_claim_there [] is = refl
+no_claim_there (b ∷ bs) is =
+    ap (λ (hash : Bool).
+    if (hash && bytes_eq (take 6 bs) (codes "never ")) || (hash && bytes_eq bs (codes "never")) then Some bs else None) is
 
 -- a line that is no comment has no question and no expectation
 pub no_comment : (line : List ℕ) → is_comment line ≡ false → (asked_of line ≡ None) × (expectation_of line ≡ None)
@@ -225,34 +285,58 @@ is_read false t u e = absurd cc
 same_left : (s t : ScriptModel) (calls : List CallLine) → t.calls ≡ s.calls → calls ≡ [] → t.calls ≡ s.calls ++ calls
 same_left s t calls same none = same ∙ sym (append-nil s.calls) ∙ ap (λ (cs : List CallLine). s.calls ++ cs) (sym none)
 
--- the calls after a line that says an item
-calls_at_item : (s t : ScriptModel) (n : ℕ) (line : List ℕ) (item : Item) (step : Option Step)
-    → item_of line ≡ Some item → with_item s n item ≡ Some t
-    → step_by n line (asked_of line) (expectation_of line) (call_in n (Some item)) ≡ Ok step → t.calls ≡ s.calls ++ calls_by step
-unfolding with_item
-calls_at_item s t n line items.Comment step says reads is =
-    let same : t ≡ s = cc in
-    same_left s t (calls_by step) (ap (λ (r : ScriptModel). r.calls) same) (no_call n line (asked_of line) (expectation_of line) step is)
-calls_at_item s t n line (items.User u) step says reads is =
-    same_left s t (calls_by step) (ap (λ (r : ScriptModel). r.calls) (is_read (takes_user s u) _ t reads))
-    (no_call n line (asked_of line) (expectation_of line) step is)
-calls_at_item s t n line (items.Group g) step says reads is =
-    same_left s t (calls_by step) (ap (λ (r : ScriptModel). r.calls) (is_read (takes_group s g) _ t reads))
-    (no_call n line (asked_of line) (expectation_of line) step is)
-calls_at_item s t n line (items.Call p c) step says reads is =
-    let same = is_read (takes_call s c) _ t reads in
-    let plain = no_comment line (call_says line p c says) in
-    let call : CallLine = record { line = n; process = p; call = c } in
-    ap (λ (r : ScriptModel). r.calls) same
-    ∙ ap (λ (cs : List CallLine). s.calls ++ cs) (sym (own_call n line (asked_of line) (expectation_of line) call step plain.0 plain.1 is))
+-- a line with a claim makes no call
+no_call_claimed : (n : ℕ) (o : Option Never) (step : Option Step) → never_step n o ≡ Ok step → calls_by step ≡ []
+no_call_claimed n o step e = let alone = claims_alone n o step e in ap calls_by alone.1
 
--- the calls after a line
-calls_at : (s t : ScriptModel) (n : ℕ) (line : List ℕ) (item : Option Item) (step : Option Step) → item_of line ≡ item
-    → option_and_then (λ i. with_item s n i) item ≡ Some t → step_of n line ≡ Ok step → t.calls ≡ s.calls ++ calls_by step
-calls_at s t n line None step says reads is = absurd cc
-calls_at s t n line (Some item) step says reads is =
-    calls_at_item s t n line item step says reads
-    (sym (ap (λ (i : Option Item). step_by n line (asked_of line) (expectation_of line) (call_in n i)) says) ∙ is)
+-- a line with a claim, a question or an expectation makes no call
+no_call_there : (accounts : Accounts) (n : ℕ) (line : List ℕ) (claim asked text : Option (List ℕ)) (step : Option Step)
+    → step_or accounts n claim (step_by n line asked text None) ≡ Ok step → calls_by step ≡ []
+no_call_there accounts n line (Some c) asked text step e = no_call_claimed n (never_of accounts n c) step e
+no_call_there accounts n line None asked text step e = no_call n line asked text step e
+
+-- the call of a line without a claim
+call_there : (accounts : Accounts) (n : ℕ) (claim : Option (List ℕ)) (other : Result (Option Step) ℕ) (step : Option Step) → claim ≡ None
+    → step_or accounts n claim other ≡ Ok step → other ≡ Ok step
+call_there accounts n (Some c) other step none e = absurd cc
+call_there accounts n None other step none e = e
+
+module _ (accounts : Accounts) (s t : ScriptModel) (n : ℕ) (line : List ℕ) where
+  -- the step of the line, by its item
+  abbrev HasStep : Option Item → Option Step → Type 0
+  HasStep item step =
+      step_or accounts n (forbidden_of line) (step_by n line (asked_of line) (expectation_of line) (call_in n item)) ≡ Ok step
+
+  -- the calls after a line that says an item
+  calls_at_item : (item : Item) (step : Option Step) → item_of line ≡ Some item → with_item s n item ≡ Some t → HasStep (Some item) step
+      → t.calls ≡ s.calls ++ calls_by step
+  unfolding with_item
+  calls_at_item items.Comment step says reads is =
+      let same : t ≡ s = cc in
+      same_left s t (calls_by step) (ap (λ (r : ScriptModel). r.calls) same)
+      (no_call_there accounts n line (forbidden_of line) (asked_of line) (expectation_of line) step is)
+  calls_at_item (items.User u) step says reads is =
+      same_left s t (calls_by step) (ap (λ (r : ScriptModel). r.calls) (is_read (takes_user s u) _ t reads))
+      (no_call_there accounts n line (forbidden_of line) (asked_of line) (expectation_of line) step is)
+  calls_at_item (items.Group g) step says reads is =
+      same_left s t (calls_by step) (ap (λ (r : ScriptModel). r.calls) (is_read (takes_group s g) _ t reads))
+      (no_call_there accounts n line (forbidden_of line) (asked_of line) (expectation_of line) step is)
+  calls_at_item (items.Call p c) step says reads is =
+      let same = is_read (takes_call s c) _ t reads in
+      let plain = no_comment line (call_says line p c says) in
+      let call : CallLine = record { line = n; process = p; call = c } in
+      let other = call_there accounts n (forbidden_of line) _ step (no_claim_there line (call_says line p c says)) is in
+      ap (λ (r : ScriptModel). r.calls) same
+      ∙ ap (λ (cs : List CallLine). s.calls ++ cs) (sym (own_call n line (asked_of line) (expectation_of line) call step plain.0 plain.1 other))
+
+  -- the calls after a line
+  calls_at : (item : Option Item) (step : Option Step) → item_of line ≡ item
+      → option_and_then (λ i. with_item s n i) item ≡ Some t → step_of accounts n line ≡ Ok step → t.calls ≡ s.calls ++ calls_by step
+  calls_at None step says reads is = absurd cc
+  calls_at (Some item) step says reads is =
+      calls_at_item item step says reads
+      (sym (ap (λ (i : Option Item).
+      step_or accounts n (forbidden_of line) (step_by n line (asked_of line) (expectation_of line) (call_in n i))) says) ∙ is)
 
 -- the script after the first line is read on to the whole one
 read_lines : (s : ScriptModel) (n : ℕ) (lines : List (List ℕ)) (line : Option ScriptModel) (script : ScriptModel)
@@ -262,10 +346,10 @@ read_lines s n lines None script e = absurd cc
 read_lines s n lines (Some t) script e = (t, refl, e)
 
 -- the calls of lines are those of their steps
-pub same_calls : (s script : ScriptModel) (n : ℕ) (is_open : Bool) (lines : List (List ℕ)) (steps : List Step) → with_lines s n lines ≡ Ok script
-    → steps_from (n + 1) is_open lines ≡ Ok steps → script.calls ≡ s.calls ++ calls_in steps
+pub same_calls : (accounts : Accounts) (s script : ScriptModel) (n : ℕ) (is_open : Bool) (lines : List (List ℕ)) (steps : List Step)
+    → with_lines s n lines ≡ Ok script → steps_from accounts (n + 1) is_open lines ≡ Ok steps → script.calls ≡ s.calls ++ calls_in steps
 unfolding with_lines steps_from with_line
-same_calls s script n is_open [] steps reads read =
+same_calls accounts s script n is_open [] steps reads read =
     let none : steps ≡ [] = cc in
     ap (λ (r : ScriptModel). r.calls) (by (is_empty s.accounts.users) reads) ∙ sym (append-nil s.calls)
     ∙ ap (λ (all : List Step). s.calls ++ calls_in all) (sym none)
@@ -273,12 +357,13 @@ same_calls s script n is_open [] steps reads read =
     by : (b : Bool) → (if b then Err (BadScript (n + 1)) else Ok s) ≡ Ok script → script ≡ s
     by true e = absurd cc
     by false e = cc
-same_calls s script n is_open (line ∷ lines) steps reads read =
+same_calls accounts s script n is_open (line ∷ lines) steps reads read =
     let one = read_lines s n lines (with_line s (n + 1) line) script reads in
-    let on = on_line (n + 1) is_open line lines steps read in
-    let later = same_calls one.0 script (n + 1) on.opened lines on.rest one.2 on.is_rest in
+    let on = on_line accounts (n + 1) is_open line lines steps read in
+    let later = same_calls accounts one.0 script (n + 1) on.opened lines on.rest one.2 on.is_rest in
     let own = ap calls_in on.parts ∙ calls_on on.step on.rest in
-    later ∙ ap (λ (cs : List CallLine). cs ++ calls_in on.rest) (calls_at s one.0 (n + 1) line (item_of line) on.step refl one.1 on.is_step)
+    later
+    ∙ ap (λ (cs : List CallLine). cs ++ calls_in on.rest) (calls_at accounts s one.0 (n + 1) line (item_of line) on.step refl one.1 on.is_step)
     ∙ append_assoc s.calls (calls_by on.step) (calls_in on.rest) ∙ ap (λ (cs : List CallLine). s.calls ++ cs) (sym own)
 
 -- ---- whole texts
@@ -287,27 +372,33 @@ same_calls s script n is_open (line ∷ lines) steps reads read =
 pub record IsReadAs (text : List ℕ) (test : Test) : Type 0 where
   pub script : ScriptModel
   pub is_script : script_of text ≡ Ok script
-  pub are_steps : steps_from 1 false (lines_of text) ≡ Ok test.steps
+  pub are_steps : steps_from test.accounts 1 false (lines_of text) ≡ Ok test.steps
   pub accounts : test.accounts ≡ script.accounts
 
+-- a test with these accounts has the steps that were read
+with_steps : (accounts : Accounts) (test : Test) (steps : Read) → test_with accounts steps ≡ Ok test
+    → (test.accounts ≡ accounts) × (steps ≡ Ok test.steps)
+with_steps accounts test (Err line) e = absurd cc
+with_steps accounts test (Ok steps) e =
+    let same : record { accounts = accounts; steps = steps } ≡ test = cc in
+    (ap (λ (t : Test). t.accounts) (sym same), ap (λ (t : Test). let read : Read = Ok t.steps in read) same)
+
 -- a test is read if the script and the steps are
-read_by : (text : List ℕ) (test : Test) (script : Result ScriptModel Fault) (steps : Read) → script_of text ≡ script
-    → steps_from 1 false (lines_of text) ≡ steps
-    → test_by script steps ≡ Ok test → IsReadAs text test
-read_by text test (Err fault) steps is are e = absurd cc
-read_by text test (Ok script) (Err line) is are e = absurd cc
-read_by text test (Ok script) (Ok steps) is are e =
-    let same : record { accounts = script.accounts; steps = steps } ≡ test = cc in
+read_by : (text : List ℕ) (test : Test) (script : Result ScriptModel Fault) → script_of text ≡ script
+    → test_by script (λ accounts. steps_from accounts 1 false (lines_of text)) ≡ Ok test → IsReadAs text test
+read_by text test (Err fault) is e = absurd cc
+read_by text test (Ok script) is e =
+    let with = with_steps script.accounts test (steps_from script.accounts 1 false (lines_of text)) e in
     record {
       script = script;
       is_script = is;
-      are_steps = are ∙ ap (λ (t : Test). let read : Read = Ok t.steps in read) same;
-      accounts = ap (λ (t : Test). t.accounts) (sym same);
+      are_steps = ap (λ (a : Accounts). steps_from a 1 false (lines_of text)) with.0 ∙ with.1;
+      accounts = with.0;
     }
 
 -- the test of a text is read in this way
 pub read_as : (text : List ℕ) (test : Test) → test_of text ≡ Ok test → IsReadAs text test
-read_as text test is = read_by text test (script_of text) (steps_from 1 false (lines_of text)) refl refl is
+read_as text test is = read_by text test (script_of text) refl is
 
 -- a script within the limits is read by its lines
 by_lines : (text : List ℕ) (script : ScriptModel) → script_of text ≡ Ok script → with_lines nothing_read 0 (lines_of text) ≡ Ok script
@@ -329,11 +420,16 @@ tests_make_the_calls text script test is reads =
     let as_read = read_as text test reads in
     let same = same_script as_read.script script (sym as_read.is_script ∙ is) in (
       as_read.accounts ∙ ap (λ (r : ScriptModel). r.accounts) same,
-      sym (same_calls nothing_read script 0 false (lines_of text) test.steps (by_lines text script is) as_read.are_steps),
+      sym (same_calls test.accounts nothing_read script 0 false (lines_of text) test.steps (by_lines text script is) as_read.are_steps),
     )
 
 -- a test has as many checks as expectations
 pub test_counted : (text : List ℕ) (test : Test) → test_of text ≡ Ok test → length (checks_of false test) ≡ expectation_count test.steps
 test_counted text test reads =
     let is = read_as text test reads in
-    steps_counted test.accounts (boot test.accounts) None test.steps (in_order 1 false (lines_of text) test.steps is.are_steps)
+    let ordered = in_order test.accounts 1 false (lines_of text) test.steps is.are_steps in
+    let own = checks_from false test.accounts (boot test.accounts) None test.steps in
+    let both : length (checks_of false test) ≡ length own + length (never_checks test) = length-append own (never_checks test) in
+    let each : length (never_checks test) ≡ length (nevers_in test.steps) =
+    length-map (nevers_in test.steps) (never_check test.accounts (calls_in test.steps)) in
+    omega (arith, both, each, steps_counted test.accounts (boot test.accounts) None test.steps ordered)

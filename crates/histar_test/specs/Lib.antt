@@ -1,6 +1,7 @@
 -- The definitions of this crate that contracts cite.
 pub mod Steps
 pub mod Checks
+pub mod Watching
 pub mod Running
 pub mod Session
 pub mod Laws

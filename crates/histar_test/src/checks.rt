@@ -1,7 +1,9 @@
-//! A check: an expectation beside the reply to its call, a question beside the rights that it asks for, a claim
-//! beside the processes that are trusted, or a refusal that nobody expected; and its text.
+//! A check: an expectation beside the reply to its call, a question beside the rights that it asks for, a claim on
+//! trust beside the processes that are trusted, a claim `#never` beside its first breach, or a refusal that nobody
+//! expected; and its text.
 ghost use Rattle.std.specs.Prelude.{◌≡◌, ◌++◌, IfOk, OnOk, decimal};
 ghost use Rattle.std.specs.List.{flat_map};
+ghost use Rattle.histar_test.specs.declared.checks.Wanted.TheVariants.{Text};
 ghost use Rattle.histar_test.specs.Checks.{check_text, difference_text, escaped_byte};
 ghost use Rattle.histar_test.specs.Checks.{expected_text, is_met, place_text, result_line, unexpected};
 
@@ -9,36 +11,47 @@ use histar_base::Bytes;
 use itoa::Buffer;
 use std::alloc::{AllocError, Global};
 
-/// A call that was made, or a question or a claim that was asked.
+/// A call that was made, a question or a claim that was asked, or a claim that was watched.
 #[derive(Drop)]
 pub struct Made {
     /// The number of its line.
     pub line: u32,
     /// The text of that line, without `#! ` in a question, and without `#` in a claim.
     pub said: Bytes,
-    /// The text of the reply, the letters of the rights, or the processes that are trusted.
+    /// The text of the reply, the letters of the rights, the processes that are trusted, or the first breach.
     pub reply: Bytes,
     /// Whether the reply is a refusal.
     pub is_refused: bool,
 }
 
-/// The expected answer to a call or a question, and the actual one.
+/// What a check wants.
+#[derive(Drop)]
+pub enum Wanted {
+    /// That the reply, the rights or the trusted have this text.
+    Text(Bytes),
+    /// That the call is no refusal, since nobody expected one.
+    NoRefusal,
+    /// That there is no breach.
+    NoBreach,
+}
+
+/// What is wanted of a call, a question or a claim, and what was found.
 #[derive(Drop)]
 pub struct Check {
     pub made: Made,
-    /// The text that is expected, or `None` if nobody expected the reply.
-    pub wanted: Option<Bytes>,
+    pub wanted: Wanted,
 }
 
 impl Check {
-    /// Checks whether the reply, the rights or the trusted processes have the text that is wanted.
+    /// Checks whether the reply, the rights, the trusted processes or the breach are as they are wanted.
     pub fn is_met(&self) -> bool
         ensures { result ≡ is_met self.now }
     {
-        let Some(wanted) = &self.wanted else {
-            return false;
-        };
-        self.made.reply.as_slice() == wanted.as_slice()
+        match &self.wanted {
+            Wanted::Text(wanted) => self.made.reply.as_slice() == wanted.as_slice(),
+            Wanted::NoRefusal => false,
+            Wanted::NoBreach => self.made.reply.as_slice().is_empty(),
+        }
     }
 }
 
@@ -51,7 +64,10 @@ pub(crate) fn unexpected(strict: bool, last: Option<Made>) -> Option<Check>
     if !strict || !made.is_refused {
         return None;
     }
-    Some(Check { made, wanted: None })
+    Some(Check {
+        made,
+        wanted: Wanted::NoRefusal,
+    })
 }
 
 /// Adds a number, in decimal digits.
@@ -114,19 +130,27 @@ fn result_line(
     Ok(text)
 }
 
-/// Adds the expected answer, or that nobody expected one.
-fn push_expected(text: &mut Vec<u8>, wanted: &Option<Bytes>) -> Result<(), AllocError>
-    ensures { OnOk result (text.new.items ≡ text.old.items ++ expected_text wanted.now) }
+/// Adds the text that is expected.
+fn push_text(text: &mut Vec<u8>, wanted: &Bytes) -> Result<(), AllocError>
+    ensures { OnOk result (text.new.items ≡ text.old.items ++ expected_text (Text wanted.now)) }
 {
-    let Some(wanted) = wanted else {
-        return text.extend_from_slice(b"# nobody expected ");
-    };
     text.extend_from_slice(b"# expected ")?;
     text.extend_from_slice(wanted.as_slice())?;
     text.extend_from_slice(b", was ")
 }
 
-/// Adds a line with the expected answer, if there is one, and the actual one.
+/// Adds the expected answer, or that nobody expected one.
+fn push_expected(text: &mut Vec<u8>, wanted: &Wanted) -> Result<(), AllocError>
+    ensures { OnOk result (text.new.items ≡ text.old.items ++ expected_text wanted.now) }
+{
+    match wanted {
+        Wanted::Text(wanted) => push_text(text, wanted),
+        Wanted::NoRefusal => text.extend_from_slice(b"# nobody expected "),
+        Wanted::NoBreach => text.extend_from_slice(b"# "),
+    }
+}
+
+/// Adds a line with the expected answer, if there is one, and what was found.
 fn push_difference(text: &mut Vec<u8>, check: &Check) -> Result<(), AllocError>
     ensures { OnOk result (text.new.items ≡ text.old.items ++ difference_text check.now) }
 {

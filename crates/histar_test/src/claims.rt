@@ -1,6 +1,6 @@
 //! Claims on trust, and who is trusted.
-ghost use Rattle.std.specs.Prelude.{◌≡◌, ◌==◌, ◌++◌, IfOk, OnOk, codes, map};
-ghost use Rattle.std.specs.List.{flat_map, list_all, slice_split};
+ghost use Rattle.std.specs.Prelude.{◌≡◌, ◌++◌, IfOk, OnOk, codes, map};
+ghost use Rattle.std.specs.List.{flat_map, list_all};
 ghost use Rattle.std.specs.Option.{option_copied};
 ghost use Rattle.histar_flat.specs.Texts.{process_text};
 ghost use Rattle.histar_flat.specs.Words.{Name, ProcName};
@@ -12,10 +12,11 @@ ghost use Rattle.histar_test.specs.Checks.{names_text};
 ghost use Rattle.histar_test.specs.Running.{AsksMachine, ShowsTrusted, ShowsTrustedAt, shown_trusted};
 ghost use Rattle.histar_test.specs.Steps.{are_processes, claim_of, claimed_of, is_process_word};
 
-use crate::checks::{Check, Made};
+use crate::checks::{Check, Made, Wanted};
 use histar_base::Bytes;
 use histar_flat::{Group, Name, OwnedPath, Path, ProcName, read_path, read_process};
 use histar_label::InternStore;
+use histar_never::split_at_spaces;
 use histar_prefix::processes;
 use histar_readout::TreeNode;
 use histar_script::split_word;
@@ -35,14 +36,6 @@ pub struct Claim {
     pub path: OwnedPath,
     /// The processes as they are written on the line, or `nobody`.
     pub wanted: Bytes,
-}
-
-/// Splits a text at its spaces.
-fn split_at_spaces(alloc: Global, text: &[u8]) -> Result<Vec<&[u8]>, AllocError>
-    ensures { IfOk result (λ words.
-        map (λ word. word.now) words.items ≡ slice_split (λ b. b == 32) text.now) }
-{
-    text.split(|b| *b == b' ').collect(alloc)
 }
 
 /// Checks whether a word is a process.
@@ -143,7 +136,7 @@ pub(crate) fn ask_trusted(
     };
     Ok(Check {
         made,
-        wanted: Some(wanted),
+        wanted: Wanted::Text(wanted),
     })
 }
 

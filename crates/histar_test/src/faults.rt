@@ -10,17 +10,14 @@ ghost use Rattle.histar_test.specs.Steps.{steps_from};
 
 use crate::asking::asked_of;
 use crate::claims::are_processes;
-use crate::steps::expectation_of;
-use histar_flat::{read_path, read_process};
+use crate::steps::{expectation_of, forbidden_of};
+use histar_flat::{Accounts, read_path, read_process};
 use histar_lint::copied;
 use histar_lint::line_rules::rest_of;
+use histar_never::{PATH, never_sentence};
 use histar_rights::read_rights;
 use histar_script::{Fault, Item, read_item, read_script, split_line, split_word};
 use std::alloc::{AllocError, Global};
-
-/// What a path has to be.
-const PATH: &str =
-    "a path is / or up to 8 names, each behind a slash and of 1 to 32 of a-z, 0-9, dot, underscore and hyphen";
 
 /// What a process has to be.
 const PROCESS: &str =
@@ -35,22 +32,26 @@ pub fn fault_sentence(alloc: Global, text: &[u8]) -> Result<Option<Vec<u8>>, All
     ensures { IfOk result (λ said. option_map (λ text. text.items) said ≡ fault_text text.now) }
 {
     match read_script(alloc, text) {
-        Ok(_script) => first_fault(alloc, text),
+        Ok(script) => first_fault(alloc, script.accounts(), text),
         Err(Fault::OutOfMemory) => Err(AllocError),
         Err(_) => Ok(None),
     }
 }
 
 /// Returns the sentence on the first line that may not be in a test.
-fn first_fault(alloc: Global, text: &[u8]) -> Result<Option<Vec<u8>>, AllocError>
+fn first_fault(
+    alloc: Global,
+    accounts: &Accounts,
+    text: &[u8],
+) -> Result<Option<Vec<u8>>, AllocError>
     ensures { IfOk result (λ said. option_map (λ text. text.items) said
-        ≡ fault_in (lines_of text.now) (steps_from 1 false (lines_of text.now))) }
+        ≡ fault_in accounts.now (lines_of text.now) (steps_from accounts.now 1 false (lines_of text.now))) }
 {
     let mut rest = text;
     let mut last = None;
     'lines: while !rest.is_empty() {
         let (line, after) = split_line(rest);
-        if let Some(said) = line_fault(alloc, last, line)? {
+        if let Some(said) = line_fault(alloc, accounts, last, line)? {
             return copied(alloc, Some(said));
         }
         last = last_after(alloc, last, line)?;
@@ -63,11 +64,15 @@ fn first_fault(alloc: Global, text: &[u8]) -> Result<Option<Vec<u8>>, AllocError
 /// expectation yet, if there is a call before it.
 fn line_fault(
     alloc: Global,
+    accounts: &Accounts,
     last: Option<bool>,
     line: &[u8],
 ) -> Result<Option<&'static str>, AllocError>
-    ensures { IfOk result (λ said. option_copied said ≡ line_fault last line.now) }
+    ensures { IfOk result (λ said. option_copied said ≡ line_fault accounts.now last line.now) }
 {
+    if let Some(text) = forbidden_of(line) {
+        return never_sentence(alloc, accounts, text);
+    }
     if let Some(asked) = asked_of(line) {
         return asked_sentence(alloc, asked);
     }

@@ -5,7 +5,7 @@ ghost use Rattle.histar_test.specs.Running.{AsksMachine};
 ghost use Rattle.histar_test.specs.declared.asking.Asking.TheVariants.{OfRights};
 ghost use Rattle.histar_test.specs.Steps.{process_and_rights_of, question_of};
 
-use crate::checks::{Check, Made};
+use crate::checks::{Check, Made, Wanted};
 use histar_base::Bytes;
 use histar_cells::rights_of;
 use histar_flat::{OwnedPath, ProcName, read_path, read_process};
@@ -103,6 +103,6 @@ pub(crate) fn ask_rights(
     };
     Ok(Check {
         made,
-        wanted: Some(wanted),
+        wanted: Wanted::Text(wanted),
     })
 }

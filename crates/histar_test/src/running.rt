@@ -4,24 +4,25 @@ ghost use Rattle.std.specs.Io.KnownBytes.{Appends};
 ghost use Rattle.histar_io.specs.Device.{CountsFailure};
 ghost use Rattle.histar_io.specs.Writing.{AppendsFront};
 ghost use Rattle.histar_script.specs.Runs.{IsOutputFault, is_write_failed};
-ghost use Rattle.histar_reasons.specs.Laws.{is_refusal};
 ghost use Rattle.histar_script.specs.Script.{IsDeclared};
-ghost use Rattle.histar_trust.specs.Findings.{HasState};
 ghost use Rattle.histar_test.specs.Checks.{check_text};
-ghost use Rattle.histar_test.specs.Running.{BeginsStep, BeginsSteps, Calls, Closes, CountsCheck, IsMemory, MakesCall};
-ghost use Rattle.histar_test.specs.Running.{Starts, TakesStep, TakesSteps, WritesStep, close_text};
+ghost use Rattle.histar_test.specs.Running.{BeginsStep, BeginsSteps, BeginsTest, Calls, Closes, CountsCheck, CountsClaims};
+ghost use Rattle.histar_test.specs.Running.{IsMemory, RunsTest, Starts, TakesStep, TakesSteps, WritesStep, claims_text, close_text};
+ghost use Rattle.histar_test.specs.Watching.{HasWatched};
 
 use crate::asking::{Asking, ask};
-use crate::checks::{Check, Made, check_text, unexpected};
+use crate::checks::{Check, Made, Wanted, check_text, unexpected};
 use crate::steps::Step;
+use crate::watching::{Watch, Watched};
 use histar_base::Bytes;
-use histar_flat::{Accounts, CallLine, Reply};
+use histar_flat::{Accounts, CallLine};
 use histar_io::{Sink, write_bytes};
 use histar_label::InternStore;
 use histar_prefix::discard;
 use histar_script::Fault;
-use histar_shell::{Machine, reply_text};
+use histar_shell::Machine;
 use std::alloc::Global;
+use std::mem;
 
 /// How many answers of label comparisons are remembered.
 const REMEMBERED_ANSWERS: usize = 256;
@@ -38,22 +39,23 @@ pub(crate) struct Tally {
 pub(crate) struct Run {
     /// Whether a refusal that nobody expected is a check too.
     pub strict: bool,
-    pub machine: Machine<InternStore>,
+    pub watched: Watched,
     /// The call that was made last, unless its reply was checked already.
     pub last: Option<Made>,
     pub tally: Tally,
 }
 
 impl Run {
-    /// Boots a machine for a script.
+    /// Boots a machine for a script, and watches these claims.
     pub(crate) fn start(
         alloc: Global,
         accounts: Accounts,
         strict: bool,
         tally: Tally,
+        watches: Vec<Watch>,
     ) -> Result<Run, Fault>
         requires { IsDeclared accounts }
-        ensures ok { IfOk result (Starts accounts strict tally) }
+        ensures ok { IfOk result (Starts accounts strict tally watches.items) }
         ensures faults { IfErr result IsMemory }
     {
         let store = InternStore::new(alloc, REMEMBERED_ANSWERS)?;
@@ -62,7 +64,11 @@ impl Run {
         };
         Ok(Run {
             strict,
-            machine,
+            watched: Watched {
+                machine,
+                watches,
+                has_called: false,
+            },
             last: None,
             tally,
         })
@@ -74,21 +80,28 @@ impl Run {
     {
         let Run {
             strict: _,
-            machine,
+            watched,
             last,
             tally,
         } = self;
         drop(last);
+        let Watched {
+            machine,
+            watches,
+            has_called: _,
+        } = watched;
+        drop(watches);
         discard(machine);
         tally
     }
 
     /// Makes a call on the machine; it is then the last one.
     fn make_call(&mut self, alloc: Global, call: CallLine, said: Bytes) -> Result<(), Fault>
+        requires { HasWatched self.old.watched }
         ensures ok { OnOk result (Calls self.old self.new call said) }
         ensures faults { IfErr result IsMemory }
     {
-        let made = make_call(alloc, &mut self.machine, call, said)?;
+        let made = self.watched.make_call(alloc, call, said)?;
         self.last = Some(made);
         Ok(())
     }
@@ -149,6 +162,7 @@ impl Run {
         said: Bytes,
         writer: &mut W,
     ) -> Result<(), Fault>
+        requires { HasWatched self.old.watched }
         ensures ok { OnOk result (TakesStep self.old self.new (Step.Makes call said)) }
         ensures written { OnOk result (WritesStep file.now self.old (Step.Makes call said)
             (W.written writer.old) (W.written writer.new)) }
@@ -184,7 +198,7 @@ impl Run {
         };
         let check = Check {
             made,
-            wanted: Some(wanted),
+            wanted: Wanted::Text(wanted),
         };
         self.count_check(alloc, file, &check, writer)
     }
@@ -197,7 +211,7 @@ impl Run {
         asking: Asking,
         writer: &mut W,
     ) -> Result<(), Fault>
-        requires { HasState self.old.machine }
+        requires { HasWatched self.old.watched }
         ensures ok { OnOk result (TakesStep self.old self.new (Step.Asks asking)) }
         ensures written { OnOk result (WritesStep file.now self.old (Step.Asks asking)
             (W.written writer.old) (W.written writer.new)) }
@@ -207,7 +221,7 @@ impl Run {
         ensures count { CountsFailure (W.failures writer.old) (W.failures writer.new)
             (is_write_failed result) }
     {
-        let check = ask(alloc, &self.machine, asking)?;
+        let check = ask(alloc, &self.watched.machine, asking)?;
         self.count_check(alloc, file, &check, writer)
     }
 
@@ -219,7 +233,7 @@ impl Run {
         step: Step,
         writer: &mut W,
     ) -> Result<(), Fault>
-        requires { HasState self.old.machine }
+        requires { HasWatched self.old.watched }
         ensures ok { OnOk result (TakesStep self.old self.new step) }
         ensures written { OnOk result (WritesStep file.now self.old step
             (W.written writer.old) (W.written writer.new)) }
@@ -233,19 +247,20 @@ impl Run {
             Step::Makes(call, said) => self.call_next(alloc, file, call, said, writer),
             Step::Expects(wanted) => self.check_reply(alloc, file, wanted, writer),
             Step::Asks(asking) => self.check_asked(alloc, file, asking, writer),
+            Step::Forbids(_) => Ok(()),
         }
     }
 
-    /// Takes all steps of a test in their order, and writes for each expectation, question and claim whether it is
-    /// met, as soon as that is known.
-    pub(crate) fn take_steps<W: Sink>(
+    /// Takes all steps of a test in their order, and writes for each expectation, question and claim on trust
+    /// whether it is met, as soon as that is known.
+    fn take_steps<W: Sink>(
         &mut self,
         alloc: Global,
         file: &[u8],
         steps: Vec<Step>,
         writer: &mut W,
     ) -> Result<(), Fault>
-        requires { HasState self.old.machine }
+        requires { HasWatched self.old.watched }
         ensures ok { OnOk result (TakesSteps file.now self.old self.new steps.items
             (W.written writer.old) (W.written writer.new)) }
         ensures err { OnErr result (BeginsSteps file.now self.old steps.items
@@ -259,40 +274,51 @@ impl Run {
         }
         self.close(alloc, file, writer)
     }
-}
 
-/// Checks whether a reply is a refusal.
-fn is_refusal(reply: &Reply) -> bool
-    ensures { result ≡ is_refusal reply.now }
-{
-    matches!(reply, Reply::Refused(_) | Reply::Gone)
-}
+    /// Writes for each claim `#never` whether it was broken, and counts these checks.
+    fn check_claims<W: Sink>(
+        &mut self,
+        alloc: Global,
+        file: &[u8],
+        writer: &mut W,
+    ) -> Result<(), Fault>
+        ensures ok { OnOk result (CountsClaims self.old self.new) }
+        ensures written { OnOk result (Appends (W.written writer.old) (W.written writer.new)
+            (claims_text file.now self.old)) }
+        ensures err { OnErr result (AppendsFront (W.written writer.old) (W.written writer.new)
+            (claims_text file.now self.old)) }
+        ensures faults { IfErr result IsOutputFault }
+        ensures count { CountsFailure (W.failures writer.old) (W.failures writer.new)
+            (is_write_failed result) }
+    {
+        let watches = mem::replace(&mut self.watched.watches, Vec::new(alloc));
+        'claims: for watch in watches {
+            let check = watch.check(alloc)?;
+            self.count_check(alloc, file, &check, writer)?;
+        }
+        Ok(())
+    }
 
-/// Makes a call on a machine, and returns it with the reply.
-fn make_call(
-    alloc: Global,
-    machine: &mut Machine<InternStore>,
-    call: CallLine,
-    said: Bytes,
-) -> Result<Made, Fault>
-    ensures ok { IfOk result (MakesCall machine.old machine.new call said) }
-    ensures faults { IfErr result IsMemory }
-{
-    let CallLine {
-        line: number,
-        process,
-        call,
-    } = call;
-    let Ok(reply) = machine.step(alloc, number, &process, call) else {
-        return Err(Fault::OutOfMemory);
-    };
-    let text = reply_text(alloc, &reply)?;
-    Ok(Made {
-        line: number,
-        said,
-        reply: Bytes::from_vec(text),
-        is_refused: is_refusal(&reply),
-    })
+    /// Takes all steps of a test in their order, and then checks the claims `#never`.
+    pub(crate) fn run_test<W: Sink>(
+        &mut self,
+        alloc: Global,
+        file: &[u8],
+        steps: Vec<Step>,
+        writer: &mut W,
+    ) -> Result<(), Fault>
+        requires { HasWatched self.old.watched }
+        ensures ok { OnOk result (RunsTest file.now self.old self.new steps.items
+            (W.written writer.old) (W.written writer.new)) }
+        ensures err { OnErr result (BeginsTest file.now self.old steps.items
+            (W.written writer.old) (W.written writer.new)) }
+        ensures faults { IfErr result IsOutputFault }
+        ensures count { CountsFailure (W.failures writer.old) (W.failures writer.new)
+            (is_write_failed result) }
+    {
+        self.take_steps(alloc, file, steps, writer)?;
+        self.check_claims(alloc, file, writer)
+    }
 }
 
 /// Writes the lines of check `number`, of a file.

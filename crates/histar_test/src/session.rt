@@ -13,6 +13,7 @@ ghost use Rattle.histar_test.specs.Steps.{expectation_count};
 use crate::checks::push_number;
 use crate::running::{Run, Tally};
 use crate::steps::{Step, TestScript, read_test};
+use crate::watching::split_steps;
 use histar_base::Bytes;
 use histar_io::{Sink, write_bytes};
 use histar_script::Fault;
@@ -34,6 +35,9 @@ struct NamedTest {
 
 /// Checks the replies, the rights and the trust that files expect, and writes for each expectation whether it is met, in
 /// the form of the Test Anything Protocol, numbered through all files. It returns whether all are met.
+///
+/// The checks of the claims `#never` of a file come after its others: each is met if after no call of the file
+/// somebody whom it means has one of its letters at its path.
 ///
 /// A strict test also has a check, which is not met, for each call whose reply is a refusal and which no
 /// expectation follows before the next call. How many there are is known at the end, so the number of checks
@@ -144,7 +148,7 @@ fn count_checks(tests: &[NamedTest]) -> Option<usize>
     Some(total)
 }
 
-/// Counts the expectations among steps, of replies, of rights and of trust.
+/// Counts the steps that have a check of their own: all but the calls.
 fn count_expectations(steps: &[Step]) -> usize
     ensures { result ≡ expectation_count steps.now }
 {
@@ -212,8 +216,9 @@ fn test_file<W: Sink>(
 {
     let NamedTest { name, test } = named;
     let (accounts, steps) = test.into_parts();
-    let mut run = Run::start(alloc, accounts, strict, tally)?;
-    let outcome = run.take_steps(alloc, name.as_slice(), steps, writer);
+    let (steps, watches) = split_steps(alloc, steps)?;
+    let mut run = Run::start(alloc, accounts, strict, tally, watches)?;
+    let outcome = run.run_test(alloc, name.as_slice(), steps, writer);
     let after = run.finish();
     outcome?;
     Ok(after)

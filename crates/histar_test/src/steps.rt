@@ -3,13 +3,15 @@ ghost use Rattle.std.specs.Prelude.{◌≡◌, ◌≤◌, Some, false, length};
 ghost use Rattle.std.specs.Option.{option_copied};
 ghost use Rattle.histar_script.specs.Lines.{lines_of, most_script_bytes};
 ghost use Rattle.histar_script.specs.Outcome.{Gives};
+ghost use Rattle.histar_script.specs.Reading.{item_of};
 ghost use Rattle.histar_script.specs.Script.{IsDeclared};
-ghost use Rattle.histar_test.specs.Steps.{GivesStep, GivesSteps, TakesLine, call_in, expectation_of};
-ghost use Rattle.histar_test.specs.Steps.{is_call, open_after, step_of, steps_from, test_of};
+ghost use Rattle.histar_test.specs.Steps.{GivesStep, GivesSteps, TakesLine, asked_of, call_in, expectation_of};
+ghost use Rattle.histar_test.specs.Steps.{forbidden_of, is_call, is_never, open_after, step_by, step_of, steps_from, test_of};
 
 use crate::asking::{Asking, asked_of, read_asking};
 use histar_base::Bytes;
 use histar_flat::{Accounts, CallLine};
+use histar_never::{Never, read_never};
 use histar_script::{Fault, Item, read_item, read_script, split_line};
 use std::alloc::Global;
 use std::marker::Model;
@@ -23,6 +25,8 @@ pub enum Step {
     Expects(Bytes),
     /// Asks for the rights of a process at a path, or claims who is trusted with what is at a path.
     Asks(Asking),
+    /// Claims that after no call somebody has a right.
+    Forbids(Never),
 }
 
 /// A test: the accounts of a script, and its steps.
@@ -61,6 +65,7 @@ impl Step {
             Step::Expects(_) if is_open => Some(false),
             Step::Expects(_) => None,
             Step::Asks(_) => Some(is_open),
+            Step::Forbids(_) => Some(is_open),
         }
     }
 }
@@ -83,6 +88,13 @@ impl TestScript {
     }
 }
 
+/// The steps of the lines that were read, and whether a call is open after them.
+#[derive(Drop)]
+pub(crate) struct Reading {
+    steps: Vec<Step>,
+    is_open: bool,
+}
+
 /// Reads a test: a script, whose fault comes first, in which each expectation has a call before it and each
 /// question and claim can be read.
 pub fn read_test(alloc: Global, text: &[u8]) -> Result<TestScript, Fault>
@@ -90,51 +102,73 @@ pub fn read_test(alloc: Global, text: &[u8]) -> Result<TestScript, Fault>
 {
     let script = read_script(alloc, text)?;
     let (accounts, _calls) = script.into_parts();
-    let steps = read_steps(alloc, text)?;
+    let steps = read_steps(alloc, &accounts, text)?;
     Ok(TestScript { accounts, steps })
 }
 
 /// Reads the steps of the lines of a text.
-fn read_steps(alloc: Global, text: &[u8]) -> Result<Vec<Step>, Fault>
+fn read_steps(alloc: Global, accounts: &Accounts, text: &[u8]) -> Result<Vec<Step>, Fault>
     requires { length text.now ≤ most_script_bytes }
-    ensures { GivesSteps result (steps_from 1 false (lines_of text.now)) }
+    ensures { GivesSteps result (steps_from accounts.now 1 false (lines_of text.now)) }
 {
-    let mut steps = Vec::new(alloc);
+    let mut reading = Reading {
+        steps: Vec::new(alloc),
+        is_open: false,
+    };
     let mut rest = text;
     let mut count = 0u32;
-    let mut is_open = false;
     'lines: while !rest.is_empty() {
         let (line, after) = split_line(rest);
         count += 1;
-        is_open = take_line(alloc, &mut steps, is_open, count, line)?;
+        take_line(alloc, accounts, &mut reading, count, line)?;
         rest = after;
     }
-    Ok(steps)
+    Ok(reading.steps)
 }
 
-/// Adds the step of a line, if it has one, and returns whether a call is open after it.
+/// Adds the step of a line, if it has one.
 fn take_line(
     alloc: Global,
-    steps: &mut Vec<Step>,
-    is_open: bool,
+    accounts: &Accounts,
+    reading: &mut Reading,
     number: u32,
     line: &[u8],
-) -> Result<bool, Fault>
-    ensures { TakesLine number is_open line.now steps.old.items steps.new.items result }
+) -> Result<(), Fault>
+    ensures { TakesLine accounts.now number line.now reading.old reading.new result }
 {
-    let Some(step) = read_step(alloc, number, line)? else {
-        return Ok(is_open);
+    let Some(step) = read_step(alloc, accounts, number, line)? else {
+        return Ok(());
     };
-    let Some(is_open) = step.open_after(is_open) else {
+    let Some(is_open) = step.open_after(reading.is_open) else {
         return Err(Fault::BadScript(number));
     };
-    steps.push(step)?;
-    Ok(is_open)
+    reading.steps.push(step)?;
+    reading.is_open = is_open;
+    Ok(())
 }
 
 /// Reads the step of a line, if it has one.
-fn read_step(alloc: Global, number: u32, line: &[u8]) -> Result<Option<Step>, Fault>
-    ensures { GivesStep number result (step_of number line.now) }
+fn read_step(
+    alloc: Global,
+    accounts: &Accounts,
+    number: u32,
+    line: &[u8],
+) -> Result<Option<Step>, Fault>
+    ensures { GivesStep number result (step_of accounts.now number line.now) }
+{
+    let Some(text) = forbidden_of(line) else {
+        return read_other(alloc, number, line);
+    };
+    let Some(never) = read_never(alloc, accounts, number, text)? else {
+        return Err(Fault::BadScript(number));
+    };
+    Ok(Some(Step::Forbids(never)))
+}
+
+/// Reads the step of a line that is no claim `#never`, if it has one.
+fn read_other(alloc: Global, number: u32, line: &[u8]) -> Result<Option<Step>, Fault>
+    ensures { GivesStep number result (step_by number line.now (asked_of line.now)
+        (expectation_of line.now) (call_in number (item_of line.now))) }
 {
     if let Some(asked) = asked_of(line) {
         let Some(asking) = read_asking(alloc, number, asked)? else {
@@ -175,4 +209,24 @@ pub(crate) fn expectation_of(line: &[u8]) -> Option<&[u8]>
     ensures { option_copied result ≡ expectation_of line.now }
 {
     line.strip_prefix(b"#= ".as_slice())
+}
+
+/// Checks whether a line is a claim that somebody never has a right.
+fn is_never(line: &[u8]) -> bool
+    ensures { result ≡ is_never line.now }
+{
+    line.starts_with(b"#never ") || line == b"#never".as_slice()
+}
+
+/// Returns the text of such a claim on a line, if the line is one.
+pub(crate) fn forbidden_of(line: &[u8]) -> Option<&[u8]>
+    ensures { option_copied result ≡ forbidden_of line.now }
+{
+    if !is_never(line) {
+        return None;
+    }
+    let [_, text @ ..] = line else {
+        return Some(line);
+    };
+    Some(text)
 }

@@ -1,7 +1,7 @@
 //! What a test checks. Each law is the contract of a function that does nothing.
 ghost use Rattle.histar_test.specs.Faults.{EachBadTestHasASentence, EachRefusedLineBreaksOne, NoTakenLineBreaksOne};
 ghost use Rattle.histar_test.specs.Laws.{ChecksAreOfTheMeaning, ClaimsAreMet, ExpectationsAreChecked};
-ghost use Rattle.histar_test.specs.Laws.{QuestionsAreOfReplies, StrictTestsAreMet};
+ghost use Rattle.histar_test.specs.Laws.{NeversAreMet, QuestionsAreOfReplies, StrictTestsAreMet};
 ghost use Rattle.histar_test.specs.Laws.{StrictTestsKeepTheChecks, TestsMakeTheCalls};
 ghost use Rattle.histar_test.specs.Laws.{UnexpectedRefusalsAreChecked};
 
@@ -11,14 +11,14 @@ pub fn tests_make_the_calls()
 {}
 
 /// Shows that the reply beside an expectation is the one that the script's meaning gives to the last call
-/// before it, and the rights beside a question and the trusted beside a claim are those in the flat state after
-/// the calls before it.
+/// before it, that the rights beside a question and the trusted beside a claim are those in the flat state after
+/// the calls before it, and that a claim `#never` is beside its first breach by all calls of the script.
 pub fn checks_are_of_the_meaning()
     ensures { ChecksAreOfTheMeaning }
 {}
 
 /// Shows that each line of a test that expects a reply, asks for rights or claims who is trusted is checked,
-/// once and in its order.
+/// once and in its order, and after these each claim `#never`.
 pub fn expectations_are_checked()
     ensures { ExpectationsAreChecked }
 {}
@@ -33,6 +33,12 @@ pub fn questions_are_of_replies()
 /// before it, in the order of their names.
 pub fn claims_are_met()
     ensures { ClaimsAreMet }
+{}
+
+/// Shows that a claim `#never` of a test, strict or not, is met exactly if after no call of the script a running
+/// process or a user that it means has one of its letters at its path.
+pub fn nevers_are_met()
+    ensures { NeversAreMet }
 {}
 
 /// Shows that a strict test has the checks of the same test that isn't strict, and others that expect nothing.

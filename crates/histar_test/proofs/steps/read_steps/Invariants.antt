@@ -7,7 +7,7 @@ use Rattle.histar_test.proofs.steps.read_steps.Given as goal
 
 abbrev pub invariant-lines : goal.invariant-lines
 invariant-lines l = record {
-  so_far : IsSoFar (steps_from 1 false (lines_of l.text)) (l.count + 1) l.is_open (lines_of l.rest) l.steps.items;
+  so_far : IsSoFar l.accounts (steps_from l.accounts 1 false (lines_of l.text)) (l.count + 1) (lines_of l.rest) l.reading;
   counted : l.count + length l.rest ≤ length l.text;
 }
 

@@ -7,7 +7,7 @@ use Rattle.histar_test.proofs.running.Run.check_reply.Goals as goal
 pub returns-in_default-clause-ok : goal.returns-in_default-clause-ok
 returns-in_default-clause-ok g c =
     let old = c.args.self.now in
-    let new : Run = record { strict = old.strict; machine = old.machine; last = c.take.new.self; tally = old.tally } in
+    let new : Run = record { strict = old.strict; watched = old.watched; last = c.take.new.self; tally = old.tally } in
     nothing_counted old new c.args.wanted (sym c.take.ensures.value ∙ c.in_default.is) refl refl c.take.ensures.after refl
 
 pub returns-in_default-clause-written : goal.returns-in_default-clause-written

@@ -7,14 +7,14 @@ use Rattle.std.proofs.lemmas.Iterator.Adapters.{YieldsList-from_vec}
 use Rattle.std.proofs.lemmas.Iterator.Consumers.{YieldsList-end, YieldsList-so_far, YieldsList-turn}
 use Rattle.histar_test.specs.declared.steps.Step.{Step}
 use Rattle.histar_test.specs.Running.{BeginsSteps, TakesSteps}
-use Rattle.histar_test.proofs.RunLemmas.{after_err, at_end, at_front, at_last, at_more, at_start, both_ok, parts_at, state_now}
+use Rattle.histar_test.proofs.RunLemmas.{after_err, at_end, at_front, at_last, at_more, at_start, both_ok, parts_at, watched_now}
 use Rattle.histar_test.proofs.running.Run.take_steps.Goals as goal
 
 pub steps-init : goal.steps-init
 steps-init g c = record { come = at_start c.args.file.now c.args.self.now (g.W.Sink.written c.args.writer.now); count = refl }
 
 pub take_step-requires : goal.take_step-requires
-take_step-requires g c = state_now c.steps.invariant.come c.requires
+take_step-requires g c = watched_now c.steps.invariant.come c.requires
 
 pub steps-preserved : goal.steps-preserved
 steps-preserved g c = record {
