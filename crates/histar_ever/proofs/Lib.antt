@@ -7,7 +7,6 @@ pub mod Adding
 pub mod Gathered
 pub mod UsersGathered
 pub mod Held
-pub mod Questions
 pub mod Again
 pub mod Making
 pub mod Runs

@@ -13,11 +13,11 @@ use Rattle.histar_rights.specs.Laws.{is_answer}
 use Rattle.histar_shell.specs.Machine.{MachineModel}
 use Rattle.histar_shell.specs.Meaning.{FollowsMeaning, Shows, ShowsStart}
 use Rattle.histar_access.specs.Shown.{IsShown}
-use Rattle.histar_ever.specs.Changing.{is_question, may_change}
+use Rattle.histar_never.specs.Changing.{is_question, may_change}
 use Rattle.histar_ever.specs.Following.{AddsNothingAgain, AddsState, FollowsCalls, Gathering, GathersNone, GathersRun}
 use Rattle.histar_ever.specs.Following.{IsAfter, IsRunning, IsStarted}
 use Rattle.histar_ever.specs.States.{states_from}
-use Rattle.histar_ever.proofs.Questions.{others_change_nothing}
+use Rattle.histar_never.proofs.Questions.{others_change_nothing}
 
 -- the states of a run with one more call
 states_more : (accounts : Accounts) (f : Flat) (calls : List CallLine) (c : CallLine)

@@ -14,7 +14,6 @@ use Rattle.histar_rights.specs.declared.rights.Rights.{Rights}
 use Rattle.histar_rights.specs.Running.{process_cmp}
 use Rattle.histar_diff.specs.Shown.{rights_of}
 use Rattle.histar_cells.specs.ByUser.{user_rights_at}
-use Rattle.histar_ever.specs.Changing.{may_change}
 use Rattle.histar_ever.specs.Ever.{ever_paths, ever_processes, ever_rights}
 use Rattle.histar_ever.specs.EverUsers.{ever_user_rights}
 use Rattle.histar_ever.specs.States.{states_from}
@@ -60,9 +59,3 @@ pub record ProcessesRan : Type 0 where
   pub each : (accounts : Accounts) (calls : List CallLine) (p : ProcName)
       → Contains (ever_processes (states_from accounts (boot accounts) calls)) p
       ↔ HeldOnce accounts (boot accounts) calls (λ f. is_some (running f p))
-
--- a call that can't have changed anything, by its reply, leaves the flat state as it was
-abbrev pub OthersChangeNothing : Type 0
-OthersChangeNothing =
-    (accounts : Accounts) (f : Flat) (me : ProcName) (call : UnixCall) → may_change call (reply_to accounts f me call) ≡ false
-    → flat_after accounts f me call ≡ f

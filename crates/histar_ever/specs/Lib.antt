@@ -2,7 +2,6 @@
 pub mod States
 pub mod Ever
 pub mod EverUsers
-pub mod Changing
 pub mod Laws
 pub mod Gathering
 pub mod GatheringUsers

@@ -3,10 +3,10 @@ ghost use Rattle.std.specs.Prelude.{◌≡◌, IfOk, OnOk, [], ◌∷◌};
 ghost use Rattle.histar_prefix.specs.Prefix.{calls_before, is_before as comes_before};
 ghost use Rattle.histar_ever.specs.Following.{FollowsCalls, GathersNone, GathersRun, IsRunning, IsStarted};
 
-use crate::changing::{is_question, may_change};
 use crate::gather::Gather;
 use histar_flat::CallLine;
 use histar_label::LabelStore;
+use histar_never::{is_question, may_change};
 use histar_script::Fault;
 use histar_shell::Machine;
 use std::alloc::Global;

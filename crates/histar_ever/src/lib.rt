@@ -3,7 +3,6 @@
 #![tactic(auto)]
 
 mod by_users;
-mod changing;
 mod ever;
 pub mod ever_laws;
 mod following;
