@@ -14,6 +14,6 @@ compare_each-requires c =
     record {
       script = script;
       is_read = c.in_ok-script.ensures.exact;
-      calls_are = c.as_slice.ensures.value ∙ c.into_parts-_accounts.ensures.calls ∙ ap (λ (s : ScriptModel). s.calls) again;
+      calls_are = c.as_slice.ensures.value ∙ c.into_parts-accounts.ensures.calls ∙ ap (λ (s : ScriptModel). s.calls) again;
       is = c.in_ok-whole.ensures;
     }

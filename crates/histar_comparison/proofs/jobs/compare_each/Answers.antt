@@ -31,18 +31,34 @@ one_more script text jobs i job found old new given more read is added =
     ∙ sym (ap (λ (all : List ProcName). map (job_verdict script) all) more ∙ map_push (job_verdict script) (take i jobs) job)
 
 pub jobs-init : goal.jobs-init
-jobs-init c = (refl, λ script read. c.with_capacity.ensures.items)
+jobs-init c = (refl, λ script read. c.in_ok-verdicts.ensures.items)
 
-pub explain_against-requires : goal.explain_against-requires
-explain_against-requires c =
+pub explain_against-found-requires : goal.explain_against-found-requires
+explain_against-found-requires c =
     let run = c.requires in
-    let answers = (λ i. answered (run.calls_are i) (c.as_slice.ensures.value i)) ∙ run.is.replies in
+    let answers = (λ i. answered (run.calls_are i) (c.as_slice-replies.ensures.value i)) ∙ run.is.replies in
     let replies = c.in_ok-replies_kept.ensures ∙ ap (λ (as' : List RepliedCall). with_replies c.job-item.result no_replies as') answers in
     let tree = c.jobs.invariant.0 ∙ run.is.tree in
     record { script = run.script; is_read = run.is_read; is = λ i. record { replies = replies i; tree = tree i } }
 
 pub jobs-preserved : goal.jobs-preserved
-jobs-preserved c = ?
+jobs-preserved c = (
+  c.jobs.invariant.0,
+  λ script read.
+      let jobs = c.deref-job-items.result.now in
+      let job = c.job-item.result in
+      let more = take_more jobs c.jobs.job-index job c.jobs-test.true
+      ∙ ap (λ (one : ProcName). take c.jobs.job-index jobs ++ one ∷ []) (sym c.job-item.is) in
+      one_more script c.args.text.now jobs c.jobs.job-index job c.in_ok-found.field-0 c.jobs.verdicts.items _
+      c.in_ok-found.ensures.exact more read (c.jobs.invariant.1 script read) c.in_ok-push.ensures.items,
+)
 
 pub returns : goal.returns
-returns c = ?
+returns c =
+    let run = c.requires in
+    let script = run.script in
+    let answers = (λ i. answered (run.calls_are i) (c.as_slice-replies.ensures.value i)) ∙ run.is.replies in
+    ap verdicts_of run.is_read
+    ∙ ap (λ (verdicts : List JobVerdict). Ok verdicts) (sym (c.jobs.invariant.1 script run.is_read
+    ∙ ap (λ jobs. map (job_verdict script) jobs) (take_all c.jobs.job-index c.deref-job-items.result.now c.jobs-test.false
+    ∙ c.deref-job-items.ensures.value ∙ c.in_ok-jobs.ensures ∙ ap jobs_started answers)))

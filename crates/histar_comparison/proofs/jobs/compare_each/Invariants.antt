@@ -8,4 +8,4 @@ use Rattle.histar_comparison.proofs.jobs.compare_each.Given as goal
 abbrev pub invariant-jobs : goal.invariant-jobs
 invariant-jobs l =
     (l.tree.items ≡ l.initial.tree.items)
-    × ((script : ScriptModel) → script_of l.text ≡ Ok script → l.verdicts.items ≡ map (job_verdict script) (take l.job-index l.jobs.items))
+    × ((script : ScriptModel) → script_of l.text ≡ Ok script → l.verdicts.items ≡ map (job_verdict script) (take l.job-index l.job-items))
