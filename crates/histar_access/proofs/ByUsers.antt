@@ -248,7 +248,8 @@ module _ (accounts : Accounts) (f : Flat) where
 -- ---- on a machine
 
 -- the names of the users with which a walk starts
-names_again : (r : Name → Rights) (names : List Name) → map name_of (map (λ (user : Name). record { user = user; rights = r user }) names) ≡ names
+names_again : (r : Name → Rights) (names : List Name)
+    → map name_of (map (λ (user : Name). record { user = user; rights = r user }) names) ≡ names
 names_again r [] = refl
 names_again r (name ∷ names) = ap (λ ns. name ∷ ns) (names_again r names)
 

@@ -114,7 +114,8 @@ module _ (options : DiffOptions) where
 
   module _ (a b : List ℕ) where
     -- the text of what changed for users is that of what changed, if users are asked for
-    pub of_users : options.users ≡ true → (result : Result (Vec ℕ) Fault) → ReadsUserChanges options a b result → ReadsChanges options a b result
+    pub of_users : options.users ≡ true → (result : Result (Vec ℕ) Fault) → ReadsUserChanges options a b result
+        → ReadsChanges options a b result
     of_users asked (Ok text) is = record {
       scripts = is.scripts;
       are_read = is.are_read;

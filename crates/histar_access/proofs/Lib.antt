@@ -12,3 +12,4 @@ pub mod Pieces
 pub mod ByUsers
 pub mod Runs
 pub mod Comparing
+pub mod OwnNames

@@ -6,3 +6,4 @@ pub mod Users
 pub mod Session
 pub mod RightsTable
 pub mod Diff
+pub mod Laws

@@ -45,8 +45,8 @@ abbrev pub name_of : UserRights → Name
 name_of u = u.user
 
 -- the rights of a cell
-abbrev pub user_rights : UserRights → Rights
-user_rights u = u.rights
+abbrev pub rights_held : UserRights → Rights
+rights_held u = u.rights
 
 -- For every flat state that the machine represents, the table shows the rights of its users.
 abbrev pub ShowsUsersTable : MachineModel → UsersTable → Type 0

@@ -3,8 +3,10 @@ ghost use Rattle.std.specs.Prelude.{◌≡◌, false, IfErr, IfSome};
 ghost use Rattle.histar_io.specs.Device.{CountsFailure};
 ghost use Rattle.histar_script.specs.Runs.{LeavesSink, is_read_failed, is_write_failed};
 ghost use Rattle.histar_access.specs.Diff.{ComparesInputs, ComparesTexts, CountsOneFailure};
-ghost use Rattle.histar_access.specs.Diff.{ReadsChanges, ReadsProcessChanges, ReadsTable, ReadsUserChanges, ReadsUsersTable};
-ghost use Rattle.histar_access.specs.Diff.{lone_shown, lone_users_shown, shown as shown_changes, user_changes_shown};
+ghost use Rattle.histar_access.specs.Diff.{ReadsChanges, ReadsProcessChanges, ReadsTable};
+ghost use Rattle.histar_access.specs.Diff.{ReadsUserChanges, ReadsUsersTable};
+ghost use Rattle.histar_access.specs.Diff.{lone_shown, lone_users_shown, shown as shown_changes};
+ghost use Rattle.histar_access.specs.Diff.{user_changes_shown};
 
 use crate::rights_table::table_of;
 use crate::users_rights::users_table_of;
@@ -24,8 +26,8 @@ pub struct DiffOptions {
     pub old_at: Option<u32>,
     /// The same of the new script.
     pub new_at: Option<u32>,
-    /// Whether it writes only the lines of new processes or users, and those where the new script gives a letter
-    /// that the old one doesn't.
+    /// Whether it writes only the lines of new processes or users, and those where the new script
+    /// gives a letter that the old one doesn't.
     pub more: bool,
     /// Whether it compares the rights of users, and not those of processes.
     pub users: bool,
@@ -36,8 +38,8 @@ pub struct DiffOptions {
 /// runs after both whose letters differ, or only those that the options ask for. It returns whether no line was
 /// to be written.
 ///
-/// With `users` it compares the columns of `access_users`: a line for each user that one script alone declares, and
-/// a line for each path and user of both whose letters differ.
+/// With `users` it compares the columns of `access_users`: a line for each user that one script
+/// alone declares, and a line for each path and user of both whose letters differ.
 ///
 /// Both scripts are read whole before the first call of either, and all lines are computed before the first one
 /// is written. It doesn't flush the sink.

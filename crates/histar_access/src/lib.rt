@@ -2,6 +2,7 @@
 //! the kernel's own objects.
 #![tactic(auto)]
 
+pub mod access_laws;
 mod cells;
 mod changes;
 mod rights_table;

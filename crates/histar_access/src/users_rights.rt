@@ -4,7 +4,8 @@ ghost use Rattle.histar_diff.specs.Tables.{by_path};
 ghost use Rattle.histar_diff.specs.UserChanges.{users_rights};
 ghost use Rattle.histar_access.specs.RightsTable.{line_rights};
 ghost use Rattle.histar_access.specs.Shown.{IsShown};
-ghost use Rattle.histar_access.specs.Users.{name_of, ShowsUsersTable, user_rights, users_from, users_line_at};
+ghost use Rattle.histar_access.specs.Users.{name_of, ShowsUsersTable, rights_held, users_from};
+ghost use Rattle.histar_access.specs.Users.{users_line_at};
 
 use crate::table::last_row;
 use crate::users::{starting, users_below};
@@ -17,8 +18,9 @@ use histar_rights::{Rights, UserRights};
 use histar_shell::Machine;
 use std::alloc::{AllocError, Global};
 
-/// Returns what each user may do in a machine: nobody and the users of its script, in its order, and the rights of a
-/// process of each that is in no job and holds none, at each path. It goes down the tree once, as `users_table` does.
+/// Returns what each user may do in a machine: nobody and the users of its script, in its order,
+/// and the rights of a process of each that is in no job and holds none, at each path. It goes down
+/// the tree once, as `users_table` does.
 pub fn users_table_of<S: LabelStore + Drop>(
     alloc: Global,
     machine: &Machine<S>,
@@ -44,7 +46,8 @@ fn names_in(alloc: Global, row: &[UserRights]) -> Result<Vec<Name>, AllocError>
     Ok(names)
 }
 
-/// Returns the rights of users at the files and directories of a machine, each computed from those at its directory.
+/// Returns the rights of users at the files and directories of a machine, each computed from those
+/// at its directory.
 fn users_lines(
     alloc: Global,
     users: &UserTable,
@@ -68,7 +71,8 @@ fn users_lines(
 
 /// Returns the rights of users at a file or a directory.
 fn users_line(alloc: Global, node: &TreeNode, row: &[UserRights]) -> Result<TableLine, AllocError>
-    ensures { IfOk result (λ line. line_rights line ≡ users_rights (users_line_at node.now row.now)) }
+    ensures { IfOk result (λ line.
+        line_rights line ≡ users_rights (users_line_at node.now row.now)) }
 {
     let rights = rights_in(alloc, row)?;
     Ok(TableLine {
@@ -79,7 +83,7 @@ fn users_line(alloc: Global, node: &TreeNode, row: &[UserRights]) -> Result<Tabl
 
 /// Returns the rights of each user of a row.
 fn rights_in(alloc: Global, row: &[UserRights]) -> Result<Vec<Rights>, AllocError>
-    ensures { IfOk result (λ rights. rights.items ≡ map user_rights row.now) }
+    ensures { IfOk result (λ rights. rights.items ≡ map rights_held row.now) }
 {
     let mut rights = Vec::with_capacity(alloc, row.len())?;
     for user in row {

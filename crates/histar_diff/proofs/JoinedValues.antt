@@ -1,5 +1,6 @@
 -- Entries with other values, and the values that are joined at each key.
-use Rattle.std.specs.Prelude.{◌≡◌, Bool, true, false, cond, is_some, ◌||◌, T, List, [], ◌∷◌, ◌++◌, map, Option, None, Some, option_map, refl}
+use Rattle.std.specs.Prelude.{◌≡◌, Bool, true, false, cond, is_some, ◌||◌, T, List, [], ◌∷◌, ◌++◌, map}
+use Rattle.std.specs.Prelude.{Option, None, Some, option_map, refl}
 use Rattle.std.specs.List.{AllByRecursion, flat_map, list_any}
 use Rattle.std.proofs.Common.{ap, sym, ◌∙◌}
 use Rattle.std.proofs.lemmas.Option.{none-some, same_Some}
@@ -48,7 +49,8 @@ module _ {K A C : Type 0} (R : K → K → Ordering) (G : K → A → C) where
       by false t later = later
 
 -- a key is found exactly if an entry has it
-pub found_among : {K A : Type 0} (R : K → K → Ordering) (q : K) (es : List (K × A)) → is_some (find R q es) ≡ list_any (eq_by_cmp R q) (keys_of es)
+pub found_among : {K A : Type 0} (R : K → K → Ordering) (q : K) (es : List (K × A))
+    → is_some (find R q es) ≡ list_any (eq_by_cmp R q) (keys_of es)
 found_among R q [] = refl
 found_among R q (e ∷ es) = by (eq_by_cmp R q e.0) (found_among R q es)
   where
@@ -102,7 +104,8 @@ each_weaker P Q h (x ∷ xs) all = (h x all.0, each_weaker P Q h xs all.1)
 
 module _ {K : Type 0} (R : K → K → Ordering) (total : IsTotalOrder R) (exact : IsAntisymmetric R) where
   -- each entry of a sorted list is found by its key in a list in which all is found that is found in the first one
-  each_found : {X : Type 0} (all es : List (K × X)) → T (is_sorted R es) → ((k : K) (x : X) → find R k es ≡ Some x → find R k all ≡ Some x)
+  each_found : {X : Type 0} (all es : List (K × X)) → T (is_sorted R es)
+      → ((k : K) (x : X) → find R k es ≡ Some x → find R k all ≡ Some x)
       → AllByRecursion (λ (e : K × X). find R e.0 all ≡ Some e.1) es
   each_found all [] s lead = tt
   each_found all (e ∷ es) s lead = (

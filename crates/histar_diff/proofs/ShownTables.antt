@@ -118,7 +118,8 @@ tables_show_rights accounts calls t shows q p =
     let ns = running_in f in
     let lines = shows.lines ∙ rights_lines accounts f ns f.files.entries in
     (λ i. rights_at (unwrap_or (find path_cmp q (lines i)) []) (place_of (find process_cmp p (by_process 0 (shows.processes i)))))
-    ∙ ap (λ o. rights_at (unwrap_or o []) (place_of (find process_cmp p (by_process 0 (map runner ns))))) (find_values path_cmp (rights_there accounts f ns) path_cmp_exact q f.files.entries)
+    ∙ ap (λ o. rights_at (unwrap_or o []) (place_of (find process_cmp p (by_process 0 (map runner ns)))))
+    (find_values path_cmp (rights_there accounts f ns) path_cmp_exact q f.files.entries)
     ∙ if_there accounts f q p (place_of (find process_cmp p (by_process 0 (map runner ns)))) ns (get f.files q) (running f p)
     (λ x. at_place (λ (n : Named). rights_by_calls accounts f n.0 n.1 q x) p [] 0 ns refl
     ∙ ap (of_found (λ (n : Named). rights_by_calls accounts f n.0 n.1 q x) p) ((running_are_listed accounts calls).each p))

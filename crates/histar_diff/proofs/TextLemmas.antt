@@ -43,7 +43,8 @@ difference_is_written d =
     (change_text d.before d.after) (change_is_written d.before d.after)
 
 -- there is no text of two lists exactly if both are empty
-neither_written : {A B : Type 0} (F : A → List ℕ) (G : B → List ℕ) → ((x : A) → F x ≢ []) → ((y : B) → G y ≢ []) → (xs : List A) (ys : List B)
+neither_written : {A B : Type 0} (F : A → List ℕ) (G : B → List ℕ) → ((x : A) → F x ≢ []) → ((y : B) → G y ≢ [])
+    → (xs : List A) (ys : List B)
     → (flat_map F xs ++ flat_map G ys ≡ []) ↔ ((xs ≡ []) × (ys ≡ []))
 neither_written F G each every xs ys = (
   λ e.

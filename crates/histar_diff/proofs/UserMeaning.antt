@@ -153,7 +153,8 @@ no_user_gains_is_no_more accounts f later g = (
   ),
 )
   where
-    was : (accounts later : Accounts) (u : Name) → is_user later u ≡ true → (is_user accounts u ≡ false → ⊥) → is_user accounts u ≡ true
+    was : (accounts later : Accounts) (u : Name) → is_user later u ≡ true → (is_user accounts u ≡ false → ⊥)
+        → is_user accounts u ≡ true
     was accounts later u b h = by (is_user accounts u) refl
       where
         by : (a : Bool) → is_user accounts u ≡ a → is_user accounts u ≡ true

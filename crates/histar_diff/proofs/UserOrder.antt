@@ -1,5 +1,6 @@
 -- The changes of users are listed by rising paths, and at each path in the order of the old script.
-use Rattle.std.specs.Prelude.{◌≡◌, ℕ, ◌+◌, ◌<◌, ◌≤◌, ◌==◌, Bool, true, false, cond, if◌then◌else◌, T, List, [], ◌∷◌, ◌++◌, length, None, Some, refl}
+use Rattle.std.specs.Prelude.{◌≡◌, ℕ, ◌+◌, ◌<◌, ◌≤◌, ◌==◌, Bool, true, false, cond}
+use Rattle.std.specs.Prelude.{if◌then◌else◌, T, List, [], ◌∷◌, ◌++◌, length, None, Some, refl}
 use Rattle.std.specs.List.{cons_option, filter, filter_map, flat_map, slice_index_or}
 use Rattle.std.proofs.Common.{append_assoc, ap, arith, sym, ◌∙◌, subst}
 use Rattle.std.proofs.lemmas.Bool.{false_from_ne_true, lt-ltb}
@@ -175,6 +176,7 @@ module _ (accounts : Accounts) (f : Flat) (later : Accounts) (g : Flat) where
 -- changes are in order, each at most once
 pub user_changes_rise : UserChangesRise
 user_changes_rise accounts f later g own =
-    rows_rise accounts f later g (follow_filtered accounts (is_user later) 0 (somebody accounts) (follow_all accounts own [] (somebody accounts) refl))
+    rows_rise accounts f later g
+    (follow_filtered accounts (is_user later) 0 (somebody accounts) (follow_all accounts own [] (somebody accounts) refl))
     (joined path_cmp f.files.entries g.files.entries)
     (sorted_joined path_cmp path_cmp_total path_cmp_exact Node Node f.files.entries g.files.entries f.files.sorted g.files.sorted)

@@ -1,5 +1,6 @@
 -- What differs between two tables that show the rights of users is what changed between the two flat states.
-use Rattle.std.specs.Prelude.{◌≡◌, ℕ, Bool, true, false, cond, is_some, List, [], ◌∷◌, map, Option, None, Some, option_map, position, refl}
+use Rattle.std.specs.Prelude.{◌≡◌, ℕ, Bool, true, false, cond, is_some}
+use Rattle.std.specs.Prelude.{List, [], ◌∷◌, map, Option, None, Some, option_map, position, refl}
 use Rattle.std.specs.Prelude.{◌+◌, ◌||◌, slice_index_or}
 use Rattle.std.specs.List.{AllByRecursion, cons_option, filter, filter_map, flat_map, position_from}
 use Rattle.std.proofs.Common.{ap, inl, inr, sym, ◌∙◌}
@@ -57,7 +58,8 @@ at_name F names u i e =
     get_or-map F names i u no_rights at.0 ∙ ap F (sym (same_name u (slice_index_or names i u) at.1))
 
 -- each of these names is among all, if all have what these have
-each_among : (all names : List Name) → ((u : Name) → has names u ≡ true → has all u ≡ true) → AllByRecursion (λ u. has all u ≡ true) names
+each_among : (all names : List Name) → ((u : Name) → has names u ≡ true → has all u ≡ true)
+    → AllByRecursion (λ u. has all u ≡ true) names
 each_among all [] lead = tt
 each_among all (v ∷ names) lead = (
   lead v (ap (λ b. b || has names v) (same_itself v)),
@@ -96,10 +98,12 @@ module _ (names others : List Name) (q : Path) (F G : Node → Name → Rights) 
       later_names : List Name
       later_names = filter (has others) us
 
-      by : (i : Option ℕ) → position (same u) names ≡ i → (j : Option ℕ) → position (same u) others ≡ j → (b : Bool) → has others u ≡ b
+      by : (i : Option ℕ) → position (same u) names ≡ i → (j : Option ℕ) → position (same u) others ≡ j
+          → (b : Bool) → has others u ≡ b
           → filter_map (shared_difference q (row F names n) (row G others m)) (filter_map (shared_user names others) us)
           ≡ filter_map change (filter (has others) us)
-          → filter_map (shared_difference q (row F names n) (row G others m)) (cons_option (shared_at u i j) (filter_map (shared_user names others) us))
+          → filter_map (shared_difference q (row F names n) (row G others m))
+          (cons_option (shared_at u i j) (filter_map (shared_user names others) us))
           ≡ filter_map change (cond b (u ∷ filter (has others) us) (filter (has others) us))
       by None e j f b h later = absurd (true≢false (sym all.0 ∙ sym (has_place u names) ∙ ap is_some e))
       by (Some i) e None f true h later = absurd (true≢false (sym h ∙ sym (has_place u others) ∙ ap is_some f))
@@ -130,21 +134,24 @@ module _ (accounts : Accounts) (f : Flat) (later : Accounts) (g : Flat) where
   shared = shared_of_both (somebody accounts) (somebody later)
 
   -- the differences at a path of two tables are the changes there
-  at_path : (q : Path) → shared_differences shared q (option_map (there accounts f q) (get f.files q)) (option_map (there later g q) (get g.files q))
+  at_path : (q : Path)
+      → shared_differences shared q (option_map (there accounts f q) (get f.files q)) (option_map (there later g q) (get g.files q))
       ≡ user_changes_at accounts f later g q
   at_path q =
       by_name (somebody accounts) (somebody later) q (λ node u. rights_of_user accounts f u q node) (λ node u. rights_of_user later g u q node)
       (get f.files q) (get g.files q) (somebody accounts) (each_among (somebody accounts) (somebody accounts) (λ u h. h))
 
   -- the differences of two tables are the changes
-  along_paths : (ls ms : List TableLine) → by_path ls ≡ values (there accounts f) f.files.entries → by_path ms ≡ values (there later g) g.files.entries
+  along_paths : (ls ms : List TableLine) → by_path ls ≡ values (there accounts f) f.files.entries
+      → by_path ms ≡ values (there later g) g.files.entries
       → shared_lines_differences shared ls ms ≡ user_changes accounts f later g
   along_paths ls ms old new =
       let xs = values (there accounts f) f.files.entries in
       let ys = values (there later g) g.files.entries in
       (λ i. flat_map (joined_user_differences shared) (joined path_cmp (old i) (new i)))
       ∙ along_keys (joined_user_differences shared) (user_changes_at accounts f later g) (joined path_cmp xs ys)
-      (each_weaker (λ (e : Path × Joined (List Rights) (List Rights)). (old_of e.1 ≡ find path_cmp e.0 xs) × (new_of e.1 ≡ find path_cmp e.0 ys))
+      (each_weaker
+      (λ (e : Path × Joined (List Rights) (List Rights)). (old_of e.1 ≡ find path_cmp e.0 xs) × (new_of e.1 ≡ find path_cmp e.0 ys))
       (λ (e : Path × Joined (List Rights) (List Rights)). joined_user_differences shared e ≡ user_changes_at accounts f later g e.0)
       (λ e is. (λ i. shared_differences shared e.0
       ((is.0 ∙ find_values path_cmp (there accounts f) path_cmp_exact e.0 f.files.entries) i)

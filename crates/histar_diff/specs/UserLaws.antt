@@ -119,5 +119,6 @@ UsersAreAnsweredAlike =
     (accounts later : Accounts) (calls more : List CallLine)
     → lone_users accounts later ≡ []
     → user_changes accounts (flat_end accounts (boot accounts) calls) later (flat_end later (boot later) more) ≡ []
-    → (u : Name) → is_user accounts u ≡ true → (me other : ProcName) → IsFreeProcessOf accounts calls u me → IsFreeProcessOf later more u other
+    → (u : Name) → is_user accounts u ≡ true → (me other : ProcName) → IsFreeProcessOf accounts calls u me
+    → IsFreeProcessOf later more u other
     → (q : Path) → AreAnsweredAlike accounts calls me later more other q

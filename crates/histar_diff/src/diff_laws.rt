@@ -6,8 +6,10 @@ ghost use Rattle.histar_diff.specs.Laws.{NewAreListed, NewOfTablesAreListed};
 ghost use Rattle.histar_diff.specs.Laws.{NobodyIsAnsweredMore, NobodyIsAnsweredOtherwise, NoGainIsNoMore};
 ghost use Rattle.histar_diff.specs.Laws.{NoneIsTheSame, NothingHasChanged};
 ghost use Rattle.histar_diff.specs.Laws.{ShownTablesRise, TablesShowRights};
-ghost use Rattle.histar_diff.specs.UserLaws.{LoneUsersAreListed, NothingHasChangedForUsers, NoUserGainsIsNoMore};
-ghost use Rattle.histar_diff.specs.UserLaws.{UserChangesAreListed, UserChangesRise, UserDifferencesAreChanges};
+ghost use Rattle.histar_diff.specs.UserLaws.{LoneUsersAreListed, NothingHasChangedForUsers};
+ghost use Rattle.histar_diff.specs.UserLaws.{NoUserGainsIsNoMore};
+ghost use Rattle.histar_diff.specs.UserLaws.{UserChangesAreListed, UserChangesRise};
+ghost use Rattle.histar_diff.specs.UserLaws.{UserDifferencesAreChanges};
 ghost use Rattle.histar_diff.specs.UserLaws.{UserGainsAreListed, UsersAreAnsweredAlike};
 
 /// Shows that a pair of a path and a process is listed exactly if both tables have the process and its letters
@@ -113,49 +115,51 @@ pub fn nobody_is_answered_more()
     ensures { NobodyIsAnsweredMore }
 {}
 
-/// Shows that what differs between two tables that show the rights of users in flat states is what changed for users
-/// between the two states, stated without tables.
+/// Shows that what differs between two tables that show the rights of users in flat states is what
+/// changed for users between the two states, stated without tables.
 pub fn user_differences_are_changes()
     ensures { UserDifferencesAreChanges }
 {}
 
-/// Shows that a path and a user are listed exactly if both scripts have the user and its rights there differ.
+/// Shows that a path and a user are listed exactly if both scripts have the user and its rights
+/// there differ.
 pub fn user_changes_are_listed()
     ensures { UserChangesAreListed }
 {}
 
-/// Shows that the changes of users are listed by rising paths, and at each path in the order of the old script, so
-/// that each pair of a path and a user is listed at most once.
+/// Shows that the changes of users are listed by rising paths, and at each path in the order of the
+/// old script, so that each pair of a path and a user is listed at most once.
 pub fn user_changes_rise()
     ensures { UserChangesRise }
 {}
 
-/// Shows that a user is listed as gone exactly if the old script alone declares it, and as new exactly if the new one
-/// alone does.
+/// Shows that a user is listed as gone exactly if the old script alone declares it, and as new
+/// exactly if the new one alone does.
 pub fn lone_users_are_listed()
     ensures { LoneUsersAreListed }
 {}
 
-/// Shows that nothing is listed for users exactly if both scripts have the same users, and each has the same letters
-/// at each path.
+/// Shows that nothing is listed for users exactly if both scripts have the same users, and each has
+/// the same letters at each path.
 pub fn nothing_has_changed_for_users()
     ensures { NothingHasChangedForUsers }
 {}
 
-/// Shows that a path and a user are a gain exactly if both scripts have the user and the new state gives it a letter
-/// that the old one doesn't.
+/// Shows that a path and a user are a gain exactly if both scripts have the user and the new state
+/// gives it a letter that the old one doesn't.
 pub fn user_gains_are_listed()
     ensures { UserGainsAreListed }
 {}
 
-/// Shows that there is no new user and no gain exactly if each user of the new script is one of the old script, and
-/// each of its letters in the new state is one in the old state.
+/// Shows that there is no new user and no gain exactly if each user of the new script is one of the
+/// old script, and each of its letters in the new state is one in the old state.
 pub fn no_user_gains_is_no_more()
     ensures { NoUserGainsIsNoMore }
 {}
 
-/// Shows that if nothing has changed for users between the states after two scripts, processes of a user of both, in
-/// no job and holding none, have at every path the same answer to each of the four questions in both.
+/// Shows that if nothing has changed for users between the states after two scripts, processes of a
+/// user of both, in no job and holding none, have at every path the same answer to each of the four
+/// questions in both.
 pub fn users_are_answered_alike()
     ensures { UsersAreAnsweredAlike }
 {}

@@ -17,7 +17,8 @@ pub fn keep_gains(differences: &mut Differences)
     differences.pairs.retain(|pair| gives_more(letters(pair.before), letters(pair.after)));
 }
 
-/// Keeps the users of the new table only, and the differences in which it gives a letter that the old table doesn't.
+/// Keeps the users of the new table only, and the differences in which it gives a letter that the
+/// old table doesn't.
 pub fn keep_user_gains(differences: &mut UserDifferences)
     ensures lone { differences.new.lone.items ≡ new_users differences.old.lone.items }
     ensures pairs { differences.new.pairs.items ≡ user_gains differences.old.pairs.items }

@@ -1,5 +1,5 @@
-//! What changed between two tables of rights: the processes or users that one alone has, and the paths and processes
-//! or users of both whose letters differ.
+//! What changed between two tables of rights: the processes or users that one alone has, and the
+//! paths and processes or users of both whose letters differ.
 #![tactic(auto)]
 
 mod columns;

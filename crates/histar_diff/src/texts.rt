@@ -1,7 +1,8 @@
 //! The text of what differs.
 ghost use Rattle.std.specs.Prelude.{◌≡◌, ◌++◌, IfOk, OnOk};
 ghost use Rattle.std.specs.List.{flat_map};
-ghost use Rattle.histar_diff.specs.Texts.{change_text, difference_text, differences_text, fate_text};
+ghost use Rattle.histar_diff.specs.Texts.{change_text, difference_text, differences_text};
+ghost use Rattle.histar_diff.specs.Texts.{fate_text};
 ghost use Rattle.histar_diff.specs.Texts.{letters_text, lone_text, user_text};
 
 use crate::differences::{Difference, Differences};

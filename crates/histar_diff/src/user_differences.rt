@@ -1,7 +1,8 @@
 //! The differences between the rights of users in two tables.
-ghost use Rattle.std.specs.Prelude.{◌≡◌, ◌++◌, ◌&&◌, ◌==◌, IfOk, OnOk, length};
+ghost use Rattle.std.specs.Prelude.{◌≡◌, ◌++◌, IfOk, OnOk};
 ghost use Rattle.std.specs.Option.{option_copied};
-ghost use Rattle.histar_diff.specs.UserTables.{AreUserDifferences, shared_difference, shared_differences};
+ghost use Rattle.histar_diff.specs.UserTables.{AreUserDifferences, shared_difference};
+ghost use Rattle.histar_diff.specs.UserTables.{shared_differences};
 ghost use Rattle.histar_diff.specs.UserTables.{shared_lines_differences};
 
 use crate::differences::{letters_at, same_letters};
@@ -12,7 +13,8 @@ use histar_flat::{Name, Path};
 use histar_rights::Rights;
 use std::alloc::{AllocError, Global};
 
-/// A path and a user of both tables whose letters there differ. A table that lacks the path gives none.
+/// A path and a user of both tables whose letters there differ. A table that lacks the path gives
+/// none.
 #[derive(Clone, Copy)]
 pub struct UserDifference {
     pub path: Path,
@@ -32,18 +34,9 @@ pub struct UserDifferences {
     pub pairs: Vec<UserDifference>,
 }
 
-impl UserDifferences {
-    /// Checks whether nothing differs.
-    pub fn is_empty(&self) -> bool
-        ensures { result ≡ (length self.now.lone.items == 0 && length self.now.pairs.items == 0) }
-    {
-        self.lone.is_empty() && self.pairs.is_empty()
-    }
-}
-
-/// Returns the users of one table only, first those of the old one, each in the order of its table, and the paths and
-/// users of both whose letters differ, by rising paths, and at each path in the order of the old table. Users are
-/// matched by name. One pass goes over the lines of both.
+/// Returns the users of one table only, first those of the old one, each in the order of its table,
+/// and the paths and users of both whose letters differ, by rising paths, and at each path in the
+/// order of the old table. Users are matched by name. One pass goes over the lines of both.
 pub fn user_differences_between(
     alloc: Global,
     old: &UsersTable,
@@ -92,8 +85,9 @@ fn push_differences(
     before: Option<&[Rights]>,
     after: Option<&[Rights]>,
 ) -> Result<(), AllocError>
-    ensures { OnOk result (differences.new.items ≡ differences.old.items
-        ++ shared_differences shared.now path (option_copied before.entry) (option_copied after.entry)) }
+    ensures { OnOk result (differences.new.items ≡ differences.old.items ++
+        shared_differences shared.now path
+        (option_copied before.entry) (option_copied after.entry)) }
 {
     for user in shared {
         if let Some(difference) = shared_difference(path, before, after, user) {

@@ -1,7 +1,8 @@
 //! The text of what differs for users.
 ghost use Rattle.std.specs.Prelude.{◌≡◌, ◌++◌, IfOk, OnOk};
 ghost use Rattle.std.specs.List.{flat_map};
-ghost use Rattle.histar_diff.specs.UserTexts.{lone_user_text, user_difference_text, user_differences_text};
+ghost use Rattle.histar_diff.specs.UserTexts.{lone_user_text, user_difference_text};
+ghost use Rattle.histar_diff.specs.UserTexts.{user_differences_text};
 
 use crate::texts::{push_change, push_fate};
 use crate::user_differences::{UserDifference, UserDifferences};
@@ -9,7 +10,8 @@ use crate::users::LoneUser;
 use histar_texts::push_path;
 use std::alloc::{AllocError, Global};
 
-/// Returns the lines of what differs for users: those of users that one script lacks, and then those of paths.
+/// Returns the lines of what differs for users: those of users that one script lacks, and then
+/// those of paths.
 pub fn users_text_of(alloc: Global, differences: &UserDifferences) -> Result<Vec<u8>, AllocError>
     ensures { IfOk result (λ text.
         text.items ≡ user_differences_text differences.now.lone.items differences.now.pairs.items) }
@@ -41,7 +43,8 @@ fn push_lone(text: &mut Vec<u8>, lone: &LoneUser) -> Result<(), AllocError>
 
 /// Adds the lines of differences.
 fn push_differences(text: &mut Vec<u8>, differences: &[UserDifference]) -> Result<(), AllocError>
-    ensures { OnOk result (text.new.items ≡ text.old.items ++ flat_map user_difference_text differences.now) }
+    ensures { OnOk result (text.new.items
+        ≡ text.old.items ++ flat_map user_difference_text differences.now) }
 {
     for difference in differences {
         push_difference(text, difference)?;
@@ -49,7 +52,8 @@ fn push_differences(text: &mut Vec<u8>, differences: &[UserDifference]) -> Resul
     Ok(())
 }
 
-/// Adds the line of a difference: the path, the user, and its letters in the old and in the new table.
+/// Adds the line of a difference: the path, the user, and its letters in the old and in the new
+/// table.
 fn push_difference(text: &mut Vec<u8>, difference: &UserDifference) -> Result<(), AllocError>
     ensures { OnOk result (text.new.items ≡ text.old.items ++ user_difference_text difference.now) }
 {

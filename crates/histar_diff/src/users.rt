@@ -3,14 +3,15 @@ ghost use Rattle.std.specs.Prelude.{◌≡◌, ◌++◌, IfOk, OnOk, position};
 ghost use Rattle.std.specs.List.{filter_map};
 ghost use Rattle.histar_base.specs.Paths.{same};
 ghost use Rattle.histar_flat.specs.Accounts.{has as has_user};
-ghost use Rattle.histar_diff.specs.UserTables.{lone_among, lone_of_both, lone_user, shared_of_both, shared_user};
+ghost use Rattle.histar_diff.specs.UserTables.{lone_among, lone_of_both, lone_user, shared_of_both};
+ghost use Rattle.histar_diff.specs.UserTables.{shared_user};
 
 use crate::table::TableLine;
 use histar_flat::Name;
 use std::alloc::{AllocError, Global};
 
-/// What each user may do: nobody and the users of a script, in its order, and a line for each file and directory,
-/// by rising paths, with the rights of the users in the same order.
+/// What each user may do: nobody and the users of a script, in its order, and a line for each file
+/// and directory, by rising paths, with the rights of the users in the same order.
 #[derive(Drop)]
 pub struct UsersTable {
     pub users: Vec<Name>,
@@ -33,8 +34,9 @@ pub(crate) struct SharedUser {
     pub(crate) new: usize,
 }
 
-/// Returns the users that one of two tables lacks: those of the old one in its order, and then those of the new one
-/// in its order. Names are looked up one by one, since a script has at most 16 users.
+/// Returns the users that one of two tables lacks: those of the old one in its order, and then
+/// those of the new one in its order. Names are looked up one by one, since a script has at most 16
+/// users.
 pub(crate) fn lone_users(
     alloc: Global,
     old: &[Name],
@@ -55,7 +57,8 @@ fn push_lone(
     users: &[Name],
     others: &[Name],
 ) -> Result<(), AllocError>
-    ensures { OnOk result (lone.new.items ≡ lone.old.items ++ lone_among is_new users.now others.now) }
+    ensures { OnOk result (lone.new.items
+        ≡ lone.old.items ++ lone_among is_new users.now others.now) }
 {
     for user in users {
         if let Some(user) = lone_user(is_new, others, *user) {

@@ -11,7 +11,8 @@ use Rattle.histar_access.proofs.users.tree_text.Goals as goal
 
 pub nodes-init : goal.nodes-init
 nodes-init c =
-    nothing_made users_line_text c.args.users.now c.args.start.now c.args.tree.now (ap (map cells_of) c.new-way.ensures.items) c.new-text.ensures.items
+    nothing_made users_line_text c.args.users.now c.args.start.now c.args.tree.now
+    (ap (map cells_of) c.new-way.ensures.items) c.new-text.ensures.items
 
 pub nodes-preserved : goal.nodes-preserved
 nodes-preserved c =
@@ -31,4 +32,5 @@ nodes-preserved c =
 
 pub returns : goal.returns
 returns c =
-    all_made users_line_text c.args.users.now c.args.start.now c.args.tree.now (none_left c.args.tree.now c.nodes.node-index (search rules)) c.nodes.invariant
+    all_made users_line_text c.args.users.now c.args.start.now c.args.tree.now
+    (none_left c.args.tree.now c.nodes.node-index (search rules)) c.nodes.invariant

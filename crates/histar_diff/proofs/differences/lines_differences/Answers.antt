@@ -15,8 +15,8 @@ lines-preserved c =
     let columns = c.args.columns.now in
     let rest = lines_differences columns c.after-old_rest.result.now c.after-new_rest.result.now in
     let here = line_differences columns c.in-Some.path (option_copied c.row_at-before.result) (option_copied c.row_at-now.result) in
-    let one = lines_step (line_differences columns) c.in-Some.path c.lines.old_rest.now c.lines.new_rest.now c.after-old_rest.result.now c.after-new_rest.result.now
-    (sym c.in-Some.ensures) c.after-old_rest.ensures c.after-new_rest.ensures in
+    let one = lines_step (line_differences columns) c.in-Some.path c.lines.old_rest.now c.lines.new_rest.now
+    c.after-old_rest.result.now c.after-new_rest.result.now (sym c.in-Some.ensures) c.after-old_rest.ensures c.after-new_rest.ensures in
     ap (λ ds. ds ++ rest) c.in_ok-push_differences.ensures
     ∙ append_assoc c.lines.differences.items here rest
     ∙ ap (λ ds. c.lines.differences.items ++ ds)
