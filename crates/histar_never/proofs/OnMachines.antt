@@ -1,5 +1,6 @@
 -- The breach of a claim that is found on a machine is that in the flat state.
-use Rattle.std.specs.Prelude.{◌≡◌, ℕ, ◌<◌, ◌&&◌, Bool, true, false, List, [], ◌∷◌, drop, get_or, length, map, Option, None, Some, is_some}
+use Rattle.std.specs.Prelude.{◌≡◌, ℕ, ◌<◌, ◌&&◌, Bool, true, false, List, [], ◌∷◌, drop, get_or, length, map, Option}
+use Rattle.std.specs.Prelude.{None, Some, is_some}
 use Rattle.std.specs.Prelude.{if◌then◌else◌, option_and_then, refl, slice_get}
 use Rattle.std.specs.Option.{option_or}
 use Rattle.std.proofs.Common.{ap, subst, sym, ◌∙◌}
@@ -31,7 +32,8 @@ use Rattle.histar_never.specs.declared.breaches.Holder.TheVariants.{AProcess, AU
 use Rattle.histar_never.specs.declared.claims.Never.{Never}
 use Rattle.histar_never.specs.declared.whom.Whom.TheVariants.{OfProcess}
 use Rattle.histar_never.specs.Breaches.{breach_by, breach_of, first_of, runner_breach, user_breach}
-use Rattle.histar_never.specs.Machines.{FindsBreach, IsBreachAmong, IsBreachByAll, IsBreachByOne, IsBreachByUsers, IsBreachOf, IsUserBreach}
+use Rattle.histar_never.specs.Machines.{FindsBreach, IsBreachAmong, IsBreachByAll, IsBreachByOne, IsBreachByUsers}
+use Rattle.histar_never.specs.Machines.{IsBreachOf, IsUserBreach}
 use Rattle.histar_never.specs.Machines.{IsNodeBreach, node_breach}
 use Rattle.histar_never.specs.Whom.{is_meant_user}
 use Rattle.histar_never.proofs.Alone.{of_one}
@@ -101,7 +103,8 @@ module _ (m : MachineModel) (never : Never) where
 
   -- the first of these processes breaks the claim
   pub node_breaks : (nodes : List ProcessNode) (node : ProcessNode) (more : List ProcessNode) (found : Option Breach)
-      → ((accounts : Accounts) (f : Flat) → first_of (node_breach accounts f never) nodes ≡ first_of (node_breach accounts f never) (node ∷ more))
+      → ((accounts : Accounts) (f : Flat)
+      → first_of (node_breach accounts f never) nodes ≡ first_of (node_breach accounts f never) (node ∷ more))
       → IsNodeBreach m never node found → is_some found ≡ true → IsBreachAmong m never nodes found
   node_breaks nodes node more found so_far one some accounts f shows =
       comes_first found _ some
@@ -168,7 +171,8 @@ module _ (m : MachineModel) (never : Never) where
       ∙ sym (first_map answer (λ (u : User). u.name) accounts.users))
 
   -- the processes of a machine break what the running processes break
-  nodes_found : (nodes : List ProcessNode) → AreProcessesIn m nodes → (accounts : Accounts) (f : Flat) → Shows accounts m f → HaveShownNames f
+  nodes_found : (nodes : List ProcessNode) → AreProcessesIn m nodes
+      → (accounts : Accounts) (f : Flat) → Shows accounts m f → HaveShownNames f
       → first_of (node_breach accounts f never) nodes ≡ first_of (runner_breach accounts f never) (map runner (running_in f))
   nodes_found nodes are accounts f shows named =
       sym (first_filter_map (runner_breach accounts f never) runner_of nodes)
