@@ -16,7 +16,8 @@ use Rattle.histar_never.specs.Laws.{BadClaimsHaveSentences}
 use Rattle.histar_never.specs.Letters.{letters_of}
 
 -- words that are not of a claim mean nobody
-mean_nobody : (accounts : Accounts) (words : List (List ℕ)) → not (are_of_a_claim words) ≡ true → whom_of accounts (who_words words) ≡ None
+mean_nobody : (accounts : Accounts) (words : List (List ℕ)) → not (are_of_a_claim words) ≡ true
+    → whom_of accounts (who_words words) ≡ None
 mean_nobody accounts [] e = refl
 mean_nobody accounts (a ∷ []) e = refl
 mean_nobody accounts (a ∷ b ∷ []) e = refl

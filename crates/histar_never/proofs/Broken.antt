@@ -1,5 +1,6 @@
 -- What a claim without a first breach means, and what a breach says.
-use Rattle.std.specs.Prelude.{◌≡◌, ◌&&◌, ◌||◌, ℕ, Bool, true, false, List, [], ◌∷◌, ◌++◌, filter, map, Option, None, Some}
+use Rattle.std.specs.Prelude.{◌≡◌, ◌&&◌, ◌||◌, ℕ, Bool, true, false, List, [], ◌∷◌, ◌++◌, filter, map, Option, None}
+use Rattle.std.specs.Prelude.{Some}
 use Rattle.std.specs.Prelude.{option_map, if◌then◌else◌, refl}
 use Rattle.std.specs.List.{Contains}
 use Rattle.std.specs.Option.{option_or}
@@ -21,13 +22,16 @@ use Rattle.histar_never.specs.declared.breaches.Holder.{Holder}
 use Rattle.histar_never.specs.declared.breaches.Holder.TheVariants.{AProcess, AUser}
 use Rattle.histar_never.specs.declared.breaches.LateBreach.{LateBreach}
 use Rattle.histar_never.specs.declared.claims.Never.{Never}
-use Rattle.histar_never.specs.Breaches.{as_process, breach_by, breach_in, breach_of, first_breach, first_of, holders, late, process_breach}
+use Rattle.histar_never.specs.Breaches.{as_process, breach_by, breach_in, breach_of, first_breach, first_of, holders}
+use Rattle.histar_never.specs.Breaches.{late, process_breach}
 use Rattle.histar_never.specs.Breaches.{rights_of_holder, user_breach}
-use Rattle.histar_never.specs.Laws.{AreRights, BreachesAreFirst, BreachesAreRights, ClaimsAreNeverBroken, HaveNone, IsFirst, IsInBoth, IsKept}
+use Rattle.histar_never.specs.Laws.{AreRights, BreachesAreFirst, BreachesAreRights, ClaimsAreNeverBroken, HaveNone}
+use Rattle.histar_never.specs.Laws.{IsFirst, IsInBoth, IsKept}
 use Rattle.histar_never.specs.Laws.{OthersBreakNothing}
 use Rattle.histar_never.specs.Letters.{common, has_letter}
 use Rattle.histar_never.specs.Whom.{is_meant, is_meant_user}
-use Rattle.histar_never.proofs.Firsts.{first_append, first_filter, first_is, first_map, found_none, none_both, none_found, none_of, of_none}
+use Rattle.histar_never.proofs.Firsts.{first_append, first_filter, first_is, first_map, found_none, none_both}
+use Rattle.histar_never.proofs.Firsts.{none_found, none_of, of_none}
 use Rattle.histar_never.proofs.Questions.{others_change_nothing}
 
 -- ---- letters

@@ -1,5 +1,6 @@
 -- The first answer of a list.
-use Rattle.std.specs.Prelude.{◌≡◌, ℕ, zero, suc, ◌<◌, Bool, true, false, T, List, [], ◌∷◌, ◌++◌, filter, length, map, Option, None, Some}
+use Rattle.std.specs.Prelude.{◌≡◌, ℕ, zero, suc, ◌<◌, Bool, true, false, T, List, [], ◌∷◌, ◌++◌, filter, length, map}
+use Rattle.std.specs.Prelude.{Option, None, Some}
 use Rattle.std.specs.Prelude.{cond, option_and_then, if◌then◌else◌, refl}
 use Rattle.std.specs.List.{Contains, cons_option, filter_map, slice_index_or}
 use Rattle.std.specs.Option.{option_or}

@@ -6,4 +6,5 @@ pub mod Questions
 pub mod Firsts
 pub mod Broken
 pub mod Alone
+pub mod Joined
 pub mod OnMachines

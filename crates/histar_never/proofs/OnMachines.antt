@@ -1,16 +1,18 @@
 -- The breach of a claim that is found on a machine is that in the flat state.
-use Rattle.std.specs.Prelude.{◌≡◌, ℕ, ◌<◌, ◌&&◌, Bool, true, false, List, [], ◌∷◌, drop, get_or, length, map, Option, None, Some, is_some}
+use Rattle.std.specs.Prelude.{◌≡◌, ℕ, ◌+◌, Bool, true, false, List, [], ◌∷◌, drop, get_or, length, map, Option}
+use Rattle.std.specs.Prelude.{None, Some, is_some}
 use Rattle.std.specs.Prelude.{if◌then◌else◌, option_and_then, refl, slice_get}
 use Rattle.std.specs.Option.{option_or}
 use Rattle.std.proofs.Common.{ap, subst, sym, ◌∙◌}
-use Rattle.std.proofs.lemmas.Bool.{and_parts, true≢false}
+use Rattle.std.proofs.lemmas.Bool.{true≢false}
 use Rattle.std.proofs.lemmas.List.{drop_more}
 use Rattle.std.proofs.lemmas.Option.{get_or_from_slice_get, slice_get_within}
 use Rattle.histar_flat.specs.declared.calls.User.{User}
 use Rattle.histar_flat.specs.Accounts.{Accounts}
 use Rattle.histar_flat.specs.Classes.{Process, nobody}
-use Rattle.histar_flat.specs.FlatState.{Flat, is_given, was_given}
+use Rattle.histar_flat.specs.FlatState.{Flat}
 use Rattle.histar_flat.specs.Words.{Name, ProcName}
+use Rattle.histar_syscall.specs.KernelModel.{state}
 use Rattle.histar_layout.specs.UserTable.{called, without_password}
 use Rattle.histar_rights.specs.declared.rights.Rights.{Rights}
 use Rattle.histar_rights.specs.Running.{AreRunning, HaveShownNames, running_in}
@@ -31,12 +33,14 @@ use Rattle.histar_never.specs.declared.breaches.Holder.TheVariants.{AProcess, AU
 use Rattle.histar_never.specs.declared.claims.Never.{Never}
 use Rattle.histar_never.specs.declared.whom.Whom.TheVariants.{OfProcess}
 use Rattle.histar_never.specs.Breaches.{breach_by, breach_of, first_of, runner_breach, user_breach}
-use Rattle.histar_never.specs.Machines.{FindsBreach, IsBreachAmong, IsBreachByAll, IsBreachByOne, IsBreachByUsers, IsBreachOf, IsUserBreach}
+use Rattle.histar_never.specs.Machines.{FindsBreach, IsBreachAmong, IsBreachByAll, IsBreachByOne, IsBreachByUsers}
+use Rattle.histar_never.specs.Machines.{IsBreachOf, IsUserBreach}
 use Rattle.histar_never.specs.Machines.{IsNodeBreach, node_breach}
 use Rattle.histar_never.specs.Whom.{is_meant_user}
 use Rattle.histar_never.proofs.Alone.{of_one}
 use Rattle.histar_never.proofs.Broken.{breach_parts}
 use Rattle.histar_never.proofs.Firsts.{first_filter_map, first_map}
+use Rattle.histar_never.proofs.Joined.{joined}
 
 -- an answer that is there comes first, and one that isn't leaves the other
 pub comes_first : {B : Type 0} (o p : Option B) → is_some o ≡ true → o ≡ option_or o p
@@ -47,24 +51,11 @@ pub comes_next : {B : Type 0} (o p : Option B) → is_some o ≡ false → p ≡
 comes_next None p e = refl
 comes_next (Some b) p e = absurd (true≢false e)
 
-module _ (accounts : Accounts) (m : MachineModel) (f : Flat) (shows : Shows accounts m f) (named : HaveShownNames f) where
-  -- the processes above one that is there are there
-  joined : (me : ProcName) (n : ℕ) → is_some (f.processes (n ∷ me)) ≡ true → is_some (f.processes me) ≡ true
-  joined me n there =
-      by (f.processes me) (and_parts (was_given (f.processes me) n) (is_given f.processes me)
-      (shows.represents.matched.processes_given (n ∷ me) there)).0
-    where
-      by : (o : Option Process) → was_given o n ≡ true → is_some o ≡ true
-      by None e = absurd (true≢false (sym e))
-      by (Some p) e = refl
-
-  -- the running processes of a flat state that a machine represents are those of its list
-  pub listed : AreRunning f (running_in f)
-  listed = are_running f named (λ me. by me) shows.represents.matched.processes_given
-    where
-      by : (me : ProcName) → is_some (f.processes me) ≡ true → IsOver f me
-      by [] there = tt
-      by (n ∷ me) there = joined me n there
+-- the running processes of a flat state that a machine represents are those of its list
+listed : (accounts : Accounts) (m : MachineModel) (f : Flat) → Shows accounts m f → HaveShownNames f → AreRunning f (running_in f)
+listed accounts m f shows named =
+    let l = shows.represents.matched in
+    are_running f named (joined accounts (state m.kernel) f l) l.processes_given
 
 module _ (m : MachineModel) (never : Never) where
   -- ---- one who may hold rights
@@ -101,7 +92,8 @@ module _ (m : MachineModel) (never : Never) where
 
   -- the first of these processes breaks the claim
   pub node_breaks : (nodes : List ProcessNode) (node : ProcessNode) (more : List ProcessNode) (found : Option Breach)
-      → ((accounts : Accounts) (f : Flat) → first_of (node_breach accounts f never) nodes ≡ first_of (node_breach accounts f never) (node ∷ more))
+      → ((accounts : Accounts) (f : Flat)
+      → first_of (node_breach accounts f never) nodes ≡ first_of (node_breach accounts f never) (node ∷ more))
       → IsNodeBreach m never node found → is_some found ≡ true → IsBreachAmong m never nodes found
   node_breaks nodes node more found so_far one some accounts f shows =
       comes_first found _ some
@@ -168,7 +160,8 @@ module _ (m : MachineModel) (never : Never) where
       ∙ sym (first_map answer (λ (u : User). u.name) accounts.users))
 
   -- the processes of a machine break what the running processes break
-  nodes_found : (nodes : List ProcessNode) → AreProcessesIn m nodes → (accounts : Accounts) (f : Flat) → Shows accounts m f → HaveShownNames f
+  nodes_found : (nodes : List ProcessNode) → AreProcessesIn m nodes
+      → (accounts : Accounts) (f : Flat) → Shows accounts m f → HaveShownNames f
       → first_of (node_breach accounts f never) nodes ≡ first_of (runner_breach accounts f never) (map runner (running_in f))
   nodes_found nodes are accounts f shows named =
       sym (first_filter_map (runner_breach accounts f never) runner_of nodes)

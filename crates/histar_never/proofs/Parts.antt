@@ -1,5 +1,6 @@
 -- Words, names and users of a claim.
-use Rattle.std.specs.Prelude.{◌≡◌, ◌-◌, ◌||◌, Bool, List, [], ◌∷◌, ◌++◌, drop, length, map, take, Option, None, Some, option_map, refl}
+use Rattle.std.specs.Prelude.{◌≡◌, ◌-◌, ◌||◌, Bool, List, [], ◌∷◌, ◌++◌, drop, length, map, take, Option, None, Some}
+use Rattle.std.specs.Prelude.{option_map, refl}
 use Rattle.std.specs.List.{list_any}
 use Rattle.std.proofs.Common.{ap, append_assoc, arith, sym, ◌∙◌}
 use Rattle.std.proofs.lemmas.List.{drop-map, length-map, take-map}

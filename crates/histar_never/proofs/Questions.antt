@@ -1,8 +1,10 @@
 -- Calls that are refused, answered by `gone` or only ask change nothing.
 use Rattle.std.specs.Prelude.{◌≡◌, false, Option, None, Some, refl}
 use Rattle.histar_flat.specs.declared.calls.UnixCall.{UnixCall}
-use Rattle.histar_flat.specs.declared.calls.UnixCall.TheVariants.{Create, Mkdir, Read, Write, Append, List as ListCall, Stat, Unlink, Rmdir, Rmtree}
-use Rattle.histar_flat.specs.declared.calls.UnixCall.TheVariants.{Rename, Spawn, Exit, Status, Kill, Whoami, Login, Wrap}
+use Rattle.histar_flat.specs.declared.calls.UnixCall.TheVariants.{Create, Mkdir, Read, Write, Append, List as ListCall}
+use Rattle.histar_flat.specs.declared.calls.UnixCall.TheVariants.{Stat, Unlink, Rmdir, Rmtree}
+use Rattle.histar_flat.specs.declared.calls.UnixCall.TheVariants.{Rename, Spawn, Exit, Status, Kill, Whoami, Login}
+use Rattle.histar_flat.specs.declared.calls.UnixCall.TheVariants.{Wrap}
 use Rattle.histar_flat.specs.declared.replies.Errno.{Errno}
 use Rattle.histar_flat.specs.Words.{ProcName}
 use Rattle.histar_flat.specs.Accounts.{Accounts}

@@ -1,5 +1,6 @@
 -- Letters are read from a text exactly if it is their text.
-use Rattle.std.specs.Prelude.{◌≡◌, ℕ, ◌==◌, ◌&&◌, Bool, true, false, List, [], ◌∷◌, ◌++◌, length, None, Some, if◌then◌else◌, refl}
+use Rattle.std.specs.Prelude.{◌≡◌, ℕ, ◌==◌, ◌&&◌, Bool, true, false, List, [], ◌∷◌, ◌++◌, length, None, Some}
+use Rattle.std.specs.Prelude.{if◌then◌else◌, refl}
 use Rattle.std.proofs.Common.{ap, append_assoc, sym, ◌∙◌}
 use Rattle.std.proofs.lemmas.Bool.{eqb-true}
 use Rattle.std.proofs.lemmas.List.{append-nil, nil_from_length}
@@ -8,7 +9,8 @@ use Rattle.histar_lint.specs.Lines.{begins_with}
 use Rattle.histar_rights.specs.declared.rights.Rights.{Rights}
 use Rattle.histar_script.specs.Reading.{is_empty}
 use Rattle.histar_never.specs.Laws.{LettersAreSpelled}
-use Rattle.histar_never.specs.Letters.{after_d, after_letter, after_r, after_s, after_w, first_letters, has_letter, letter_if, letters_of, letters_text}
+use Rattle.histar_never.specs.Letters.{after_d, after_letter, after_r, after_s, after_w, first_letters, has_letter}
+use Rattle.histar_never.specs.Letters.{letter_if, letters_of, letters_text}
 
 -- a text is a letter, if it begins with it, and what remains after it
 split : (letter : ℕ) (text : List ℕ) → text ≡ letter_if (begins_with letter text) (letter ∷ []) ++ after_letter letter text
@@ -37,12 +39,14 @@ whole text e =
     (split 100 (after_w text) ∙ ap (λ rest. d ++ rest) (none_left (after_d text) e) ∙ append-nil d)
 
 -- letters that are read are those that the text spells
-spelled : (text : List ℕ) (letters : Rights) → letters_of text ≡ Some letters → (text ≡ letters_text letters) × (has_letter letters ≡ true)
+spelled : (text : List ℕ) (letters : Rights) → letters_of text ≡ Some letters
+    → (text ≡ letters_text letters) × (has_letter letters ≡ true)
 unfolding letters_of
 spelled text letters e = by (is_empty (after_d text)) refl (has_letter (first_letters text)) refl e
   where
     by : (a : Bool) → is_empty (after_d text) ≡ a → (b : Bool) → has_letter (first_letters text) ≡ b
-        → (if a && b then Some (first_letters text) else None) ≡ Some letters → (text ≡ letters_text letters) × (has_letter letters ≡ true)
+        → (if a && b then Some (first_letters text) else None) ≡ Some letters
+        → (text ≡ letters_text letters) × (has_letter letters ≡ true)
     by true left true some is =
         let same = same_Some (first_letters text) letters is in (whole text left ∙ ap letters_text same, ap has_letter (sym same) ∙ some)
     by true left false some is = absurd (none-some letters is)

@@ -1,5 +1,6 @@
 -- What breaks a claim: who is meant and has one of its letters, and after which call that is first so.
-use Rattle.std.specs.Prelude.{ℕ, List, [], ◌∷◌, ◌++◌, codes, decimal, filter, map, Option, None, Some, option_map, if◌then◌else◌}
+use Rattle.std.specs.Prelude.{ℕ, List, [], ◌∷◌, ◌++◌, codes, decimal, filter, map, Option, None, Some, option_map}
+use Rattle.std.specs.Prelude.{if◌then◌else◌}
 use Rattle.std.specs.Option.{option_or}
 use Rattle.histar_flat.specs.declared.calls.CallLine.{CallLine}
 use Rattle.histar_flat.specs.Accounts.{Accounts}
@@ -87,7 +88,8 @@ breach_text late =
 
 -- the breach of a claim by a process with this user, if it is meant
 abbrev pub process_breach : Accounts → Flat → Never → ProcName → Name → Option Breach
-process_breach accounts f never me user = if is_meant never.whom me user then breach_of accounts f never (AProcess me user) else None
+process_breach accounts f never me user =
+    if is_meant never.whom me user then breach_of accounts f never (AProcess me user) else None
 
 -- the breach of a claim by a process with its user, if it is meant
 abbrev pub runner_breach : Accounts → Flat → Never → Runner → Option Breach
@@ -95,4 +97,5 @@ runner_breach accounts f never r = process_breach accounts f never r.process r.u
 
 -- the breach of a claim by whoever logs in as this user, if the user is meant
 abbrev pub user_breach : Accounts → Flat → Never → Name → Option Breach
-user_breach accounts f never user = if is_meant_user never.whom user then breach_of accounts f never (AUser user) else None
+user_breach accounts f never user =
+    if is_meant_user never.whom user then breach_of accounts f never (AUser user) else None

@@ -86,7 +86,8 @@ pub record AreRights (accounts : Accounts) (f : Flat) (never : Never) (b : Breac
 -- a breach is by one who is meant, and has exactly the letters of the claim that are among its rights, at least one
 abbrev pub BreachesAreRights : Type 0
 BreachesAreRights =
-    (accounts : Accounts) (f : Flat) (never : Never) (b : Breach) → breach_in accounts f never ≡ Some b → AreRights accounts f never b
+    (accounts : Accounts) (f : Flat) (never : Never) (b : Breach) → breach_in accounts f never ≡ Some b
+    → AreRights accounts f never b
 
 -- after a call that can't have changed anything, by its reply, there is the breach that there was before it
 abbrev pub OthersBreakNothing : Type 0
@@ -112,4 +113,5 @@ BadClaimsHaveSentences =
 -- letters are read from a text exactly if it is their text and there is at least one
 abbrev pub LettersAreSpelled : Type 0
 LettersAreSpelled =
-    (text : List ℕ) (letters : Rights) → (letters_of text ≡ Some letters) ↔ ((text ≡ letters_text letters) × (has_letter letters ≡ true))
+    (text : List ℕ) (letters : Rights)
+    → (letters_of text ≡ Some letters) ↔ ((text ≡ letters_text letters) × (has_letter letters ≡ true))

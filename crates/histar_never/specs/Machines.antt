@@ -20,13 +20,15 @@ use Rattle.histar_never.specs.Breaches.{breach_in, breach_of, first_of, runner_b
 
 -- for every flat state that the machine represents, this is the breach of a claim in it
 abbrev pub FindsBreach : MachineModel → Never → Option Breach → Type 0
-FindsBreach m never found = (accounts : Accounts) (f : Flat) → Shows accounts m f → HaveShownNames f → found ≡ breach_in accounts f never
+FindsBreach m never found =
+    (accounts : Accounts) (f : Flat) → Shows accounts m f → HaveShownNames f → found ≡ breach_in accounts f never
 
 -- ---- the parts
 
 -- for every flat state that the machine represents, this is the breach of a claim by one who may hold rights
 abbrev pub IsBreachOf : MachineModel → Never → Holder → Option Breach → Type 0
-IsBreachOf m never holder found = (accounts : Accounts) (f : Flat) → Shows accounts m f → found ≡ breach_of accounts f never holder
+IsBreachOf m never holder found =
+    (accounts : Accounts) (f : Flat) → Shows accounts m f → found ≡ breach_of accounts f never holder
 
 -- for every flat state that the machine represents, this is the breach of a claim by the process of this name, if it runs
 abbrev pub IsBreachByOne : MachineModel → Never → ProcName → Option Breach → Type 0
@@ -40,7 +42,8 @@ node_breach accounts f never node = option_and_then (runner_breach accounts f ne
 
 -- for every flat state that the machine represents, this is the breach of a claim by this process
 abbrev pub IsNodeBreach : MachineModel → Never → ProcessNode → Option Breach → Type 0
-IsNodeBreach m never node found = (accounts : Accounts) (f : Flat) → Shows accounts m f → found ≡ node_breach accounts f never node
+IsNodeBreach m never node found =
+    (accounts : Accounts) (f : Flat) → Shows accounts m f → found ≡ node_breach accounts f never node
 
 -- for every flat state that the machine represents, this is the breach of a claim by the first of these processes that breaks it
 abbrev pub IsBreachAmong : MachineModel → Never → List ProcessNode → Option Breach → Type 0
@@ -49,15 +52,17 @@ IsBreachAmong m never nodes found =
 
 -- for every flat state that the machine represents, this is the breach of a claim by whoever logs in as this user
 abbrev pub IsUserBreach : MachineModel → Never → Name → Option Breach → Type 0
-IsUserBreach m never user found = (accounts : Accounts) (f : Flat) → Shows accounts m f → found ≡ user_breach accounts f never user
+IsUserBreach m never user found =
+    (accounts : Accounts) (f : Flat) → Shows accounts m f → found ≡ user_breach accounts f never user
 
 -- for every flat state that the machine represents, this is the breach of a claim by the first of these users that breaks it
 abbrev pub IsBreachByUsers : MachineModel → Never → List Name → Option Breach → Type 0
 IsBreachByUsers m never users found =
     (accounts : Accounts) (f : Flat) → Shows accounts m f → found ≡ first_of (user_breach accounts f never) users
 
--- for every flat state that the machine represents, this is the breach by the first that breaks a claim: a running process, or else a user
+-- for every flat state that the machine represents, this is the breach by the first running process, or else by the first user
 abbrev pub IsBreachByAll : MachineModel → Never → Option Breach → Type 0
 IsBreachByAll m never found =
     (accounts : Accounts) (f : Flat) → Shows accounts m f → HaveShownNames f
-    → found ≡ option_or (first_of (runner_breach accounts f never) (map runner (running_in f))) (first_of (user_breach accounts f never) (somebody accounts))
+    → found ≡ option_or (first_of (runner_breach accounts f never) (map runner (running_in f)))
+    (first_of (user_breach accounts f never) (somebody accounts))

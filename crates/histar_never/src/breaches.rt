@@ -35,7 +35,8 @@ pub struct LateBreach {
     pub breach: Breach,
 }
 
-/// Returns the breach by one who has these rights, where a claim has those letters, if one letter is in both.
+/// Returns the breach by one who has these rights, where a claim has those letters, if one letter
+/// is in both.
 pub(crate) fn breach_by(letters: Rights, holder: Holder, rights: Rights) -> Option<Breach>
     ensures { result ≡ breach_by letters holder rights }
 {

@@ -155,8 +155,8 @@ fn read_words(
     }))
 }
 
-/// Reads the claim in the text of line `number`: `never PATH WHO LETTERS`, where each user is one of the accounts or
-/// nobody.
+/// Reads the claim in the text of line `number`: `never PATH WHO LETTERS`, where each user is one
+/// of the accounts or nobody.
 pub fn read_never(
     alloc: Global,
     accounts: &Accounts,
