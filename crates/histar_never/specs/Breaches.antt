@@ -1,15 +1,17 @@
 -- What breaks a claim: who is meant and has one of its letters, and after which call that is first so.
-use Rattle.std.specs.Prelude.{ℕ, List, [], ◌∷◌, ◌++◌, codes, decimal, filter, map, Option, None, Some, option_map, if◌then◌else◌}
+use Rattle.std.specs.Prelude.{ℕ, List, [], ◌∷◌, ◌++◌, codes, decimal, filter, map, Option, None, Some, option_map}
+use Rattle.std.specs.Prelude.{if◌then◌else◌}
 use Rattle.std.specs.Option.{option_or}
 use Rattle.histar_flat.specs.declared.calls.CallLine.{CallLine}
 use Rattle.histar_flat.specs.Accounts.{Accounts}
 use Rattle.histar_flat.specs.FlatState.{Flat}
 use Rattle.histar_flat.specs.FlatCalls.{flat_after}
 use Rattle.histar_flat.specs.Texts.{process_text}
-use Rattle.histar_flat.specs.Words.{Name, Path}
+use Rattle.histar_flat.specs.Words.{Name, Path, ProcName}
 use Rattle.histar_rights.specs.declared.rights.Rights.{Rights}
 use Rattle.histar_rights.specs.Running.{Named, running_in}
 use Rattle.histar_rights.specs.Users.{somebody}
+use Rattle.histar_diff.specs.declared.table.Runner.{Runner}
 use Rattle.histar_diff.specs.Shown.{rights_of}
 use Rattle.histar_cells.specs.ByUser.{user_rights_at}
 use Rattle.histar_never.specs.declared.breaches.Breach.{Breach}
@@ -81,3 +83,19 @@ abbrev pub breach_text : LateBreach → List ℕ
 breach_text late =
     codes "after line " ++ decimal late.line ++ codes ": " ++ holder_text late.breach.holder ++ codes " has "
     ++ letters_text late.breach.rights
+
+-- ---- the parts
+
+-- the breach of a claim by a process with this user, if it is meant
+abbrev pub process_breach : Accounts → Flat → Never → ProcName → Name → Option Breach
+process_breach accounts f never me user =
+    if is_meant never.whom me user then breach_of accounts f never (AProcess me user) else None
+
+-- the breach of a claim by a process with its user, if it is meant
+abbrev pub runner_breach : Accounts → Flat → Never → Runner → Option Breach
+runner_breach accounts f never r = process_breach accounts f never r.process r.user
+
+-- the breach of a claim by whoever logs in as this user, if the user is meant
+abbrev pub user_breach : Accounts → Flat → Never → Name → Option Breach
+user_breach accounts f never user =
+    if is_meant_user never.whom user then breach_of accounts f never (AUser user) else None

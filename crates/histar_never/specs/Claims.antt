@@ -1,5 +1,6 @@
 -- The claim in a text: `never PATH WHO LETTERS`.
-use Rattle.std.specs.Prelude.{ℕ, ◌-◌, ◌==◌, List, [], ◌∷◌, codes, drop, length, take, Option, None, Some, option_map, unwrap_or, if◌then◌else◌}
+use Rattle.std.specs.Prelude.{ℕ, ◌-◌, ◌==◌, List, [], ◌∷◌, codes, drop, length, take, Option, None, Some, option_map}
+use Rattle.std.specs.Prelude.{unwrap_or, if◌then◌else◌}
 use Rattle.std.specs.List.{slice_get, slice_split}
 use Rattle.std.specs.Str.{bytes_eq}
 use Rattle.histar_flat.specs.Accounts.{Accounts, has}

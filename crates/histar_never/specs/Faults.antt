@@ -1,6 +1,5 @@
 -- The rules that a claim has to keep, each with the sentence on a bad one that breaks it.
-use Rattle.std.specs.Prelude.{ℕ, ◌==◌, ◌||◌, ◌&&◌, not, nat_le, Bool, List, [], ◌∷◌, codes, is_none, length, unwrap_or}
-use Rattle.std.specs.List.{slice_get}
+use Rattle.std.specs.Prelude.{ℕ, Bool, true, false, not, List, [], ◌∷◌, codes, is_none}
 use Rattle.std.specs.Str.{bytes_eq}
 use Rattle.histar_flat.specs.Accounts.{Accounts}
 use Rattle.histar_flat.specs.Words.{path_of}
@@ -10,13 +9,11 @@ use Rattle.histar_lint.specs.Lines.{Rule}
 use Rattle.histar_never.specs.Claims.{letters_word, path_word, who_words, whom_of, words_of}
 use Rattle.histar_never.specs.Letters.{letters_of}
 
--- the third word of these is `all-but`
-abbrev pub has_all_but : List (List ℕ) → Bool
-has_all_but words = bytes_eq (unwrap_or (slice_get words 2) []) (codes "all-but")
-
 -- there are four words, or there are more and the third is `all-but`
 abbrev pub are_of_a_claim : List (List ℕ) → Bool
-are_of_a_claim words = nat_le 4 (length words) && ((length words == 4) || has_all_but words)
+are_of_a_claim (never ∷ path ∷ who ∷ letters ∷ []) = true
+are_of_a_claim (never ∷ path ∷ word ∷ user ∷ letters ∷ words) = bytes_eq word (codes "all-but")
+are_of_a_claim _ = false
 
 -- The rules for the words of a claim, in their order.
 abbrev pub word_rules : Accounts → List (List ℕ) → List Rule

@@ -1,5 +1,5 @@
 -- What a claim that is never broken means, and what a breach says.
-use Rattle.std.specs.Prelude.{◌≡◌, ◌↔◌, ◌+◌, ℕ, Bool, true, false, is_some, List, [], ◌∷◌, ◌++◌, Option, None, Some}
+use Rattle.std.specs.Prelude.{◌≡◌, ◌↔◌, ℕ, Bool, true, false, is_some, List, [], ◌∷◌, ◌++◌, None, Some}
 use Rattle.std.specs.List.{Contains}
 use Rattle.histar_flat.specs.declared.calls.CallLine.{CallLine}
 use Rattle.histar_flat.specs.declared.calls.UnixCall.{UnixCall}
@@ -15,7 +15,6 @@ use Rattle.histar_rights.specs.Users.{somebody}
 use Rattle.histar_diff.specs.Shown.{rights_of}
 use Rattle.histar_cells.specs.ByUser.{user_rights_at}
 use Rattle.histar_never.specs.declared.breaches.Breach.{Breach}
-use Rattle.histar_never.specs.declared.breaches.Holder.{Holder}
 use Rattle.histar_never.specs.declared.breaches.LateBreach.{LateBreach}
 use Rattle.histar_never.specs.declared.claims.Never.{Never}
 use Rattle.histar_never.specs.Breaches.{breach_in, first_breach, holders, rights_of_holder}
@@ -55,21 +54,21 @@ ClaimsAreNeverBroken =
 
 -- ---- breaches
 
--- the breach is after one of these calls, and there is none after a call before it
-pub record IsFirst (accounts : Accounts) (calls : List CallLine) (never : Never) (late : LateBreach) : Type 0 where
+-- from a flat state on, the breach is after one of these calls, and there is none after a call before it
+pub record IsFirst (accounts : Accounts) (f : Flat) (calls : List CallLine) (never : Never) (late : LateBreach) : Type 0 where
   pub front : List CallLine
   pub call : CallLine
   pub rest : List CallLine
   pub parts : calls ≡ front ++ call ∷ rest
   pub line : late.line ≡ call.line
-  pub breach : breach_in accounts (flat_end accounts (boot accounts) (front ++ call ∷ [])) never ≡ Some late.breach
-  pub before : first_breach accounts (boot accounts) front never ≡ None
+  pub breach : breach_in accounts (flat_end accounts f (front ++ call ∷ [])) never ≡ Some late.breach
+  pub before : first_breach accounts f front never ≡ None
 
--- the first breach of a claim is after one of the calls, and there is none after a call before it
+-- the first breach of a claim by the calls of a script is after one of them, and there is none after a call before it
 abbrev pub BreachesAreFirst : Type 0
 BreachesAreFirst =
     (accounts : Accounts) (calls : List CallLine) (never : Never) (late : LateBreach)
-    → first_breach accounts (boot accounts) calls never ≡ Some late → IsFirst accounts calls never late
+    → first_breach accounts (boot accounts) calls never ≡ Some late → IsFirst accounts (boot accounts) calls never late
 
 -- a letter is there exactly if the claim has it and the rights have it
 abbrev pub IsInBoth : Bool → Bool → Bool → Type 0
@@ -87,7 +86,8 @@ pub record AreRights (accounts : Accounts) (f : Flat) (never : Never) (b : Breac
 -- a breach is by one who is meant, and has exactly the letters of the claim that are among its rights, at least one
 abbrev pub BreachesAreRights : Type 0
 BreachesAreRights =
-    (accounts : Accounts) (f : Flat) (never : Never) (b : Breach) → breach_in accounts f never ≡ Some b → AreRights accounts f never b
+    (accounts : Accounts) (f : Flat) (never : Never) (b : Breach) → breach_in accounts f never ≡ Some b
+    → AreRights accounts f never b
 
 -- after a call that can't have changed anything, by its reply, there is the breach that there was before it
 abbrev pub OthersBreakNothing : Type 0
@@ -113,4 +113,5 @@ BadClaimsHaveSentences =
 -- letters are read from a text exactly if it is their text and there is at least one
 abbrev pub LettersAreSpelled : Type 0
 LettersAreSpelled =
-    (text : List ℕ) (letters : Rights) → (letters_of text ≡ Some letters) ↔ ((text ≡ letters_text letters) × (has_letter letters ≡ true))
+    (text : List ℕ) (letters : Rights)
+    → (letters_of text ≡ Some letters) ↔ ((text ≡ letters_text letters) × (has_letter letters ≡ true))

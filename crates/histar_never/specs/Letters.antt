@@ -10,7 +10,12 @@ has_letter r = r.stat || r.read || r.write || r.remove
 
 -- the letters that both have
 abbrev pub common : Rights → Rights → Rights
-common a b = record { stat = a.stat && b.stat; read = a.read && b.read; write = a.write && b.write; remove = a.remove && b.remove }
+common a b = record {
+  stat = a.stat && b.stat;
+  read = a.read && b.read;
+  write = a.write && b.write;
+  remove = a.remove && b.remove;
+}
 
 -- a letter, if it is there
 abbrev pub letter_if : Bool → List ℕ → List ℕ
@@ -19,7 +24,8 @@ letter_if has text = if has then text else []
 -- the letters that are there, in the order of `srwd`
 abbrev pub letters_text : Rights → List ℕ
 letters_text r =
-    letter_if r.stat (codes "s") ++ letter_if r.read (codes "r") ++ letter_if r.write (codes "w") ++ letter_if r.remove (codes "d")
+    letter_if r.stat (codes "s") ++ letter_if r.read (codes "r") ++ letter_if r.write (codes "w")
+    ++ letter_if r.remove (codes "d")
 
 -- the text after this letter, if it begins with the letter, and else the whole text
 abbrev pub after_letter : ℕ → List ℕ → List ℕ

@@ -35,15 +35,19 @@ pub struct LateBreach {
     pub breach: Breach,
 }
 
-/// Returns the breach by one who has these rights, where a claim has those letters, if one letter is in both.
+/// Returns the breach by one who has these rights, where a claim has those letters, if one letter
+/// is in both.
 pub(crate) fn breach_by(letters: Rights, holder: Holder, rights: Rights) -> Option<Breach>
     ensures { result ≡ breach_by letters holder rights }
 {
-    let rights = common(letters, rights);
-    if !has_letter(rights) {
+    let both = common(letters, rights);
+    if !has_letter(both) {
         return None;
     }
-    Some(Breach { holder, rights })
+    Some(Breach {
+        holder,
+        rights: both,
+    })
 }
 
 /// Adds the text of one who has rights: a process with its user, or a user.

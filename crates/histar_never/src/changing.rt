@@ -26,7 +26,8 @@ fn is_answer(reply: &Reply) -> bool
     !matches!(reply, Reply::Refused(_) | Reply::Gone)
 }
 
-/// Checks whether a call with this reply may have changed something: it is no question, and was answered.
+/// Checks whether a call with this reply may have changed something: it is no question, and was
+/// answered.
 pub fn may_change(is_question: bool, reply: &Reply) -> bool
     ensures { result ≡ (not is_question && has_answer reply.now) }
 {

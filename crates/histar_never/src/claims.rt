@@ -1,6 +1,8 @@
 //! A claim that somebody never has a right, and its reading.
 ghost use Rattle.std.specs.Prelude.{◌≡◌, IfOk, codes, map, None, option_map, if◌then◌else◌};
+ghost use Rattle.std.specs.List.{list_any};
 ghost use Rattle.std.specs.Str.{bytes_eq};
+ghost use Rattle.histar_base.specs.Paths.{same};
 ghost use Rattle.histar_flat.specs.Accounts.{has};
 ghost use Rattle.histar_flat.specs.Words.{process_of};
 ghost use Rattle.histar_rights.specs.Users.{somebody};
@@ -12,7 +14,7 @@ use crate::whom::{Excepted, Whom};
 use crate::words::{letters_word, path_word, split_at_spaces, who_words};
 use histar_base::Bytes;
 use histar_cells::nobody;
-use histar_flat::{Accounts, Name, OwnedPath, read_name, read_path, read_process};
+use histar_flat::{Accounts, Name, OwnedPath, User, read_name, read_path, read_process};
 use histar_rights::Rights;
 use std::alloc::{AllocError, Global};
 
@@ -28,11 +30,18 @@ pub struct Never {
     pub letters: Rights,
 }
 
+/// Checks whether one of these users has this name.
+fn is_declared(users: &[User], name: Name) -> bool
+    ensures { result ≡ list_any (λ user. same name user.name) users.now }
+{
+    users.iter().any(|user| name == user.name)
+}
+
 /// Checks whether nobody or a declared user has this name.
 fn is_somebody(accounts: &Accounts, name: Name) -> bool
     ensures { result ≡ has (somebody accounts.now) name }
 {
-    name == nobody() || accounts.users().iter().any(|user| name == user.name)
+    name == nobody() || is_declared(accounts.users(), name)
 }
 
 /// Reads a user: nobody, or one that is declared.
@@ -146,8 +155,8 @@ fn read_words(
     }))
 }
 
-/// Reads the claim in the text of line `number`: `never PATH WHO LETTERS`, where each user is one of the accounts or
-/// nobody.
+/// Reads the claim in the text of line `number`: `never PATH WHO LETTERS`, where each user is one
+/// of the accounts or nobody.
 pub fn read_never(
     alloc: Global,
     accounts: &Accounts,

@@ -1,6 +1,7 @@
 //! Letters of rights that are written one after another, without those that are withheld.
 ghost use Rattle.std.specs.Prelude.{◌≡◌, ◌++◌, ◌∷◌, [], OnOk};
-ghost use Rattle.histar_never.specs.Letters.{after_letter, common, has_letter, letter_if, letters_of, letters_text};
+ghost use Rattle.histar_never.specs.Letters.{after_letter, common, has_letter, letter_if};
+ghost use Rattle.histar_never.specs.Letters.{letters_of, letters_text};
 
 use histar_lint::line_rules::begins_with;
 use histar_rights::Rights;

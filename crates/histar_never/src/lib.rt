@@ -1,9 +1,10 @@
-//! Claims that somebody never has a right: `#never PATH WHO LETTERS` on a line of a script. `WHO` is a process, a
-//! user, or everyone but some users, and the claim is that after no call of the script one of these has one of the
-//! letters at the path.
+//! Claims that somebody never has a right: `#never PATH WHO LETTERS` on a line of a script. `WHO`
+//! is a process, a user, or everyone but some users, and the claim is that after no call of the
+//! script one of these has one of the letters at the path.
 //!
-//! `specs/Claims.antt` defines the claim in a text, `specs/Faults.antt` the rules that it has to keep, and
-//! `specs/Breaches.antt` what breaks it. [`never_laws`] says what a claim that is never broken means.
+//! `specs/Claims.antt` defines the claim in a text, `specs/Faults.antt` the rules that it has to
+//! keep, and `specs/Breaches.antt` what breaks it. [`never_laws`] says what a claim that is never
+//! broken means.
 #![tactic(auto)]
 
 mod breaches;

@@ -3,8 +3,10 @@ ghost use Rattle.std.specs.Prelude.{IfOk, map};
 ghost use Rattle.histar_prefix.specs.Listing.{HasProcesses};
 ghost use Rattle.histar_rights.specs.Users.{somebody};
 ghost use Rattle.histar_never.specs.declared.breaches.Holder.TheVariants.{AProcess};
-ghost use Rattle.histar_never.specs.Machines.{FindsBreach, IsBreachAmong, IsBreachByAll, IsBreachByOne};
-ghost use Rattle.histar_never.specs.Machines.{IsBreachByUsers, IsBreachOf, IsNodeBreach, IsUserBreach};
+ghost use Rattle.histar_never.specs.Machines.{FindsBreach, IsBreachAmong, IsBreachByAll};
+ghost use Rattle.histar_never.specs.Machines.{IsBreachByOne};
+ghost use Rattle.histar_never.specs.Machines.{IsBreachByUsers, IsBreachOf, IsNodeBreach};
+ghost use Rattle.histar_never.specs.Machines.{IsUserBreach};
 
 use crate::breaches::{Breach, Holder, breach_by};
 use crate::claims::Never;
@@ -17,9 +19,11 @@ use histar_readout::{Life, ProcessNode};
 use histar_shell::Machine;
 use std::alloc::{AllocError, Global};
 
-/// Returns the breach of a claim on a machine, by the first that is meant and has one of the letters.
+/// Returns the breach of a claim on a machine, by the first that is meant and has one of the
+/// letters.
 ///
-/// It stops at the first one. Of a claim on one process it looks at that process alone, and takes no memory.
+/// It stops at the first one. Of a claim on one process it looks at that process alone, and takes
+/// no memory.
 pub fn breach_on<S: LabelStore + Drop>(
     alloc: Global,
     machine: &Machine<S>,
@@ -47,7 +51,8 @@ fn breach_of_one<S: LabelStore + Drop>(
     breach_of_process(machine, never, process, user)
 }
 
-/// Returns the breach of a claim by a process with this user, if the process has one of the letters.
+/// Returns the breach of a claim by a process with this user, if the process has one of the
+/// letters.
 fn breach_of_process<S: LabelStore + Drop>(
     machine: &Machine<S>,
     never: &Never,
@@ -96,7 +101,8 @@ fn breach_among<S: LabelStore + Drop>(
     None
 }
 
-/// Returns the breach of a claim by whoever logs in as this user, if the user is meant and has one of the letters.
+/// Returns the breach of a claim by whoever logs in as this user, if the user is meant and has one
+/// of the letters.
 fn breach_of_user<S: LabelStore + Drop>(
     alloc: Global,
     machine: &Machine<S>,
@@ -132,7 +138,8 @@ fn breach_of_declared<S: LabelStore + Drop>(
     Ok(None)
 }
 
-/// Returns the breach of a claim by nobody, or else by the first of the declared users that breaks it.
+/// Returns the breach of a claim by nobody, or else by the first of the declared users that breaks
+/// it.
 fn breach_of_users<S: LabelStore + Drop>(
     alloc: Global,
     machine: &Machine<S>,
@@ -147,7 +154,8 @@ fn breach_of_users<S: LabelStore + Drop>(
     breach_of_declared(alloc, machine, never)
 }
 
-/// Returns the breach of a claim by the first running process that breaks it, or else by the first user.
+/// Returns the breach of a claim by the first running process that breaks it, or else by the first
+/// user.
 fn breach_of_many<S: LabelStore + Drop>(
     alloc: Global,
     machine: &Machine<S>,

@@ -66,7 +66,7 @@ impl Whom {
         match self {
             Whom::OfProcess(_) => false,
             Whom::OfUser(name) => *name == user,
-            Whom::AllBut(excepted) => !excepted.has(user),
+            Whom::AllBut(others) => !others.has(user),
         }
     }
 }

@@ -2,7 +2,7 @@
 ghost use Rattle.std.specs.Prelude.{◌≡◌, ◌==◌, IfOk, map};
 ghost use Rattle.std.specs.List.{slice_split};
 ghost use Rattle.histar_never.specs.Claims.{letters_word, path_word, who_words};
-ghost use Rattle.histar_never.specs.Faults.{are_of_a_claim, has_all_but};
+ghost use Rattle.histar_never.specs.Faults.{are_of_a_claim};
 
 use std::alloc::{AllocError, Global};
 
@@ -44,19 +44,13 @@ pub(crate) fn letters_word<'a>(words: &[&'a [u8]]) -> &'a [u8]
     }
 }
 
-/// Checks whether the third of these words is `all-but`.
-fn has_all_but(words: &[&[u8]]) -> bool
-    ensures { result ≡ has_all_but (map (λ word. word.now) words.now) }
-{
-    match words {
-        [_, _, word, ..] => *word == b"all-but".as_slice(),
-        _ => false,
-    }
-}
-
 /// Checks whether there are four words, or there are more and the third is `all-but`.
 pub(crate) fn are_of_a_claim(words: &[&[u8]]) -> bool
     ensures { result ≡ are_of_a_claim (map (λ word. word.now) words.now) }
 {
-    words.len() >= 4 && (words.len() == 4 || has_all_but(words))
+    match words {
+        [_, _, _, _] => true,
+        [_, _, word, _, _, ..] => *word == b"all-but".as_slice(),
+        _ => false,
+    }
 }
