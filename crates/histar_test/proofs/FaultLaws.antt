@@ -76,18 +76,18 @@ module _ (accounts : Accounts) (n : ℕ) (last : Option Bool) (line : List ℕ) 
   module _ (claim asked text : Option (List ℕ)) (says : Says claim asked text) where
     -- its step
     step_is : step_of accounts n line ≡ step_or accounts n claim (step_by n line asked text (call_in n (item_of line)))
-    step_is i = step_or accounts n (says.0 i) (step_by n line (says.1.0 i) (says.1.1 i) (call_in n (item_of line)))
+    step_is i = step_or accounts n (says.0 i) (step_by n line (says.1 i) (says.2 i) (call_in n (item_of line)))
 
     -- the sentence on it
     said_is : line_fault accounts last line ≡ first_sentence (rules_or accounts claim (rules_by last asked text))
-    said_is i = first_sentence (rules_or accounts (says.0 i) (rules_by last (says.1.0 i) (says.1.1 i)))
+    said_is i = first_sentence (rules_or accounts (says.0 i) (rules_by last (says.1 i) (says.2 i)))
 
     -- whether a call waits after it
     after_is : (makes : Bool) → makes_call line ≡ makes
         → last_after last line ≡ (if makes then Some true else (if is_some text then option_map (λ (o : Bool). false) last else last))
     after_is makes m =
         ap₂ (λ (b : Bool) (x : Option (List ℕ)).
-        let after : Option Bool = if b then Some true else (if is_some x then option_map (λ (o : Bool). false) last else last) in after) m says.1.1
+        let after : Option Bool = if b then Some true else (if is_some x then option_map (λ (o : Bool). false) last else last) in after) m says.2
 
   -- a line whose step may be here is taken
   taken : (step : Step) (opened : Bool) (after : Option Bool) → step_of accounts n line ≡ Ok (Some step)
@@ -108,12 +108,12 @@ module _ (accounts : Accounts) (n : ℕ) (last : Option Bool) (line : List ℕ) 
   forbids : (c : List ℕ) (o : Option Never) → forbidden_of line ≡ Some c → never_of accounts n c ≡ o → Verdict accounts n last line
   forbids c None is reads =
       let alone = forbids_alone line c is in
-      let says : Says (Some c) None None = (is, alone) in
+      let says : Says (Some c) None None = (is, alone.0, alone.1) in
       bad (step_is (Some c) None None says ∙ ap (never_step n) reads)
       (ap is_none (said_is (Some c) None None says) ∙ never_judged accounts n c ∙ ap is_some reads)
   forbids c (Some q) is reads =
       let alone = forbids_alone line c is in
-      let says : Says (Some c) None None = (is, alone) in
+      let says : Says (Some c) None None = (is, alone.0, alone.1) in
       let step : step_of accounts n line ≡ Ok (Some (Forbids q)) = step_is (Some c) None None says ∙ ap (never_step n) reads in
       let judged : is_none (line_fault accounts last line) ≡ true =
       ap is_none (said_is (Some c) None None says) ∙ never_judged accounts n c ∙ ap is_some reads in
@@ -124,11 +124,11 @@ module _ (accounts : Accounts) (n : ℕ) (last : Option Bool) (line : List ℕ) 
   asks : (a : List ℕ) (o : Option Asking) → forbidden_of line ≡ None → asked_of line ≡ Some a → asking_of n a ≡ o → Verdict accounts n last line
   asks a None free is reads =
       let text = expectation_of line in
-      let says : Says None (Some a) text = (free, (is, refl)) in
+      let says : Says None (Some a) text = (free, is, refl) in
       bad (step_is None (Some a) text says ∙ ap (asking_step n) reads)
       (ap is_none (said_is None (Some a) text says) ∙ asked_judged n a ∙ ap is_some reads)
   asks a (Some q) free is reads =
-      let says : Says None (Some a) None = (free, (is, asks_nothing_more line a is)) in
+      let says : Says None (Some a) None = (free, is, asks_nothing_more line a is) in
       let step : step_of accounts n line ≡ Ok (Some (Asks q)) = step_is None (Some a) None says ∙ ap (asking_step n) reads in
       let judged : is_none (line_fault accounts last line) ≡ true =
       ap is_none (said_is None (Some a) None says) ∙ asked_judged n a ∙ ap is_some reads in
@@ -169,7 +169,7 @@ expects accounts n (Some true) line text says =
     let step = step_is accounts n (Some true) line None None (Some text) says in
     taken accounts n (Some true) line (Expects text) false (Some false) step (said_is accounts n (Some true) line None None (Some text) says)
     (after_is accounts n (Some true) line None None (Some text) says false
-    (ap is_some (expects_no_call line text (item_of line) refl says.1.1))) refl refl
+    (ap is_some (expects_no_call line text (item_of line) refl says.2))) refl refl
 
 -- each line is taken and breaks no rule, or is refused and breaks one
 pub verdict : (accounts : Accounts) (n : ℕ) (last : Option Bool) (line : List ℕ) → Verdict accounts n last line
@@ -179,8 +179,8 @@ verdict accounts n last line = by (forbidden_of line) (asked_of line) (expectati
         → Verdict accounts n last line
     by (Some c) asked text free is e = forbids accounts n last line c (never_of accounts n c) free refl
     by None (Some a) text free is e = asks accounts n last line a (asking_of n a) free is refl
-    by None None (Some text) free is e = expects accounts n last line text (free, (is, e))
-    by None None None free is e = plain accounts n last line (call_in n (item_of line)) (free, (is, e)) refl
+    by None None (Some text) free is e = expects accounts n last line text (free, is, e)
+    by None None None free is e = plain accounts n last line (call_in n (item_of line)) (free, is, e) refl
 
 -- each refused line breaks a rule
 pub each_refused_line_breaks_one : EachRefusedLineBreaksOne

@@ -394,19 +394,19 @@ both_of P (x ∷ a) c (y ∷ b) d one two = (one.0, both_of P a c b d one.1 two)
 pub test_claimed : (text : List ℕ) (script : ScriptModel) (test : Test) → script_of text ≡ Ok script → test_of text ≡ Ok test
     → AllZip (IsClaimed script) (forbidding_in text) (nevers_in test.steps)
 test_claimed text script test is reads =
-    let as = read_as text test reads in
+    let was = read_as text test reads in
     let accounts = (tests_make_the_calls text script test is reads).0 in
     lines_claimed script 1 false (lines_of text) test.steps
-    (ap (λ (a : Accounts). steps_from a 1 false (lines_of text)) (sym accounts) ∙ as.are_steps)
+    (ap (λ (a : Accounts). steps_from a 1 false (lines_of text)) (sym accounts) ∙ was.are_steps)
 
 -- the lines of a test have their checks
 test_checked : (text : List ℕ) (script : ScriptModel) (test : Test) → script_of text ≡ Ok script → test_of text ≡ Ok test
     → AllZip (IsCheckOf script) (checked_in text) (checks_of false test)
 test_checked text script test is reads =
-    let as = read_as text test reads in
+    let was = read_as text test reads in
     let makes = tests_make_the_calls text script test is reads in
     let steps : steps_from script.accounts 1 false (lines_of text) ≡ Ok test.steps =
-    ap (λ (a : Accounts). steps_from a 1 false (lines_of text)) (sym makes.0) ∙ as.are_steps in
+    ap (λ (a : Accounts). steps_from a 1 false (lines_of text)) (sym makes.0) ∙ was.are_steps in
     let claims = each_mapped (IsClaimed script) (IsCheckOf script) (never_check script.accounts script.calls) (claim_checked script)
     (forbidding_in text) (nevers_in test.steps) (test_claimed text script test is reads) in
     let own = lines_checked script 1 false (lines_of text) test.steps [] None steps (sym makes.1) tt refl tt in

@@ -2,7 +2,7 @@
 use Rattle.std.proofs.Common.{◌≡◌, ℕ, Bool, true, false, List, [], ◌∷◌, ◌++◌, Option, Some, None, Ok}
 use Rattle.std.proofs.Common.{refl, sym, ap, ap₂, ◌∙◌, subst, arith}
 use Rattle.std.proofs.lemmas.Bool.Decides.{nat_tests}
-use Rattle.std.specs.Prelude.{◌↔◌, filter, map, option_to_list, if◌then◌else◌}
+use Rattle.std.specs.Prelude.{◌↔◌, codes, decimal, filter, map, option_to_list, if◌then◌else◌}
 use Rattle.std.specs.List.{AllZip}
 use Rattle.std.proofs.lemmas.List.Elements.{filter-append}
 use Rattle.histar_flat.specs.declared.calls.CallLine.{CallLine}
@@ -14,7 +14,8 @@ use Rattle.histar_script.specs.Reading.{is_empty, script_of}
 use Rattle.histar_script.specs.Script.{ScriptModel}
 use Rattle.histar_never.specs.declared.claims.Never.{Never}
 use Rattle.histar_never.specs.declared.breaches.LateBreach.{LateBreach}
-use Rattle.histar_never.specs.Breaches.{breach_text, first_breach}
+use Rattle.histar_never.specs.Breaches.{breach_text, first_breach, holder_text}
+use Rattle.histar_never.specs.Letters.{letters_text}
 use Rattle.histar_never.specs.Laws.{IsNever}
 use Rattle.histar_never.proofs.Broken.{claims_are_never_broken}
 use Rattle.histar_test.specs.declared.checks.Check.{Check}
@@ -71,7 +72,9 @@ not_empty b bs = grind (arith, nat_tests)
 
 -- the text of a breach is not empty
 breach_said : (late : LateBreach) → is_empty (breach_text late) ≡ false
-breach_said late = not_empty _ _
+breach_said late =
+    not_empty 97 (codes "fter line " ++ decimal late.line ++ codes ": " ++ holder_text late.breach.holder ++ codes " has "
+    ++ letters_text late.breach.rights)
 
 -- a claim is met exactly if no breach of it was found
 met_unbroken : (never : Never) (found : Option LateBreach) → (is_met (found_check never found) ≡ true) ↔ (found ≡ None)

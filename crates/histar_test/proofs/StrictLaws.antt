@@ -225,7 +225,7 @@ module _ (text : List ℕ) (accounts : Accounts) where
           let after = flat_after accounts f c.process c.call in
           let a : RepliedCall = record { call = c; reply = reply_to accounts f c.process c.call } in
           let made = made_of accounts f c said in
-          let open = option_to_list (unexpected true last) in
+          let opening = option_to_list (unexpected true last) in
           let more = checks_from true accounts after (Some made) rest in
           let calls : makes_call line ≡ true = any_number (n + 1) (item_of line) ∙ ap is_some w.2 in
           let misses : is_expected_in (line ∷ lines) ≡ false =
@@ -235,9 +235,9 @@ module _ (text : List ℕ) (accounts : Accounts) where
           ap (λ (ls : List (List ℕ)).
           if is_refusal a.reply && not (is_expected_in ls) then a ∷ refused_from after rest else refused_from after rest) at
           ∙ one_more (is_refusal a.reply && not (is_expected_in lines)) a (refused_from after rest) in
-          subst (λ (cs : List Check). Are cs (due o (line ∷ lines) ++ refused_from f (Makes c said ∷ rest))) (sym (filter-append has_none open more))
-          (subst (λ (l : List RepliedCall). Are (filter has_none open ++ filter has_none more) (due o (line ∷ lines) ++ l)) (sym answers)
-          (are_both (filter has_none open) (due o (line ∷ lines)) (filter has_none more) (due (Some a) lines ++ refused_from after rest)
+          subst (λ (cs : List Check). Are cs (due o (line ∷ lines) ++ refused_from f (Makes c said ∷ rest))) (sym (filter-append has_none opening more))
+          (subst (λ (l : List RepliedCall). Are (filter has_none opening ++ filter has_none more) (due o (line ∷ lines) ++ l)) (sym answers)
+          (are_both (filter has_none opening) (due o (line ∷ lines)) (filter has_none more) (due (Some a) lines ++ refused_from after rest)
           (closed_due last o (line ∷ lines) has misses) (later after (Some made) (Some a) (same_Some true opened opens) (refl, refl, refl))))
 
       -- the case of a line with any step, or none

@@ -116,9 +116,9 @@ module _ {file : List ℕ} {start mid : Run} {steps : List Step} {a b : Option (
       (front_second a b c (checks_text file (start.tally.count + 1) (checks_ahead accounts f start steps)) (claims_text file mid) t.written begun)
 
 -- a beginning of the checks of the steps is one of all
-pub steps_begun : {file : List ℕ} {start : Run} {steps : List Step} (a b : Option (List ℕ)) → BeginsSteps file start steps a b
+pub steps_begun : (file : List ℕ) (start : Run) (steps : List Step) (a b : Option (List ℕ)) → BeginsSteps file start steps a b
     → BeginsTest file start steps a b
-steps_begun {file = file} {start = start} {steps = steps} a b begins accounts f w =
+steps_begun file start steps a b begins accounts f w =
     let own = checks_ahead accounts f start steps in
     let claims = map watch_check (watches_after accounts f (calls_in steps) start.watched.watches.items) in
     let k = start.tally.count + 1 in

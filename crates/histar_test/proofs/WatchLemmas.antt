@@ -114,21 +114,20 @@ goes_on_reached accounts f call (calls, is) = (
 )
 
 -- where nothing can have changed the claims are as if they were looked at
-looked_or : {n : ℕ} {accounts : Accounts} {g : Flat} (may has : Bool) (old new : List Watch)
-    → new ≡ (if may || not has then map (watch_in accounts g n) old else old)
-    → (may ≡ false → has ≡ true → map (watch_in accounts g n) old ≡ old) → new ≡ map (watch_in accounts g n) old
-looked_or true has old new is same = is
-looked_or false false old new is same = is
-looked_or false true old new is same = is ∙ sym (same refl refl)
+looked_or : (look : Watch → Watch) (may has : Bool) (old new : List Watch) → new ≡ (if may || not has then map look old else old)
+    → (may ≡ false → has ≡ true → map look old ≡ old) → new ≡ map look old
+looked_or look true has old new is same = is
+looked_or look false false old new is same = is
+looked_or look false true old new is same = is ∙ sym (same refl refl)
 
 module _ (old : Watched) (stepped : MachineModel) (call : CallLine) (reply : Reply)
     (means : FollowsMeaning old.machine stepped call.line call.process call.call (Ok reply)) where
   -- the machine has processes after the call
   pub still_has_processes : HasWatched old → HasProcesses stepped
   still_has_processes (accounts, f, w) =
-      let as = means accounts f w.shows.shows in
+      let meant = means accounts f w.shows.shows in
       let after : ShowsReached accounts stepped (flat_after accounts f call.process call.call) =
-      record { shows = as.shows; reached = goes_on_reached accounts f call w.shows.reached } in
+      record { shows = meant.shows; reached = goes_on_reached accounts f call w.shows.reached } in
       has_processes after
 
   module _ (may : Bool) (new : Watched) (is_may : may ≡ may_change call.call reply)
@@ -138,17 +137,17 @@ module _ (old : Watched) (stepped : MachineModel) (call : CallLine) (reply : Rep
         → made ≡ record { line = call.line; said = said; reply = reply_text reply; is_refused = is_refusal reply }
         → MakesCall old new call said made
     call_watched said made is accounts f w =
-        let as = means accounts f w.shows.shows in
+        let meant = means accounts f w.shows.shows in
         let g = flat_after accounts f call.process call.call in
-        let after : ShowsReached accounts stepped g = record { shows = as.shows; reached = goes_on_reached accounts f call w.shows.reached } in
+        let after : ShowsReached accounts stepped g = record { shows = meant.shows; reached = goes_on_reached accounts f call w.shows.reached } in
         let before = old.watches.items in
-        let found = looks.watches accounts g as.shows (named after) in
+        let found = looks.watches accounts g meant.shows (named after) in
         let unchanged : may ≡ false → old.has_called ≡ true → map (watch_in accounts g call.line) before ≡ before = λ no has.
         let stays : g ≡ f =
-        others_change_nothing accounts f call.process call.call (ap (may_change call.call) (sym as.is_reply) ∙ sym is_may ∙ no) in
+        others_change_nothing accounts f call.process call.call (ap (may_change call.call) (sym meant.is_reply) ∙ sym is_may ∙ no) in
         ap (λ (h : Flat). map (watch_in accounts h call.line) before) stays ∙ w.up_to_date has call.line in
         let all : new.watches.items ≡ map (watch_in accounts g call.line) before =
-        looked_or may old.has_called before new.watches.items found unchanged in
+        looked_or (watch_in accounts g call.line) may old.has_called before new.watches.items found unchanged in
         record {
           watched = record {
             shows = subst (λ (m : MachineModel). ShowsReached accounts m g) (sym looks.machine) after;
@@ -157,5 +156,5 @@ module _ (old : Watched) (stepped : MachineModel) (call : CallLine) (reply : Rep
           watches = all ∙ one_after accounts f call before;
           is = is
               ∙ (λ i. let made : Made =
-              record { line = call.line; said = said; reply = reply_text (as.is_reply i); is_refused = is_refusal (as.is_reply i) } in made);
+              record { line = call.line; said = said; reply = reply_text (meant.is_reply i); is_refused = is_refusal (meant.is_reply i) } in made);
         }

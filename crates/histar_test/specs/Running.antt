@@ -33,7 +33,7 @@ use Rattle.histar_test.specs.declared.steps.Step.{Step}
 use Rattle.histar_test.specs.declared.steps.Step.TheVariants.{Makes, Expects, Asks, Forbids}
 use Rattle.histar_test.specs.declared.watching.Watch.{Watch}
 use Rattle.histar_test.specs.declared.watching.Watched.{Watched}
-use Rattle.histar_test.specs.Steps.{call_of_step, calls_in, never_of_step, nevers_in}
+use Rattle.histar_test.specs.Steps.{calls_in, never_of_step, nevers_in}
 use Rattle.histar_test.specs.Checks.{is_met, asked_check, made_of, checks_from, checks_text, names_text, trusted_text, unexpected}
 use Rattle.histar_test.specs.Watching.{IsWatched, MakesCall, unbroken, watch_check, watches_after}
 
@@ -87,13 +87,13 @@ checks_ahead accounts f run steps = checks_from run.strict accounts f run.last s
 abbrev pub IsMemory : Fault → Type 0
 IsMemory fault = fault ≡ OutOfMemory
 
--- a run begins: the machine represents the flat start with these accounts and has made no call, these claims are watched, no call is open, and
--- the checks of earlier files are counted
-pub record Starts (accounts : Accounts) (strict : Bool) (before : Tally) (watches : List Watch) (run : Run) : Type 0 where
+-- A run begins: the machine represents the flat start with these accounts and has made no call, these claims are watched, no call is open,
+-- and the checks of earlier files are counted.
+pub record Starts (accounts : Accounts) (strict : Bool) (before : Tally) (claims : List Watch) (run : Run) : Type 0 where
   pub as_asked : run.strict ≡ strict
   pub shows : ShowsStart accounts run.watched.machine
   pub uncalled : run.watched.has_called ≡ false
-  pub watches : run.watched.watches.items ≡ watches
+  pub watches : run.watched.watches.items ≡ claims
   pub last : run.last ≡ None
   pub tally : run.tally ≡ before
 
@@ -143,7 +143,7 @@ pub record Calls (old new : Run) (call : CallLine) (said : List ℕ) : Type 0 wh
 pub record IsTaken (accounts : Accounts) (f : Flat) (old new : Run) (step : Step) : Type 0 where
   pub strict : new.strict ≡ old.strict
   pub watched : IsWatched accounts (flat_at accounts f step) new.watched
-  pub watches : new.watched.watches.items ≡ watches_after accounts f (option_to_list (call_of_step step)) old.watched.watches.items
+  pub watches : new.watched.watches.items ≡ watches_after accounts f (calls_in (step ∷ [])) old.watched.watches.items
   pub last : new.last ≡ last_at accounts f old.last step
   pub tally : new.tally ≡ tally_with old.tally (check_at old.strict accounts f old.last step)
 
@@ -214,11 +214,11 @@ BeginsTest file old steps before after =
     → AppendsFront before after (checks_text file (old.tally.count + 1) (test_checks accounts f old steps))
 
 -- the steps of a test are split: those that are taken at their places, and the claims that are watched
-pub record AreSplit (steps taken : List Step) (watches : List Watch) : Type 0 where
-  pub taken : taken ≡ filter (λ step. not (is_some (never_of_step step))) steps
-  pub watches : watches ≡ map unbroken (nevers_in steps)
+pub record AreSplit (steps others : List Step) (claims : List Watch) : Type 0 where
+  pub taken : others ≡ filter (λ step. not (is_some (never_of_step step))) steps
+  pub watches : claims ≡ map unbroken (nevers_in steps)
 
 -- a step was added to those that are taken at their places, or to the claims
-pub record AreSplitWith (step : Step) (taken taken_after : List Step) (watches watches_after : List Watch) : Type 0 where
-  pub taken : taken_after ≡ taken ++ filter (λ step. not (is_some (never_of_step step))) (step ∷ [])
-  pub watches : watches_after ≡ watches ++ map unbroken (nevers_in (step ∷ []))
+pub record AreSplitWith (step : Step) (others others_then : List Step) (claims claims_then : List Watch) : Type 0 where
+  pub taken : others_then ≡ others ++ filter (λ step. not (is_some (never_of_step step))) (step ∷ [])
+  pub watches : claims_then ≡ claims ++ map unbroken (nevers_in (step ∷ []))

@@ -13,8 +13,8 @@ use Rattle.histar_test.specs.Steps.{Test}
 use Rattle.histar_test.proofs.TestLemmas.{start_has_state, test_begun, test_taken}
 use Rattle.histar_test.proofs.session.test_file.Goals as goal
 
-pub returns-in_err-split_steps-clause-err : goal.returns-in_err-split_steps-clause-err
-returns-in_err-split_steps-clause-err g c =
+pub returns-in_err-steps-clause-err : goal.returns-in_err-steps-clause-err
+returns-in_err-steps-clause-err g c =
     let p = err_from_is_err_and c.from_residual.result c.from_residual.ensures.1 in
     rw p.1 (_, sent_none (g.W.Sink.written c.args.writer.now) _)
 
@@ -33,7 +33,7 @@ returns-in_err-outcome-clause-err g c =
     let new = g.W.Sink.written c.run_test-outcome.new.writer in
     let begun =
     test_begun c.in_ok-run.ensures.ok old new c.as_slice.result.now c.into_parts-accounts.result.1.items _
-    (rw c.in_err-outcome.was at c.run_test-outcome.ensures.err) c.in_ok-split_steps.ensures in
+    (rw c.in_err-outcome.was at c.run_test-outcome.ensures.err) c.in_ok-steps.ensures in
     rw p.1
     (subst (λ (t : List ℕ × (Accounts × List Step)).
     AppendsFront old new (checks_text t.0 (c.args.tally.count + 1) (checks_of c.args.strict (record { accounts = t.1.0; steps = t.1.1 }))))
@@ -52,7 +52,7 @@ returns-clause-ok g c =
     let old = g.W.Sink.written c.args.writer.now in
     let new = g.W.Sink.written c.run_test-outcome.new.writer in
     let taken = test_taken c.in_ok-run.ensures.ok old new c.as_slice.result.now c.into_parts-accounts.result.1.items _
-    (rw c.in_ok-outcome.was at c.run_test-outcome.ensures.ok) c.in_ok-split_steps.ensures in
+    (rw c.in_ok-outcome.was at c.run_test-outcome.ensures.ok) c.in_ok-steps.ensures in
     subst (λ (t : List ℕ × (Accounts × List Step)).
     Appends old new (checks_text t.0 (c.args.tally.count + 1) (checks_of c.args.strict (record { accounts = t.1.0; steps = t.1.1 }))))
     (λ i. (c.as_slice.ensures i, (c.into_parts-accounts.ensures.accounts i, c.into_parts-accounts.ensures.steps i))) taken.0
@@ -62,7 +62,7 @@ returns-clause-tally g c =
     let old = g.W.Sink.written c.args.writer.now in
     let new = g.W.Sink.written c.run_test-outcome.new.writer in
     let taken = test_taken c.in_ok-run.ensures.ok old new c.as_slice.result.now c.into_parts-accounts.result.1.items _
-    (rw c.in_ok-outcome.was at c.run_test-outcome.ensures.ok) c.in_ok-split_steps.ensures in
+    (rw c.in_ok-outcome.was at c.run_test-outcome.ensures.ok) c.in_ok-steps.ensures in
     subst (λ (t : Accounts × List Step).
     c.finish-after.result ≡ tally_with c.args.tally (checks_of c.args.strict (record { accounts = t.0; steps = t.1 })))
     (λ i. (c.into_parts-accounts.ensures.accounts i, c.into_parts-accounts.ensures.steps i)) (c.finish-after.ensures ∙ taken.1)

@@ -25,5 +25,4 @@ pub returns : goal.returns
 returns c =
     let may : open_after c.args.reading.now.is_open c.in-Some.step ≡ Some c.in-Some-open_after.is_open = search rules in
     step_added c.args.accounts.now c.args.number c.args.line.now c.args.reading.now
-    (record { steps = c.in_ok-push.new.steps; is_open = c.in-Some-open_after.is_open })
-    c.in-Some.step (read_as c.in_ok-step.ensures c.in-Some.is) may c.in_ok-push.ensures.items
+    _ c.in-Some.step (read_as c.in_ok-step.ensures c.in-Some.is) may c.in_ok-push.ensures.items

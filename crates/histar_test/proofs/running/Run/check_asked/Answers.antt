@@ -1,10 +1,7 @@
 -- Proves the goals of `Run::check_asked` of src/running.rt that the search leaves open.
 use Rattle.std.proofs.lemmas.Result.{err_from_is_err_and}
-use Rattle.histar_test.proofs.RunLemmas.{after_err, after_ok, has_state, rights_begun, rights_taken, rights_unwritten, rights_written}
+use Rattle.histar_test.proofs.RunLemmas.{after_err, after_ok, rights_begun, rights_taken, rights_unwritten, rights_written}
 use Rattle.histar_test.proofs.running.Run.check_asked.Goals as goal
-
-pub ask-check-requires : goal.ask-check-requires
-ask-check-requires g c = has_state c.args.self.now.watched c.requires
 
 pub returns-in_err-check-clause-err : goal.returns-in_err-check-clause-err
 returns-in_err-check-clause-err g c =

@@ -8,7 +8,7 @@ use Rattle.histar_test.proofs.running.Run.run_test.Goals as goal
 pub returns-in_err-take_steps-clause-err : goal.returns-in_err-take_steps-clause-err
 returns-in_err-take_steps-clause-err g c =
     let p = err_from_is_err_and c.from_residual.result c.from_residual.ensures.1 in
-    rw p.1 (steps_begun _ _ c.in_err-take_steps.ensures.err)
+    rw p.1 (steps_begun c.args.file.now c.args.self.now c.args.steps.items _ _ c.in_err-take_steps.ensures.err)
 
 pub returns-clause-ok : goal.returns-clause-ok
 returns-clause-ok g c =

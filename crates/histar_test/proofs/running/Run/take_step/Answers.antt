@@ -2,7 +2,7 @@
 use Rattle.std.proofs.Common.{OnErr, OnOk, subst, sym}
 use Rattle.histar_test.specs.declared.steps.Step.{Step}
 use Rattle.histar_test.specs.Running.{BeginsStep, TakesStep, WritesStep}
-use Rattle.histar_test.proofs.RunLemmas.{claim_taken, claim_unwritten}
+use Rattle.histar_test.proofs.RunLemmas.{claim_taken}
 use Rattle.histar_test.proofs.running.Run.take_step.Goals as goal
 
 pub returns-in-Makes-clause-ok : goal.returns-in-Makes-clause-ok
@@ -50,12 +50,5 @@ returns-in-Asks-clause-err g c =
     (BeginsStep c.args.file.now c.args.self.now s (g.W.Sink.written c.args.writer.now) (g.W.Sink.written c.check_asked.new.writer)) in
     subst Begun (sym c.in-Asks.is) c.check_asked.ensures.err
 
-pub returns-in-Forbids-clause-ok : goal.returns-in-Forbids-clause-ok
-returns-in-Forbids-clause-ok g c =
-    subst (TakesStep c.args.self.now c.args.self.now) (sym c.in-Forbids.is) (claim_taken c.args.self.now _)
-
-pub returns-in-Forbids-clause-written : goal.returns-in-Forbids-clause-written
-returns-in-Forbids-clause-written g c =
-    let w = g.W.Sink.written c.args.writer.now in
-    subst (λ (s : Step). WritesStep c.args.file.now c.args.self.now s w w) (sym c.in-Forbids.is)
-    (claim_unwritten c.args.file.now c.args.self.now _ w)
+pub returns-clause-ok : goal.returns-clause-ok
+returns-clause-ok g c = subst (TakesStep c.args.self.now c.args.self.now) (sym c.in-Forbids.is) (claim_taken c.args.self.now _)
