@@ -32,7 +32,7 @@ use Rattle.histar_refinement.specs.KeptNames.{RepresentsStill}
 use Rattle.histar_refinement.proofs.Beside.{own_set}
 use Rattle.histar_sim.specs.Simulation.{IsReady, errno_by_rule, IsReplyOfDenial}
 use Rattle.histar_sim.proofs.Chains.{Step, all_granted, Chain, chain_after, refused_broken_off}
-use Rattle.histar_sim.proofs.CallErrors.{FollowsFrom, ReadsAmong, reply_is, chain_unanswered, given_back_refined}
+use Rattle.histar_sim.proofs.CallErrors.{FollowsFrom, IsDenialNamed, ReadsAmong, reply_is, chain_unanswered, given_back_refined}
 use Rattle.histar_sim.proofs.Steps.{EndsHere, Goal, replied, granted_so, denied_step}
 
 module _ (accounts : Accounts) (f : Flat) (me : ProcName) (call : UnixCall)
@@ -43,7 +43,7 @@ module _ (accounts : Accounts) (f : Flat) (me : ProcName) (call : UnixCall)
   -- raw calls that were granted, the last one, which was refused, and the errno of its denial, which the flat rules reply
   module _ (calls : List RawCall) (last : RawCall) (denied : Denied) (errno : Errno)
       (revealed : errno_by_rule denied ≡ Some errno) (is : refused accounts f me ready.caller.process call ≡ Some errno)
-    where
+      (named : IsDenialNamed accounts f me call old new t ready last) where
       -- after the refused one come these, which are granted
       abbrev steps : List RawCall → List Step
       steps restoring = all_granted calls ++ (last, Some denied) ∷ all_granted restoring
@@ -99,7 +99,7 @@ module _ (accounts : Accounts) (f : Flat) (me : ProcName) (call : UnixCall)
             (given_back_refined accounts f me call old new t ready calls last denied restoring sets
             (subst (λ (all : List Step). Chain old t all new) (append-nil (steps restoring))
             (chain_after t old mid new (steps restoring) [] so_far end.0))
-            errno revealed is reads (subst (λ (s : State). RepresentsStill ready.represents s f) (sym end.0.state) represents))
+            errno revealed is named reads (subst (λ (s : State). RepresentsStill ready.represents s f) (sym end.0.state) represents))
 
       -- The thread takes its own label and clearance again, and the call replies the errno.
       module _ (own : Levels × Levels) where
@@ -130,6 +130,7 @@ module _ (accounts : Accounts) (f : Flat) (me : ProcName) (call : UnixCall)
       → (errno : Errno) → refused accounts f me ready.caller.process call ≡ Some errno
       → (own : Levels × Levels) (next : RawCall) (rest : AnswerOf next → Program) (denied : Denied)
       → check (state mid) t next ≡ Some denied → errno_for next denied ≡ Some errno → errno_by_rule denied ≡ Some errno
+      → IsDenialNamed accounts f me call old new t ready next
       → check (state mid) t (SetLabel own.0) ≡ None
       → check (with_changed (state mid) t (with_label own.0)) t (SetClearance own.1) ≡ None
       → RepresentsStill ready.represents (own_set t (state mid) own.0 own.1) f
@@ -137,11 +138,11 @@ module _ (accounts : Accounts) (f : Flat) (me : ProcName) (call : UnixCall)
       (all_granted calls ++ (next, Some denied) ∷ all_granted (SetLabel own.0 ∷ SetClearance own.1 ∷ []))
       (Refused errno)
       → Runs (ask_or_give_back own next rest) mid new t result → Refined
-  given_back_step calls mid so_far errno is own next rest denied fails revealed by_rule label_passes clearance_passes represents reads runs =
+  given_back_step calls mid so_far errno is own next rest denied fails revealed by_rule named label_passes clearance_passes represents reads runs =
       denied_step accounts f me call old new t ready result calls mid so_far next (or_given_back own (errno_for next) rest) denied fails runs
       (λ later called chain on.
       let same = called.state in
-      give_back_step calls next denied errno by_rule is own later chain
+      give_back_step calls next denied errno by_rule is named own later chain
       (ap (λ (s : State). check s t (SetLabel own.0)) same ∙ label_passes)
       (ap (λ (s : State). check (with_changed s t (with_label own.0)) t (SetClearance own.1)) same
       ∙ clearance_passes)
