@@ -23,7 +23,9 @@ append_writes accounts f me p q bytes =
     record {
       reaches = record {
         refuses = refl;
-        named = not_written accounts f p q orelse unless (nat_le (length (bytes_at f q ++ bytes)) most_bytes) (IsTooLong q (length (bytes_at f q ++ bytes)));
+        named =
+            not_written accounts f p q
+            orelse unless (nat_le (length (bytes_at f q ++ bytes)) most_bytes) (IsTooLong q (length (bytes_at f q ++ bytes)));
         explains = refl;
         reads = λ s reply entries walk. walk;
       };

@@ -1,5 +1,6 @@
 -- Of a line whose reply is EACCES or EPERM the kernel denied one raw call, and it is on what the reason of the refusal names.
-use Rattle.std.proofs.Common.{◌≡◌, ℕ, ◌⊎◌, ◌||◌, Bool, true, false, List, [], ◌∷◌, ◌++◌, Option, None, Some, inl, inr, refl, sym, ap, ◌∙◌, subst}
+use Rattle.std.proofs.Common.{◌≡◌, ℕ, ◌⊎◌, ◌||◌, Bool, true, false, List, [], ◌∷◌, ◌++◌, Option, None, Some}
+use Rattle.std.proofs.Common.{inl, inr, refl, sym, ap, ◌∙◌, subst}
 use Rattle.std.specs.Prelude.{option_map}
 use Rattle.std.specs.Option.{IsSomeAnd}
 use Rattle.std.specs.List.{AllByRecursion}
@@ -94,21 +95,25 @@ module _ (P : TraceEntry → Option Denied → Type 0) where
         holds = all.0;
       }
 
+-- the reply is EACCES or EPERM
+abbrev shows_denial : Reply → Bool
+shows_denial r = is_no_access r || is_no_permission r
+
 -- what a call answers is neither EACCES nor EPERM
-stat_plain : (o : Option Node) → (is_no_access (stat_reply o) || is_no_permission (stat_reply o)) ≡ false
+stat_plain : (o : Option Node) → shows_denial (stat_reply o) ≡ false
 stat_plain None = refl
 stat_plain (Some n) = refl
 
-life_plain : (o : Option Process) → (is_no_access (life_reply o) || is_no_permission (life_reply o)) ≡ false
+life_plain : (o : Option Process) → shows_denial (life_reply o) ≡ false
 life_plain None = refl
 life_plain (Some p) = by p.exited
   where
-    by : (e : Option ℕ) → (is_no_access (life_reply (Some (record p { exited = e }))) || is_no_permission (life_reply (Some (record p { exited = e })))) ≡ false
+    by : (e : Option ℕ) → shows_denial (life_reply (Some (record p { exited = e }))) ≡ false
     by None = refl
     by (Some n) = refl
 
 module _ (accounts : Accounts) (f : Flat) (me : ProcName) (p : Process) where
-  answer_plain : (call : UnixCall) → (is_no_access (answer f me p call) || is_no_permission (answer f me p call)) ≡ false
+  answer_plain : (call : UnixCall) → shows_denial (answer f me p call) ≡ false
   answer_plain (Create q mode) = refl
   answer_plain (Stat q) = stat_plain (get f.files q)
   answer_plain (Status name) = life_plain (f.processes name)
@@ -116,16 +121,16 @@ module _ (accounts : Accounts) (f : Flat) (me : ProcName) (p : Process) where
 
   -- a call that is answered so is refused so
   refused_as : (call : UnixCall) (errno : Errno) (o : Option Errno) → refused accounts f me p call ≡ o
-      → (is_no_access (Refused errno) || is_no_permission (Refused errno)) ≡ true
+      → shows_denial (Refused errno) ≡ true
       → reply_or o (answer f me p call) ≡ Refused errno → o ≡ Some errno
   refused_as call errno None is kind said =
-      absurd (true≢false (sym kind ∙ sym (ap (λ (r : Reply). is_no_access r || is_no_permission r) said) ∙ answer_plain call))
+      absurd (true≢false (sym kind ∙ sym (ap shows_denial said) ∙ answer_plain call))
   refused_as call errno (Some e) is kind said = cc
 
 module _ (accounts : Accounts) (s end : State) (f : Flat) (asked : CallLine) (entries : List TraceEntry) (p : Process) (errno : Errno)
     (line : SimulatesLine accounts s f asked entries end) (runs : running f asked.process ≡ Some p)
     (replied : reply_to accounts f asked.process asked.call ≡ Refused errno)
-    (kind : (is_no_access (Refused errno) || is_no_permission (Refused errno)) ≡ true) where
+    (kind : shows_denial (Refused errno) ≡ true) where
   abbrev me : ProcName
   me = asked.process
 
@@ -152,7 +157,7 @@ module _ (accounts : Accounts) (s end : State) (f : Flat) (asked : CallLine) (en
 
   some_denied : some_refusal entries ≡ true
   some_denied =
-      (λ i. line.line.access i || line.line.permission i) ∙ ap (λ (r : Reply). is_no_access r || is_no_permission r) replied ∙ kind
+      (λ i. line.line.access i || line.line.permission i) ∙ ap shows_denial replied ∙ kind
 
   named : DenialsAreNamed accounts s f me (Some p) asked.call entries
   named = subst (λ (o : Option Process). DenialsAreNamed accounts s f me o asked.call entries) runs line.named
@@ -182,6 +187,6 @@ pub denials_are_named : EachDenialIsNamed
 denials_are_named accounts s end f asked entries p errno line runs replied kind =
     has_denial accounts s end f asked entries p errno line runs replied (by kind)
   where
-    by : (errno ≡ EACCES) ⊎ (errno ≡ EPERM) → (is_no_access (Refused errno) || is_no_permission (Refused errno)) ≡ true
-    by (inl e) = ap (λ (x : Errno). is_no_access (Refused x) || is_no_permission (Refused x)) e
-    by (inr e) = ap (λ (x : Errno). is_no_access (Refused x) || is_no_permission (Refused x)) e
+    by : (errno ≡ EACCES) ⊎ (errno ≡ EPERM) → shows_denial (Refused errno) ≡ true
+    by (inl e) = ap (λ (x : Errno). shows_denial (Refused x)) e
+    by (inr e) = ap (λ (x : Errno). shows_denial (Refused x)) e

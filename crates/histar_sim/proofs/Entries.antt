@@ -43,8 +43,8 @@ use Rattle.histar_sim.specs.Reads.{AreAmong}
 use Rattle.histar_sim.proofs.Chains.{Step, all_granted, entries_of, Chain}
 use Rattle.histar_sim.proofs.CallErrors.{ReadsAmong}
 use Rattle.histar_sim.proofs.Steps.{Goal, refused_at_once}
-use Rattle.histar_sim.proofs.Walks.{numbers, place_at, walk_reads, found, holds, nothing_there, file_there, directory_there, among_granted_all, way_clear}
-use Rattle.histar_sim.proofs.Walks.{Explains, walk_step}
+use Rattle.histar_sim.proofs.Walks.{numbers, place_at, walk_reads, found, holds, nothing_there, file_there, directory_there, among_granted_all}
+use Rattle.histar_sim.proofs.Walks.{way_clear, Explains, walk_step}
 
 -- where the way into the directory of an entry has a reason, that is the one of a call that needs the entry
 pub entry_explained : (accounts : Accounts) (f : Flat) (me : ProcName) (p : Process) (m : Name) (d : Path) (call : UnixCall)
@@ -189,8 +189,7 @@ module _ (accounts : Accounts) (ok : AreAccounts accounts) (old new : KernelMode
         walk_step accounts ok old new f me t ready call result d
         (λ directory. given (entry_at (map.get directory.entries m)) (λ target.
         rest (record { place = directory.place; entries = directory.entries; name = m; target = target })))
-        runs
-        (
+        runs (
           λ errno is steps among. (
             refused_is (Some errno) (get f.files (m ∷ d)) is refl,
             has_reads (ap (λ (o : Option Errno). not (is_some o) && is_dir_at f (m ∷ d)) is) steps (Refused errno) among,

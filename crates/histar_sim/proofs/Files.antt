@@ -1,5 +1,6 @@
 -- A call on a file: it is found, and read or written, or the call is refused as the flat rules refuse it.
-use Rattle.std.proofs.Common.{◌≡◌, ℕ, inl, true, List, [], ◌∷◌, Option, None, Some, Result, refl, ◌∙◌, subst, length, ◌+◌, ◌≤◌, Bool, false, ◌++◌, sym, ap}
+use Rattle.std.proofs.Common.{◌≡◌, ℕ, inl, true, List, [], ◌∷◌, Option, None, Some, Result, refl, ◌∙◌, subst, length}
+use Rattle.std.proofs.Common.{◌+◌, ◌≤◌, Bool, false, ◌++◌, sym, ap}
 use Rattle.std.specs.Prelude.{not, min, nat_le, take}
 use Rattle.std.specs.FinMap as map
 use Rattle.std.proofs.lemmas.List.{length-append, length-take}
@@ -13,7 +14,8 @@ use Rattle.histar_flat.specs.Words.{Name, Path, ProcName}
 use Rattle.histar_flat.specs.Accounts.{Accounts}
 use Rattle.histar_flat.specs.Files.{get}
 use Rattle.histar_flat.specs.Classes.{Class, Process}
-use Rattle.histar_flat.specs.FlatState.{Flat, Node, Content, is_some_and, is_dir, is_there, is_file_at, into, bytes_at, writes, with_bytes as with_file_bytes}
+use Rattle.histar_flat.specs.FlatState.{Flat, Node, Content, is_some_and, is_dir, is_there, is_file_at, into, bytes_at, writes}
+use Rattle.histar_flat.specs.FlatState.{with_bytes as with_file_bytes}
 use Rattle.histar_flat.specs.FlatState.Content.{Dir, File}
 use Rattle.histar_flat.specs.FlatCalls as flat
 use Rattle.histar_flat.specs.FlatCalls.{refused, changed, most_bytes}
@@ -200,11 +202,10 @@ module _ (accounts : Accounts) (ok : AreAccounts accounts) (old new : KernelMode
       file_step runs go_on =
           look_step accounts ok old new f me t ready call result d m (λ place target.
           given (file_at target) (λ segment. rest (record { container = place.container; segment = segment })))
-          runs
-          (
+          runs (
             λ errno is steps among. (refused_is (Some errno) (get f.files (m ∷ d)) is refl, has_reads steps (Refused errno) among),
             λ reason is. file.explains ∙ ap (λ (o : Option Reason). (o orelse unless (is_there f (m ∷ d)) (IsMissing (m ∷ d))
-            orelse unless (is_file_at f (m ∷ d)) (HasDirectory (m ∷ d))) orelse file.named) is,
+                orelse unless (is_file_at f (m ∷ d)) (HasDirectory (m ∷ d))) orelse file.named) is,
           )
           (λ open_so_far mid stays chain on. by_agrees go_on open_so_far mid stays chain on (get f.files (m ∷ d)) refl)
 

@@ -1,6 +1,7 @@
 -- Room for an entry: the walk into its directory is made, it has no entry of the name, and it has fewer than 64 entries; or the
 -- call is refused as the flat rules refuse it.
-use Rattle.std.proofs.Common.{◌≡◌, ℕ, Bool, true, false, List, [], ◌∷◌, ◌++◌, Option, None, Some, Result, inl, inr, arith, refl, sym, ap, ◌∙◌, subst, length, ◌≤◌, ◌==◌}
+use Rattle.std.proofs.Common.{◌≡◌, ℕ, Bool, true, false, List, [], ◌∷◌, ◌++◌, Option, None, Some, Result, inl, inr, arith, refl}
+use Rattle.std.proofs.Common.{sym, ap, ◌∙◌, subst, length, ◌≤◌, ◌==◌}
 use Rattle.std.specs.Prelude.{nat_lt, not}
 use Rattle.std.specs.FinMap as map
 use Rattle.std.proofs.lemmas.Bool.Decides.{nat_tests}
@@ -237,13 +238,12 @@ module _ (accounts : Accounts) (ok : AreAccounts accounts) (old new : KernelMode
     room_step runs go_on =
         walk_step_behind accounts ok old new f me t ready call result before start unchanged begun d
         (λ directory. given (room_at (map.get directory.entries m) (map.len directory.entries == most_entries))
-        (λ _. rest (record { place = directory.place; entries = directory.entries; name = m }))) runs
-        (
+        (λ _. rest (record { place = directory.place; entries = directory.entries; name = m }))) runs (
           λ errno is steps among. (
             refused_is (Some errno) (get f.files (m ∷ d)) roomy (writes accounts f p d) is refl refl refl,
             has_reads steps (Refused errno) among,
           ),
           λ reason is. needs.explains ∙ ap (λ (o : Option Reason). (o orelse unless (not (is_there f (m ∷ d))) (IsTaken (m ∷ d))
-          orelse unless roomy (IsFull d (length (entries_in f d))) orelse not_written accounts f p d) orelse needs.named) is,
+              orelse unless roomy (IsFull d (length (entries_in f d))) orelse not_written accounts f p d) orelse needs.named) is,
         )
         (λ open_so_far mid stays chain on. by_agrees go_on open_so_far mid stays chain on (get f.files (m ∷ d)) refl)

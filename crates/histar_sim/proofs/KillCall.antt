@@ -223,8 +223,7 @@ module _ (accounts : Accounts) (ok : AreAccounts accounts) (old new : KernelMode
       unlinking_named is =
           let clear = search_clear accounts (state old) f me t ready (n ∷ above) found in
           named_by accounts (state old) f me p call unlinking (IsNoChild name)
-          (λ i. clear i orelse unless ((same_turned me above ∙ is) i) (IsNoChild name))
-          (
+          (λ i. clear i orelse unless ((same_turned me above ∙ is) i) (IsNoChild name)) (
             C,
             S,
             o,

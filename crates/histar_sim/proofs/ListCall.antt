@@ -62,8 +62,7 @@ module _ (accounts : Accounts) (ok : AreAccounts accounts) (old new : KernelMode
   unfolding list_program
   list_is_refined run =
       let walk = walk_reads accounts ok (state old) f me t ready path in
-      walk_step accounts ok old new f me t ready call result path (λ directory. Answers (Entries (names_in directory.entries))) run
-      (
+      walk_step accounts ok old new f me t ready call result path (λ directory. Answers (Entries (names_in directory.entries))) run (
         λ errno is steps among. (refused_is path ∙ is, has_way accounts ok (state old) f me t ready path _ among),
         λ reason is. reason_is path ∙ is,
       )

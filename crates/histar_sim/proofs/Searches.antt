@@ -309,13 +309,13 @@ module _ (accounts : Accounts) (ok : AreAccounts accounts) (old new : KernelMode
   pub parent_refuses : (n : ℕ) (above : ProcName) → Refuses (n ∷ above) → Refuses above
   parent_refuses n above refuses = (
     λ errno is steps among.
-    refuses.0 errno (ap (λ (o : Option Errno). o orelse unless (is_some (f.processes (n ∷ above))) ESRCH
-    orelse unless (is_some_and (f.processes (n ∷ above)) (sees process)) EACCES) is) steps
-    (subst (λ (calls : List RawCall). AreAmong calls (entries_of old.line t steps))
-    (sym (search_stopped accounts (state old) f me t ready n above errno is)) among),
+        refuses.0 errno (ap (λ (o : Option Errno). o orelse unless (is_some (f.processes (n ∷ above))) ESRCH
+        orelse unless (is_some_and (f.processes (n ∷ above)) (sees process)) EACCES) is) steps
+        (subst (λ (calls : List RawCall). AreAmong calls (entries_of old.line t steps))
+        (sym (search_stopped accounts (state old) f me t ready n above errno is)) among),
     λ reason is.
-    refuses.1 reason (ap (λ (o : Option Reason). o orelse unless (is_some (f.processes (n ∷ above))) (NoProcess (n ∷ above))
-    orelse not_seen accounts f process (n ∷ above) (f.processes (n ∷ above))) is),
+        refuses.1 reason (ap (λ (o : Option Reason). o orelse unless (is_some (f.processes (n ∷ above))) (NoProcess (n ∷ above))
+        orelse not_seen accounts f process (n ∷ above) (f.processes (n ∷ above))) is),
   )
 
   -- The way to a process: it is refused as the flat rules refuse the call, or the call goes on with the process.

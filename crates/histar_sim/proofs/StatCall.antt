@@ -211,8 +211,7 @@ module _ (accounts : Accounts) (ok : AreAccounts accounts) (old new : KernelMode
     stat_is_refined run =
         look_step accounts ok old new f me t ready stat result d m
         (λ place target. given (entry_at target) (λ found. ask (raw.LabelOf place.container (object_of found))
-        (λ label. class_reply (is_directory found) (class_shown accounts label)))) run
-        (
+        (λ label. class_reply (is_directory found) (class_shown accounts label)))) run (
           λ errno is steps among. (
             refused_is (Some errno) (get f.files (m ∷ d)) is refl,
             label_less accounts (state old) f m d errno _ ready.caller.process (has_way accounts ok (state old) f me t ready d _ among),

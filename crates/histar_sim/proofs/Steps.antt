@@ -30,7 +30,8 @@ use Rattle.histar_programs.specs.Parts.{refused_with, or_refused, ask, if_there,
 use Rattle.histar_refinement.specs.KeptNames.{RepresentsStill}
 use Rattle.histar_sim.specs.Simulation.{errno_by_rule, IsReady, has_category}
 use Rattle.histar_sim.proofs.Chains.{Step, all_granted, entries_of, Chain, chain_after, granted_broken_off, exhausted_broken_off}
-use Rattle.histar_sim.proofs.CallErrors.{FollowsFrom, IsBacked, IsDenialNamed, ReadsAmong, chain_unanswered, granted_refined, unchanged_refined, refused_refined}
+use Rattle.histar_sim.proofs.CallErrors.{FollowsFrom, IsBacked, IsDenialNamed, ReadsAmong, chain_unanswered, granted_refined}
+use Rattle.histar_sim.proofs.CallErrors.{unchanged_refined, refused_refined}
 
 -- the call ended here without a reply
 pub record EndsHere (old new : KernelModel) (result : Result Reply Stopped) : Type 0 where

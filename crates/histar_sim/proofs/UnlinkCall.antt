@@ -74,7 +74,8 @@ module _ (accounts : Accounts) (ok : AreAccounts accounts) (old new : KernelMode
         → why accounts f me ready.caller.process call ≡ not_written accounts f ready.caller.process d
     reason_is class bytes at =
         let clear = entry_clear accounts ok (state old) f me t ready m d open_so_far _ at in
-        λ i. clear i orelse unless (is_some_and (at i) (λ n. not (is_dir n))) (HasDirectory (m ∷ d)) orelse not_written accounts f ready.caller.process d
+        λ i. clear i orelse unless (is_some_and (at i) (λ n. not (is_dir n))) (HasDirectory (m ∷ d))
+        orelse not_written accounts f ready.caller.process d
 
     by_content : (class : Class) (content : Content)
         → get f.files (m ∷ d) ≡ Some (record { class = class; content = content })

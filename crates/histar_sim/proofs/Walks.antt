@@ -557,15 +557,14 @@ module _ (accounts : Accounts) (ok : AreAccounts accounts) (old new : KernelMode
         read_named [] dir named.0 (refuses.1 (MayNotRead [] named.0) named.1))
         (λ seen. go_on (ap (λ (b : Bool). unless b EACCES) seen))
     reading_step (n ∷ d) after run refuses go_on =
-        reading_step d (λ above bytes. given (directory_at (found_in bytes n)) (reading after)) run
-        (
+        reading_step d (λ above bytes. given (directory_at (found_in bytes n)) (reading after)) run (
           λ errno is steps among. refuses.0 errno (ap (λ (o : Option Errno).
-          o orelse unless (is_there f (n ∷ d)) ENOENT orelse unless (is_dir_at f (n ∷ d)) ENOTDIR
-          orelse unless (reads accounts f process (n ∷ d)) EACCES) is) steps
-          (subst (λ (calls : List RawCall). AreAmong calls (entries_of old.line t steps)) (sym (stopped_before n d errno is)) among),
+              o orelse unless (is_there f (n ∷ d)) ENOENT orelse unless (is_dir_at f (n ∷ d)) ENOTDIR
+              orelse unless (reads accounts f process (n ∷ d)) EACCES) is) steps
+              (subst (λ (calls : List RawCall). AreAmong calls (entries_of old.line t steps)) (sym (stopped_before n d errno is)) among),
           λ reason is. refuses.1 reason (ap (λ (o : Option Reason).
-          o orelse unless (is_there f (n ∷ d)) (IsMissing (n ∷ d)) orelse unless (is_dir_at f (n ∷ d)) (HasFile (n ∷ d))
-          orelse not_read accounts f process (n ∷ d)) is),
+              o orelse unless (is_there f (n ∷ d)) (IsMissing (n ∷ d)) orelse unless (is_dir_at f (n ∷ d)) (HasFile (n ∷ d))
+              orelse not_read accounts f process (n ∷ d)) is),
         )
         (λ open_so_far mid stays chain bytes is on.
         next_step n d after refuses go_on open_so_far mid stays chain (get f.files (n ∷ d)) refl

@@ -12,7 +12,8 @@ use Rattle.histar_flat.specs.Classes.{Process}
 use Rattle.histar_flat.specs.FlatState.{Flat}
 use Rattle.histar_flat.specs.CallRules.{path_of}
 use Rattle.histar_reasons.specs.Reasons.{Reason, why}
-use Rattle.histar_reasons.specs.Reasons.Reason.{MayNotRead, MayNotWrite, IsTooLong, MakesOnlyOpen, IsNoMember, IsUnseen, IsNoChild, IsInJob, StartsNoJob}
+use Rattle.histar_reasons.specs.Reasons.Reason.{MayNotRead, MayNotWrite, IsTooLong, MakesOnlyOpen, IsNoMember, StartsNoJob}
+use Rattle.histar_reasons.specs.Reasons.Reason.{IsUnseen, IsNoChild, IsInJob}
 use Rattle.histar_object.specs.Objects.{bytes_in}
 use Rattle.histar_object.specs.State.{State}
 use Rattle.histar_rules.specs.declared.raw.Denied.{Denied}
@@ -45,11 +46,12 @@ IsEntryOf gate _ = ⊥
 module _ (accounts : Accounts) where
   -- a raw call enters the gate of the user as whom a call logs in
   abbrev pub EntersGate : UnixCall → RawCall → Type 0
-  EntersGate (Login user password) call = (place : ℕ) × (place_of accounts.users user ≡ Some place) × IsEntryOf (gate_of (place + 1)) call
+  EntersGate (Login user password) call =
+      (place : ℕ) × (place_of accounts.users user ≡ Some place) × IsEntryOf (gate_of (place + 1)) call
   EntersGate _ call = ⊥
 
   module _ (s : State) where
-    -- The segment of the file at a path, and the container that links it: that of the directory above, whose segment lists it as a file.
+    -- The container and the segment of the file at a path: the container is that of the directory above, whose segment lists it as a file.
     abbrev pub IsFileAt : Path → ℕ → ℕ → Type 0
     IsFileAt [] container segment = ⊥
     IsFileAt (name ∷ d) container segment =
@@ -72,30 +74,34 @@ module _ (accounts : Accounts) where
 
     -- a raw call writes the directory segment of the directory at a path
     abbrev pub WritesListing : Path → RawCall → Type 0
-    WritesListing d call = (container : ℕ) × (listing : ℕ) × IsDirectoryAt accounts s d container listing × IsWriteTo container listing call
+    WritesListing d call =
+        (container : ℕ) × (listing : ℕ) × IsDirectoryAt accounts s d container listing × IsWriteTo container listing call
 
     -- a raw call unlinks what is at a path from the container that links it
     abbrev pub UnlinksAt : Path → RawCall → Type 0
-    UnlinksAt q call = (container : ℕ) × (object : ℕ) × IsObjectAt accounts s q container object × (call ≡ raw.Unlink container object)
+    UnlinksAt q call =
+        (container : ℕ) × (object : ℕ) × IsObjectAt accounts s q container object × (call ≡ raw.Unlink container object)
 
-    -- A raw call changes the directory at a path, for a call that names an entry of it: it makes something there, or writes the directory's
-    -- segment, or unlinks what is at the path that the call names.
+    -- A raw call of a Unix call changes the directory at a path: it makes something there, or writes the directory's segment, or unlinks
+    -- the entry that the Unix call names.
     abbrev pub ChangesAt : UnixCall → Path → RawCall → Type 0
-    ChangesAt asked d call = MakesAt d call ⊎ WritesListing d call ⊎ ((parent (path_of asked) ≡ d) × UnlinksAt (path_of asked) call)
+    ChangesAt asked d call =
+        MakesAt d call ⊎ WritesListing d call ⊎ ((parent (path_of asked) ≡ d) × UnlinksAt (path_of asked) call)
 
     -- a raw call reads the process segment of a process
     abbrev pub ReadsStatus : ProcName → RawCall → Type 0
-    ReadsStatus name call = (container : ℕ) × (segment : ℕ) × IsStatusSegment accounts s name container segment × (call ≡ raw.Read container segment)
+    ReadsStatus name call =
+        (container : ℕ) × (segment : ℕ) × IsStatusSegment accounts s name container segment × (call ≡ raw.Read container segment)
 
     -- A raw call unlinks the container of a process: that of process 0 from the root container, and that of a child from its parent's.
     abbrev pub UnlinksProcess : ProcName → RawCall → Type 0
     UnlinksProcess [] call = call ≡ raw.Unlink root_number (home_number (length accounts.users))
     UnlinksProcess (n ∷ above) call =
-        (outer : ℕ) × (status : ℕ) × (container : ℕ) × (segment : ℕ)
-        × IsStatusSegment accounts s above outer status × IsStatusSegment accounts s (n ∷ above) container segment × (call ≡ raw.Unlink outer container)
+        (outer : ℕ) × (status : ℕ) × (container : ℕ) × (segment : ℕ) × IsStatusSegment accounts s above outer status
+        × IsStatusSegment accounts s (n ∷ above) container segment × (call ≡ raw.Unlink outer container)
 
-    -- A raw call of a Unix call is on what the sentence of a reason names: on the file, the directory or the process; on the directory in which
-    -- something was to be made, where it may not be made; and on the gate of the user, where a process in a job logs in.
+    -- A raw call of a Unix call is on what the sentence of a reason names: on the file, the directory or the process; where nothing may
+    -- be made of a mode, or no job be started, on the directory of the path; and on the user's gate, where a process in a job logs in.
     abbrev pub IsAbout : UnixCall → Reason → RawCall → Type 0
     IsAbout asked (MayNotRead q cause) call = ReadsAt q call
     IsAbout asked (MayNotWrite q cause) call = WritesAt q call ⊎ ChangesAt asked q call
