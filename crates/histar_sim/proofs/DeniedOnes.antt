@@ -29,8 +29,8 @@ use Rattle.histar_syscall.specs.Runs.{is_label_refusal, is_range_refusal, some_l
 use Rattle.histar_programs.specs.Replies.{is_no_access, is_no_permission, IsRestoring, IsRefusedOnce}
 use Rattle.histar_refinement.specs.Represents.{Represents}
 use Rattle.histar_refinement.proofs.Agreeing.{root_is_dir}
-use Rattle.histar_sim.specs.Simulation.{SimulatesLine}
-use Rattle.histar_sim.specs.Named.{IsAbout, IsNamed, IsNamedDenial, DenialsAreNamed}
+use Rattle.histar_sim.specs.Simulation.{SimulatesLine, IsReplyOfDenial, errno_by_rule}
+use Rattle.histar_sim.specs.Named.{IsAbout, IsNamedDenial, DenialsAreNamed}
 use Rattle.histar_sim.specs.NamedDenials.{HasNamedDenial, EachDenialIsNamed}
 use Rattle.histar_sim.proofs.FirstReasons.{reason_of}
 
@@ -42,8 +42,8 @@ restoring_granted : (entries : List TraceEntry) → AllByRecursion IsRestoring e
 restoring_granted [] all = tt
 restoring_granted (e ∷ entries) all = (all.0.0, restoring_granted entries all.1)
 
--- of these entries one was denied, and this holds of it
-record IsDeniedOnce (P : TraceEntry → Type 0) (entries : List TraceEntry) : Type 0 where
+-- of these entries one was denied, and this holds of it and its denial
+record IsDeniedOnce (P : TraceEntry → Option Denied → Type 0) (entries : List TraceEntry) : Type 0 where
   before : List TraceEntry
   denial : TraceEntry
   after : List TraceEntry
@@ -51,10 +51,10 @@ record IsDeniedOnce (P : TraceEntry → Type 0) (entries : List TraceEntry) : Ty
   granted : AreGranted (before ++ after)
   denied : Denied
   is_denied : denial.denied ≡ Some denied
-  holds : P denial
+  holds : P denial (Some denied)
 
 -- one entry more at the front, which was granted
-denied_later : (P : TraceEntry → Type 0) (e : TraceEntry) (entries : List TraceEntry) → e.denied ≡ None → IsDeniedOnce P entries
+denied_later : (P : TraceEntry → Option Denied → Type 0) (e : TraceEntry) (entries : List TraceEntry) → e.denied ≡ None → IsDeniedOnce P entries
     → IsDeniedOnce P (e ∷ entries)
 denied_later P e entries none later = record {
   before = e ∷ later.before;
@@ -71,19 +71,30 @@ denied_later P e entries none later = record {
 abbrev some_refusal : List TraceEntry → Bool
 some_refusal entries = some_label_refusal entries || some_range_refusal entries
 
+-- what holds of each entry by itself holds of it together
+both_hold : (P Q : TraceEntry → Type 0) (entries : List TraceEntry) → AllByRecursion P entries → AllByRecursion Q entries
+    → AllByRecursion (λ (e : TraceEntry). P e × Q e) entries
+both_hold P Q [] all more = tt
+both_hold P Q (e ∷ entries) all more = ((all.0, more.0), both_hold P Q entries all.1 more.1)
+
+-- the errno of a denial is that of the reply
+revealed_errno : (o : Option Errno) (errno : Errno) → option_map Refused o ≡ Some (Refused errno) → o ≡ Some errno
+revealed_errno None errno said = absurd cc
+revealed_errno (Some e) errno said = cc
+
 module _ (P : TraceEntry → Option Denied → Type 0) where
   -- where one was refused at most, and one was refused by labels or by range, that is the one
   find_denied : (entries : List TraceEntry) → IsRefusedOnce entries → AllByRecursion (λ (e : TraceEntry). P e e.denied) entries
-      → some_refusal entries ≡ true → IsDeniedOnce (λ (e : TraceEntry). P e e.denied) entries
+      → some_refusal entries ≡ true → IsDeniedOnce P entries
   find_denied [] once all some = absurd (true≢false (sym some))
   find_denied (e ∷ entries) once all some = by e.denied refl (λ more found. find_denied entries more all.1 found) once some
     where
       by : (o : Option Denied) → e.denied ≡ o
-          → (IsRefusedOnce entries → some_refusal entries ≡ true → IsDeniedOnce (λ (x : TraceEntry). P x x.denied) entries)
+          → (IsRefusedOnce entries → some_refusal entries ≡ true → IsDeniedOnce P entries)
           → elim o as (λ _. Type 0) [ None ↦ IsRefusedOnce entries | Some denied ↦ AllByRecursion IsRestoring entries ]
           → ((is_label_refusal o || some_label_refusal entries) || (is_range_refusal o || some_range_refusal entries)) ≡ true
-          → IsDeniedOnce (λ (e : TraceEntry). P e e.denied) (e ∷ entries)
-      by None is later more found = denied_later (λ (x : TraceEntry). P x x.denied) e entries is (later more found)
+          → IsDeniedOnce P (e ∷ entries)
+      by None is later more found = denied_later P e entries is (later more found)
       by (Some denied) is later more found = record {
         before = [];
         denial = e;
@@ -92,7 +103,7 @@ module _ (P : TraceEntry → Option Denied → Type 0) where
         granted = restoring_granted entries more;
         denied = denied;
         is_denied = is;
-        holds = all.0;
+        holds = subst (P e) is all.0;
       }
 
 -- the reply is EACCES or EPERM
@@ -162,12 +173,14 @@ module _ (accounts : Accounts) (s end : State) (f : Flat) (asked : CallLine) (en
   named : DenialsAreNamed accounts s f me (Some p) asked.call entries
   named = subst (λ (o : Option Process). DenialsAreNamed accounts s f me o asked.call entries) runs line.named
 
+  denials : AllByRecursion (λ (e : TraceEntry). IsReplyOfDenial (Refused errno) e.denied) entries
+  denials = subst (λ (r : Reply). AllByRecursion (λ (e : TraceEntry). IsReplyOfDenial r e.denied) entries) replied line.line.denials
+
   has_denial : HasNamedDenial accounts s f asked p errno entries
   has_denial =
       let found =
-      find_denied (λ e denied. IsNamedDenial accounts s f me p asked.call e.call denied) entries line.line.once named some_denied in
-      let at_denial : IsNamed accounts s f me p asked.call found.denial.call =
-      subst (IsNamedDenial accounts s f me p asked.call found.denial.call) found.is_denied found.holds in
+      find_denied (λ e denied. IsNamedDenial accounts s f me p asked.call e.call denied × IsReplyOfDenial (Refused errno) denied)
+      entries line.line.once (both_hold _ _ entries named denials) some_denied in
       record {
         before = found.before;
         denial = found.denial;
@@ -176,11 +189,12 @@ module _ (accounts : Accounts) (s end : State) (f : Flat) (asked : CallLine) (en
         granted = found.granted;
         denied = found.denied;
         is_denied = found.is_denied;
+        revealed = revealed_errno (errno_by_rule found.denied) errno found.holds.1;
         reason = reason.0;
         explains = reason.1;
         refusal = reason.2;
         is_named =
-            subst (λ (o : Option Reason). IsSomeAnd o (λ (r : Reason). IsAbout accounts s asked.call r found.denial.call)) reason.1 at_denial;
+            subst (λ (o : Option Reason). IsSomeAnd o (λ (r : Reason). IsAbout accounts s asked.call r found.denial.call)) reason.1 found.holds.0;
       }
 
 pub denials_are_named : EachDenialIsNamed

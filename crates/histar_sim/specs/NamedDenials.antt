@@ -13,11 +13,11 @@ use Rattle.histar_reasons.specs.Reasons.{Reason, errno_of, why}
 use Rattle.histar_object.specs.State.{State}
 use Rattle.histar_rules.specs.declared.raw.Denied.{Denied}
 use Rattle.histar_trace.specs.declared.entries.TraceEntry.{TraceEntry}
-use Rattle.histar_sim.specs.Simulation.{SimulatesLine}
+use Rattle.histar_sim.specs.Simulation.{SimulatesLine, errno_by_rule}
 use Rattle.histar_sim.specs.Named.{IsAbout}
 
--- The kernel denied one entry, and granted all before it and after it. The call has a reason whose refusal is this errno, and the denied raw
--- call is on what the reason's sentence names.
+-- The kernel denied one entry, with this errno, and granted all before it and after it. The call has a reason whose refusal is the same
+-- errno, and the denied raw call is on what the reason's sentence names.
 pub record HasNamedDenial (accounts : Accounts) (s : State) (f : Flat) (asked : CallLine) (p : Process) (errno : Errno)
     (entries : List TraceEntry) : Type 0 where
   pub before : List TraceEntry
@@ -27,12 +27,13 @@ pub record HasNamedDenial (accounts : Accounts) (s : State) (f : Flat) (asked : 
   pub granted : AllByRecursion (λ e. e.denied ≡ None) (before ++ after)
   pub denied : Denied
   pub is_denied : denial.denied ≡ Some denied
+  pub revealed : errno_by_rule denied ≡ Some errno
   pub reason : Reason
   pub explains : why accounts f asked.process p asked.call ≡ Some reason
   pub refusal : errno_of reason ≡ errno
   pub is_named : IsAbout accounts s asked.call reason denial.call
 
--- Where the reply to a line is EACCES or EPERM, the kernel's reason is the rule's: the one raw call that the kernel denied is on what the
+-- Where the reply to a line is EACCES or EPERM, the kernel's reason is the rule's: the kernel denied one raw call, and it is on what the
 -- sentence of the refusal's reason names.
 abbrev pub EachDenialIsNamed : Type 0
 EachDenialIsNamed =
