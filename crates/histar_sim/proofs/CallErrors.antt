@@ -33,6 +33,7 @@ use Rattle.histar_refinement.specs.Lines.{IsThreadOf}
 use Rattle.histar_sim.specs.Simulation.{IsReady, errno_by_rule, IsReplyOfDenial, EndsWithRead, IsLine, IsUnanswered}
 use Rattle.histar_sim.specs.Simulation.{IsBrokenOff, FollowsRule}
 use Rattle.histar_sim.specs.Reads.{HasReads}
+use Rattle.histar_sim.specs.Named.{IsNamed, IsNamedDenial, DenialsAreNamed}
 use Rattle.histar_sim.proofs.ReadsByCall.{HasReadsByCall, reads_due}
 use Rattle.histar_sim.proofs.Chains.{Step, all_granted, entries_of, Chain, chain_run, chain_own, all_restoring}
 
@@ -138,6 +139,7 @@ module _ (accounts : Accounts) (f : Flat) (me : ProcName) (call : UnixCall) (old
     pub line : new.line ≡ old.line
     pub is_line : IsLine accounts (state old) old.line me (reply_to accounts f me call) entries (state new)
     pub reads : HasReads accounts (state old) f (running f me) call (reply_to accounts f me call) entries
+    pub named : DenialsAreNamed accounts (state old) f me (running f me) call entries
     pub still : RepresentsStill from (state new) (flat_after accounts f me call)
 
   -- it is answered so, or it ends without a reply
@@ -159,6 +161,7 @@ module _ (accounts : Accounts) (f : Flat) (me : ProcName) (call : UnixCall) (old
           refined = record {
             line = here.is_line;
             reads = here.reads;
+            named = here.named;
             represents = here.still.represents;
             keeps = λ from. (each (record ready { represents = from })).1.still;
           };
@@ -221,15 +224,34 @@ module _ (accounts : Accounts) (f : Flat) (me : ProcName) (call : UnixCall)
   all_own line [] = tt
   all_own line (s ∷ steps) = ((refl, ready.thread), all_own line steps)
 
+  -- a raw call is on what the reason of the refusal names
+  abbrev pub IsDenialNamed : RawCall → Type 0
+  IsDenialNamed next = IsNamed accounts (state old) f me ready.caller.process call next
+
+  -- each denied one of these raw calls is on what the reason of the refusal names
+  abbrev AreNamed : List Step → Type 0
+  AreNamed steps =
+      AllByRecursion (λ (e : TraceEntry). IsNamedDenial accounts (state old) f me ready.caller.process call e.call e.denied)
+      (entries_of old.line t steps)
+
+  granted_named : (calls : List RawCall) → AreNamed (all_granted calls)
+  granted_named [] = tt
+  granted_named (c ∷ calls) = (tt, granted_named calls)
+
+  refused_named : (last : RawCall) (denied : Denied) (restoring : List RawCall) → IsDenialNamed last → (calls : List RawCall)
+      → AreNamed (all_granted calls ++ (last, Some denied) ∷ all_granted restoring)
+  refused_named last denied restoring named [] = (named, granted_named restoring)
+  refused_named last denied restoring named (c ∷ calls) = (tt, refused_named last denied restoring named calls)
+
   -- a call refines its rule if its raw calls agree with the flat rules' reply, and the state represents the flat state after the call
   agreed_refined : (steps : List Step) → Chain old t steps new → (refusal : Option Errno)
       → refused accounts f me ready.caller.process call ≡ refusal → (r : Reply) → reply_or refusal allowed ≡ r
       → Agrees r (entries_of old.line t steps)
       → ((bytes : List ℕ) → r ≡ Data bytes → EndsWithRead (state old) (entries_of old.line t steps) bytes)
-      → ReadsAmong steps r → r ≢ Gone
+      → ReadsAmong steps r → AreNamed steps → r ≢ Gone
       → RepresentsStill ready.represents (state new) (flat_or refusal f (changed accounts f me ready.caller.process call))
       → Follows (Ok r)
-  agreed_refined steps chain refusal is r r_is reply_agrees revealed reads lives still =
+  agreed_refined steps chain refusal is r r_is reply_agrees revealed reads named lives still =
       let part = chain_run t old new steps chain in
       let reply = reply_is refusal is ∙ r_is in
       let entries = entries_of old.line t steps in
@@ -252,6 +274,7 @@ module _ (accounts : Accounts) (f : Flat) (me : ProcName) (call : UnixCall)
           reads = subst (λ (o : Option Process). HasReads accounts (state old) f o call (reply_to accounts f me call) entries) (sym runs)
               (reads_due accounts (state old) f ready.caller.process call (reply_to accounts f me call) entries
               (subst (λ (x : Reply). HasReadsByCall accounts (state old) f ready.caller.process call x entries) (sym reply) reads));
+          named = subst (λ (o : Option Process). DenialsAreNamed accounts (state old) f me o call entries) (sym runs) named;
           still = subst (RepresentsStill ready.represents (state new)) (sym (after_is refusal is)) still;
         },
       )
@@ -266,7 +289,8 @@ module _ (accounts : Accounts) (f : Flat) (me : ProcName) (call : UnixCall)
       let entries = entries_of old.line t (all_granted calls) in
       agreed_refined (all_granted calls) chain None is allowed refl
       (granted_agree old.line t allowed (backed_plain (state old) entries allowed backed) calls)
-      (backed_revealed (state old) entries allowed backed) reads (backed_runs (state old) entries allowed backed) still
+      (backed_revealed (state old) entries allowed backed) reads (granted_named calls)
+      (backed_runs (state old) entries allowed backed) still
 
   -- Where one raw call was refused, those after it give the thread labels, and the state still represents the flat state, a call that the
   -- flat rules refuse with the errno of the denial refines its rule.
@@ -274,12 +298,12 @@ module _ (accounts : Accounts) (f : Flat) (me : ProcName) (call : UnixCall)
       → AllByRecursion (λ (c : RawCall). sets_labels c ≡ true) restoring
       → Chain old t (all_granted calls ++ (last, Some denied) ∷ all_granted restoring) new → (errno : Errno)
       → errno_by_rule denied ≡ Some errno → refused accounts f me ready.caller.process call ≡ Some errno
-      → ReadsAmong (all_granted calls ++ (last, Some denied) ∷ all_granted restoring) (Refused errno)
+      → IsDenialNamed last → ReadsAmong (all_granted calls ++ (last, Some denied) ∷ all_granted restoring) (Refused errno)
       → RepresentsStill ready.represents (state new) f → Follows (Ok (Refused errno))
-  given_back_refined calls last denied restoring sets chain errno revealed is reads still =
+  given_back_refined calls last denied restoring sets chain errno revealed is named reads still =
       agreed_refined (all_granted calls ++ (last, Some denied) ∷ all_granted restoring) chain (Some errno) is
       (Refused errno) refl (refused_agree old.line t last denied errno revealed restoring sets calls)
-      (λ bytes e. absurd cc) reads (λ e. absurd cc) still
+      (λ bytes e. absurd cc) reads (refused_named last denied restoring named calls) (λ e. absurd cc) still
 
   module _ (stays : state new ≡ state old) where
     unchanged : RepresentsStill ready.represents (state new) f
@@ -292,12 +316,12 @@ module _ (accounts : Accounts) (f : Flat) (me : ProcName) (call : UnixCall)
     unchanged_refined calls chain errno no_access no_permission is reads =
         agreed_refined (all_granted calls) chain (Some errno) is (Refused errno) refl
         (granted_agree old.line t (Refused errno) (no_access, no_permission) calls) (λ bytes e. absurd cc) reads
-        (λ e. absurd cc) unchanged
+        (granted_named calls) (λ e. absurd cc) unchanged
 
     -- where only the last raw call was refused and nothing has changed, a call that the flat rules refuse with its errno refines its rule
     pub refused_refined : (calls : List RawCall) (last : RawCall) (denied : Denied) → Chain old t (all_granted calls ++ (last, Some denied) ∷ []) new
         → (errno : Errno) → errno_by_rule denied ≡ Some errno → refused accounts f me ready.caller.process call ≡ Some errno
-        → ReadsAmong (all_granted calls ++ (last, Some denied) ∷ []) (Refused errno)
+        → IsDenialNamed last → ReadsAmong (all_granted calls ++ (last, Some denied) ∷ []) (Refused errno)
         → Follows (Ok (Refused errno))
-    refused_refined calls last denied chain errno revealed is reads =
-        given_back_refined calls last denied [] tt chain errno revealed is reads unchanged
+    refused_refined calls last denied chain errno revealed is named reads =
+        given_back_refined calls last denied [] tt chain errno revealed is named reads unchanged

@@ -1,6 +1,6 @@
 -- The program of `create` refines its rule.
 use Rattle.std.proofs.Common.{ℕ, [], ◌∷◌, ◌++◌, Result, arith, refl, ap, ◌∙◌, subst, length}
-use Rattle.std.specs.Prelude.{IsTrue}
+use Rattle.std.specs.Prelude.{IsTrue, is_some}
 use Rattle.std.specs.FinMap as map
 use Rattle.std.proofs.lemmas.Bool.{ltb-true}
 use Rattle.histar_flat.specs.declared.calls.Mode.{Mode}
@@ -10,10 +10,12 @@ use Rattle.histar_flat.specs.declared.replies.Reply.{Reply}
 use Rattle.histar_flat.specs.declared.replies.Reply.TheVariants.{Done}
 use Rattle.histar_flat.specs.Words.{Name, Path, ProcName, is_name}
 use Rattle.histar_flat.specs.Accounts.{Accounts}
-use Rattle.histar_flat.specs.Classes.{Process}
+use Rattle.histar_flat.specs.Classes.{Process, class_made}
 use Rattle.histar_flat.specs.FlatState.{Flat, entries_in}
 use Rattle.histar_flat.specs.FlatState.Content.{File}
 use Rattle.histar_flat.specs.FlatCalls.{most_entries}
+use Rattle.histar_reasons.specs.Reasons.{unmade}
+use Rattle.histar_base.specs.Refusals.{unless}
 use Rattle.histar_level.specs.Levels.{Levels}
 use Rattle.histar_object.specs.declared.objects.Kind.TheVariants.{Segment}
 use Rattle.histar_object.specs.declared.objects.Object.{Object}
@@ -47,7 +49,18 @@ use Rattle.histar_sim.proofs.NewEntries.{last_name}
 create_makes : (accounts : Accounts) (f : Flat) (me : ProcName) (p : Process) (q : Path) (mode : Mode)
     → MakesEntry accounts f me p q mode (File []) (calls.Create q mode)
 create_makes accounts f me p q mode =
-    record { needs = record { refuses = refl; reads = λ s reply entries walk. walk }; changes = refl; answers = refl }
+    record {
+      needs = record {
+        refuses = refl;
+        path = refl;
+        named = unless (is_some (class_made accounts p mode)) (unmade mode);
+        explains = refl;
+        reads = λ s reply entries walk. walk;
+      };
+      names = refl;
+      changes = refl;
+      answers = refl;
+    }
 
 -- the segment of the file is made, and the directory is written
 abbrev make : ℕ → Levels → RawCall

@@ -11,11 +11,14 @@ use Rattle.histar_flat.specs.declared.replies.Reply.TheVariants.{Refused}
 use Rattle.histar_flat.specs.Words.{Name, Path, ProcName}
 use Rattle.histar_flat.specs.Accounts.{Accounts}
 use Rattle.histar_flat.specs.Files.{get}
-use Rattle.histar_flat.specs.Classes.{Class}
-use Rattle.histar_flat.specs.FlatState.{Flat, Node, Content, is_some_and, is_dir, is_dir_at, into}
+use Rattle.histar_flat.specs.Classes.{Class, Process}
+use Rattle.histar_flat.specs.FlatState.{Flat, Node, Content, is_some_and, is_dir, is_there, is_dir_at, into}
 use Rattle.histar_flat.specs.FlatState.Content.{Dir, File}
 use Rattle.histar_flat.specs.FlatCalls.{refused}
+use Rattle.histar_flat.specs.Needs.{entry as entry_needed}
 use Rattle.histar_flat.proofs.CommonNeeds.{no_entry}
+use Rattle.histar_reasons.specs.Reasons.{Reason, why_into, why_need, why}
+use Rattle.histar_reasons.specs.Reasons.Reason.{IsMissing}
 use Rattle.histar_object.specs.State.{State}
 use Rattle.histar_rules.specs.declared.raw.RawCall.{RawCall}
 use Rattle.histar_syscall.specs.KernelModel.{KernelModel, state}
@@ -31,6 +34,7 @@ use Rattle.histar_programs.specs.Start.{roots_of}
 use Rattle.histar_refinement.specs.Accounts.{AreAccounts}
 use Rattle.histar_refinement.specs.Addresses.{address_of}
 use Rattle.histar_refinement.specs.Directories.{directory_of}
+use Rattle.histar_refinement.specs.Lines.{IsObjectAt}
 use Rattle.histar_refinement.specs.Processes.{or_zero}
 use Rattle.histar_refinement.proofs.ListedFiles.{numbered_path}
 use Rattle.histar_refinement.proofs.Agreeing.{some_of}
@@ -39,10 +43,25 @@ use Rattle.histar_sim.specs.Reads.{AreAmong}
 use Rattle.histar_sim.proofs.Chains.{Step, all_granted, entries_of, Chain}
 use Rattle.histar_sim.proofs.CallErrors.{ReadsAmong}
 use Rattle.histar_sim.proofs.Steps.{Goal, refused_at_once}
-use Rattle.histar_sim.proofs.Walks.{numbers, place_at, walk_reads, nothing_there, file_there, directory_there, among_granted_all, walk_step}
+use Rattle.histar_sim.proofs.Walks.{numbers, place_at, walk_reads, found, holds, nothing_there, file_there, directory_there, among_granted_all}
+use Rattle.histar_sim.proofs.Walks.{way_clear, Explains, walk_step}
+
+-- where the way into the directory of an entry has a reason, that is the one of a call that needs the entry
+pub entry_explained : (accounts : Accounts) (f : Flat) (me : ProcName) (p : Process) (m : Name) (d : Path) (call : UnixCall)
+    (named : Option Reason) → why accounts f me p call ≡ (why_need accounts f me p (m ∷ d) entry_needed orelse named)
+    → (reason : Reason) → why_into accounts f p d ≡ Some reason → why accounts f me p call ≡ Some reason
+entry_explained accounts f me p m d call named explains reason is =
+    explains ∙ ap (λ (o : Option Reason). (o orelse unless (is_there f (m ∷ d)) (IsMissing (m ∷ d))) orelse named) is
 
 module _ (accounts : Accounts) (ok : AreAccounts accounts) (s : State) (f : Flat) (me : ProcName) (t : ℕ)
     (ready : IsReady accounts s f me t) (m : Name) (d : Path) where
+  -- where the way is open and something is at the path, the need of an entry has no reason
+  pub entry_clear : into accounts f ready.caller.process d ≡ None → (node : Node) → get f.files (m ∷ d) ≡ Some node
+      → why_need accounts f me ready.caller.process (m ∷ d) entry_needed ≡ None
+  entry_clear open_so_far node at =
+      let clear = way_clear accounts ok s f me t ready d open_so_far in
+      λ i. clear i orelse unless (is_some_and (at i) (λ n. true)) (IsMissing (m ∷ d))
+
   -- the object at the path: a file's segment, or a directory's container
   abbrev pub object_at : ℕ
   object_at = or_zero (numbers accounts ok s f me t ready (address_of (m ∷ d)))
@@ -83,6 +102,19 @@ module _ (accounts : Accounts) (ok : AreAccounts accounts) (s : State) (f : Flat
         → map.get (directory_of f.files (numbers accounts ok s f me t ready) d) m ≡ Some (target_at content)
     entry_leads Dir at = directory_there accounts ok s f me t ready m d class at
     entry_leads (File bytes) at = file_there accounts ok s f me t ready m d class bytes at
+
+    -- the segments lead to the object at the path
+    pub object_found : is_dir_at f d ≡ true → (content : Content) → get f.files (m ∷ d) ≡ Some (record { class = class; content = content })
+        → IsObjectAt accounts s (m ∷ d) (place_at accounts ok s f me t ready d).container object_at
+    object_found is content at = (
+      (place_at accounts ok s f me t ready d).listing,
+      directory_of f.files (numbers accounts ok s f me t ready) d,
+      target_at content,
+      found accounts ok s f me t ready d is,
+      holds accounts ok s f me t ready d is,
+      entry_leads content at,
+      sym (object_led_to content),
+    )
 
 module _ (accounts : Accounts) (ok : AreAccounts accounts) (old new : KernelModel) (f : Flat) (me : ProcName) (t : ℕ)
     (ready : IsReady accounts (state old) f me t) (m : Name) (d : Path) (call : UnixCall)
@@ -150,16 +182,18 @@ module _ (accounts : Accounts) (ok : AreAccounts accounts) (old new : KernelMode
           (entry_leads accounts ok (state old) f me t ready m d node.class node.content is))
 
     -- the entry is found, or the call is refused
-    pub entry_step : Runs (find_entry (roots_of (length accounts.users)) (m ∷ d) rest) old new t result → GoesOn → Refined
+    pub entry_step : Explains accounts ok old new f me t ready call result d
+        → Runs (find_entry (roots_of (length accounts.users)) (m ∷ d) rest) old new t result → GoesOn → Refined
     unfolding find_entry
-    entry_step runs go_on =
+    entry_step explains runs go_on =
         walk_step accounts ok old new f me t ready call result d
         (λ directory. given (entry_at (map.get directory.entries m)) (λ target.
         rest (record { place = directory.place; entries = directory.entries; name = m; target = target })))
-        runs
-        (λ errno is steps among. (
-          refused_is (Some errno) (get f.files (m ∷ d)) is refl,
-          has_reads
-              (ap (λ (o : Option Errno). not (is_some o) && is_dir_at f (m ∷ d)) is) steps (Refused errno) among,
-        ))
+        runs (
+          λ errno is steps among. (
+            refused_is (Some errno) (get f.files (m ∷ d)) is refl,
+            has_reads (ap (λ (o : Option Errno). not (is_some o) && is_dir_at f (m ∷ d)) is) steps (Refused errno) among,
+          ),
+          explains,
+        )
         (λ open_so_far mid stays chain on. by_agrees go_on open_so_far mid stays chain on (get f.files (m ∷ d)) refl)

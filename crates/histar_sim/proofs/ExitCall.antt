@@ -202,6 +202,7 @@ module _ (accounts : Accounts) (ok : AreAccounts accounts) (number : ℕ) (small
       (λ status. ask (raw.Write C S 0 (status_bytes (once_exited number status)))
       (λ _. ask (raw.Unlink C status.internal) (λ _. Answers Done))) run
       (λ unseen. absurd (true≢false (sym sees_itself ∙ unseen)))
+      (λ unseen. absurd (true≢false (sym sees_itself ∙ unseen)))
       (λ seen mid stays chain on. wrote mid stays chain on)
 
 -- the program of `exit` refines its rule

@@ -1,5 +1,6 @@
 -- A call on a file: it is found, and read or written, or the call is refused as the flat rules refuse it.
-use Rattle.std.proofs.Common.{◌≡◌, ℕ, true, List, [], ◌∷◌, Option, None, Some, Result, refl, ◌∙◌, subst, length, ◌+◌, ◌≤◌, Bool, false, ◌++◌, sym, ap}
+use Rattle.std.proofs.Common.{◌≡◌, ℕ, inl, true, List, [], ◌∷◌, Option, None, Some, Result, refl, ◌∙◌, subst, length}
+use Rattle.std.proofs.Common.{◌+◌, ◌≤◌, Bool, false, ◌++◌, sym, ap}
 use Rattle.std.specs.Prelude.{not, min, nat_le, take}
 use Rattle.std.specs.FinMap as map
 use Rattle.std.proofs.lemmas.List.{length-append, length-take}
@@ -13,11 +14,15 @@ use Rattle.histar_flat.specs.Words.{Name, Path, ProcName}
 use Rattle.histar_flat.specs.Accounts.{Accounts}
 use Rattle.histar_flat.specs.Files.{get}
 use Rattle.histar_flat.specs.Classes.{Class, Process}
-use Rattle.histar_flat.specs.FlatState.{Flat, Node, Content, is_some_and, is_dir, into, bytes_at, writes, with_bytes as with_file_bytes}
+use Rattle.histar_flat.specs.FlatState.{Flat, Node, Content, is_some_and, is_dir, is_there, is_file_at, into, bytes_at, writes}
+use Rattle.histar_flat.specs.FlatState.{with_bytes as with_file_bytes}
 use Rattle.histar_flat.specs.FlatState.Content.{Dir, File}
 use Rattle.histar_flat.specs.FlatCalls as flat
 use Rattle.histar_flat.specs.FlatCalls.{refused, changed, most_bytes}
+use Rattle.histar_flat.specs.Needs.{file as file_needed}
 use Rattle.histar_flat.proofs.CommonNeeds.{no_file}
+use Rattle.histar_reasons.specs.Reasons.{Reason, not_written, why_need, why}
+use Rattle.histar_reasons.specs.Reasons.Reason.{MayNotWrite, IsMissing, HasDirectory, IsTooLong}
 use Rattle.histar_object.specs.State.{State, with_segment_bytes}
 use Rattle.histar_object.specs.Objects.{bytes_in}
 use Rattle.histar_rules.specs.declared.raw.RawCall.{RawCall}
@@ -44,18 +49,23 @@ use Rattle.histar_refinement.specs.KeptNames.{RepresentsStill}
 use Rattle.histar_refinement.proofs.Writing.{still_overwritten}
 use Rattle.histar_sim.specs.Simulation.{errno_by_rule, IsReady}
 use Rattle.histar_sim.specs.Reads.{AreAmong}
+use Rattle.histar_sim.specs.Named.{IsFileAt}
+use Rattle.histar_sim.proofs.FirstReasons.{unwritten_at, written_at, named_by}
 use Rattle.histar_sim.proofs.ReadsByCall.{HasWalk, HasReadsByCall}
 use Rattle.histar_sim.proofs.Chains.{Step, all_granted, entries_of, Chain}
-use Rattle.histar_sim.proofs.CallErrors.{ReadsAmong, IsBacked}
+use Rattle.histar_sim.proofs.CallErrors.{IsDenialNamed, ReadsAmong, IsBacked}
 use Rattle.histar_sim.proofs.Steps.{Goal, refused_at_once, granted_step, refused_step, answered_step}
 use Rattle.histar_sim.proofs.Walks.{numbers, place_at, walk_reads, nothing_there, file_there, directory_there, among_granted_all, has_walk, look_step}
-use Rattle.histar_sim.proofs.Walks.{among_then, among_also}
-use Rattle.histar_sim.proofs.FoundObjects.{container, segment, file_numbered, holds_bytes, held_there, write_said}
+use Rattle.histar_sim.proofs.Walks.{among_then, among_also, way_clear}
+use Rattle.histar_sim.proofs.FoundObjects.{container, segment, file_numbered, file_led_to, holds_bytes, writes_is, held_there, write_said}
 
--- What the flat rules say of a call on a file: what they refuse once it is reached, and that the call cannot do without the reads of the walk.
+-- What the flat rules say of a call on a file: what they refuse once it is reached, with its reason, and that the call cannot do without the
+-- reads of the walk.
 pub record ReachesFile (accounts : Accounts) (f : Flat) (me : ProcName) (p : Process) (q : Path) (call : UnixCall)
     (later : Option Errno) : Type 0 where
   pub refuses : refused accounts f me p call ≡ (no_file accounts f p q orelse later)
+  pub named : Option Reason
+  pub explains : why accounts f me p call ≡ (why_need accounts f me p q file_needed orelse named)
   pub reads : (s : State) (reply : Reply) (entries : List TraceEntry) → HasWalk accounts s f p q entries
       → HasReadsByCall accounts s f p call reply entries
 
@@ -78,6 +88,7 @@ refusal may fits = unless may EACCES orelse unless fits EFBIG
 -- What the flat rules say of a call that leaves these bytes in a file.
 pub record WritesFile (accounts : Accounts) (f : Flat) (me : ProcName) (p : Process) (q : Path) (call : UnixCall) (whole : List ℕ) : Type 0 where
   pub reaches : ReachesFile accounts f me p q call (refusal (writes accounts f p q) (nat_le (length whole) most_bytes))
+  pub names : reaches.named ≡ (not_written accounts f p q orelse unless (nat_le (length whole) most_bytes) (IsTooLong q (length whole)))
   pub changes : changed accounts f me p call ≡ with_file_bytes f q whole
   pub answers : flat.answer f me p call ≡ Done
 
@@ -124,6 +135,16 @@ module _ (accounts : Accounts) (ok : AreAccounts accounts) (old new : KernelMode
         → get f.files (m ∷ d) ≡ Some (record { class = class; content = File bytes })
         → refused accounts f me p call ≡ later
     reached open_so_far class bytes at = refused_is None (Some (record { class = class; content = File bytes })) open_so_far at
+
+    -- and the reason is that of this
+    pub reached_reason : into accounts f p d ≡ None → (class : Class) (bytes : List ℕ)
+        → get f.files (m ∷ d) ≡ Some (record { class = class; content = File bytes })
+        → why accounts f me p call ≡ file.named
+    reached_reason open_so_far class bytes at =
+        let clear = way_clear accounts ok (state old) f me t ready d open_so_far in
+        file.explains
+        ∙ (λ i. (clear i orelse unless (is_some_and (at i) (λ n. true)) (IsMissing (m ∷ d))
+        orelse unless (is_some_and (at i) (λ n. not (is_dir n))) (HasDirectory (m ∷ d))) orelse file.named)
 
     module _ (rest : FoundFile → Program) where
       -- the file that was found
@@ -181,8 +202,11 @@ module _ (accounts : Accounts) (ok : AreAccounts accounts) (old new : KernelMode
       file_step runs go_on =
           look_step accounts ok old new f me t ready call result d m (λ place target.
           given (file_at target) (λ segment. rest (record { container = place.container; segment = segment })))
-          runs
-          (λ errno is steps among. (refused_is (Some errno) (get f.files (m ∷ d)) is refl, has_reads steps (Refused errno) among))
+          runs (
+            λ errno is steps among. (refused_is (Some errno) (get f.files (m ∷ d)) is refl, has_reads steps (Refused errno) among),
+            λ reason is. file.explains ∙ ap (λ (o : Option Reason). (o orelse unless (is_there f (m ∷ d)) (IsMissing (m ∷ d))
+                orelse unless (is_file_at f (m ∷ d)) (HasDirectory (m ∷ d))) orelse file.named) is,
+          )
           (λ open_so_far mid stays chain on. by_agrees go_on open_so_far mid stays chain on (get f.files (m ∷ d)) refl)
 
   -- ---- a call that writes the file, as `write` and `append` do
@@ -219,12 +243,40 @@ module _ (accounts : Accounts) (ok : AreAccounts accounts) (old new : KernelMode
           ∙ write_said accounts ok (state old) f me t ready d open_so_far m class held at keep bytes
           ∙ (λ i. unless (e i) Modify orelse unless ((kept_length keep (bytes_at f (m ∷ d)) bytes whole kept ∙ more) i) TooBig)
 
+      -- the reasons why the file is not written
+      reason_is : why accounts f me p call ≡ (not_written accounts f p (m ∷ d) orelse unless fits (IsTooLong (m ∷ d) (length whole)))
+      reason_is = reached_reason (refusal may fits) writing.reaches open_so_far class held at ∙ writing.names
+
+      -- the segments lead to the file that is written
+      there : IsFileAt accounts (state old) (m ∷ d) (container accounts ok (state old) f me t ready d) file
+      there = file_led_to accounts ok (state old) f me t ready d open_so_far m class held at
+
+      -- where it may not be written the write is on what the reason names, and where there are too many bytes too
+      unwritten_named : may ≡ false → IsDenialNamed accounts f me call old new t ready next
+      unwritten_named e =
+          let node : Node = record { class = class; content = File held } in
+          let fails = sym (writes_is accounts ok (state old) f me t ready d open_so_far m class held at) ∙ e in
+          let found = unwritten_at accounts f p (m ∷ d) node at fails in
+          named_by accounts (state old) f me p call next (MayNotWrite (m ∷ d) found.0)
+          (reason_is ∙ ap (λ (o : Option Reason). o orelse unless fits (IsTooLong (m ∷ d) (length whole))) found.1)
+          (inl (container accounts ok (state old) f me t ready d, file, there, (refl, refl)))
+
+      too_long_named : may ≡ true → fits ≡ false → IsDenialNamed accounts f me call old new t ready next
+      too_long_named e more =
+          let node : Node = record { class = class; content = File held } in
+          let passes = sym (writes_is accounts ok (state old) f me t ready d open_so_far m class held at) ∙ e in
+          let none = written_at accounts f p (m ∷ d) node at passes in
+          named_by accounts (state old) f me p call next (IsTooLong (m ∷ d) (length whole))
+          (reason_is ∙ (λ i. none i orelse unless (more i) (IsTooLong (m ∷ d) (length whole))))
+          (container accounts ok (state old) f me t ready d, file, there, (refl, refl))
+
       -- a denial is replied
       denied : (d : Denied) (errno : Errno) → check (state mid) t next ≡ Some d → write_errno_of d ≡ Some errno → errno_by_rule d ≡ Some errno
+          → IsDenialNamed accounts f me call old new t ready next
           → refused accounts f me p call ≡ Some errno → Runs (ask next (λ _. Answers Done)) mid new t result → Refined
-      denied d errno fails revealed by_rule is on =
+      denied d errno fails revealed by_rule named is on =
           refused_step accounts f me call old new t ready result walk mid chain stays
-          errno is next (λ _. Answers Done) d fails revealed by_rule
+          errno is next (λ _. Answers Done) d fails revealed by_rule named
           (has_reads (refusal may fits) writing.reaches _ _
           (among_also old.line t walk walk ((next, Some d) ∷ []) (among_granted_all old.line t walk))) on
 
@@ -243,8 +295,10 @@ module _ (accounts : Accounts) (ok : AreAccounts accounts) (old new : KernelMode
           ∙ (λ i. with_segment_bytes (state old) file (take keep (there i) ++ bytes)) ∙ ap (with_segment_bytes (state old) file) kept
 
       by_right : (is_may is_fits : Bool) → may ≡ is_may → fits ≡ is_fits → Runs (ask next (λ _. Answers Done)) mid new t result → Refined
-      by_right false is_fits e more on = denied Modify EACCES (said_by false is_fits e more) refl refl (refused_by false is_fits e more) on
-      by_right true false e more on = denied TooBig EFBIG (said_by true false e more) refl refl (refused_by true false e more) on
+      by_right false is_fits e more on =
+          denied Modify EACCES (said_by false is_fits e more) refl refl (unwritten_named e) (refused_by false is_fits e more) on
+      by_right true false e more on =
+          denied TooBig EFBIG (said_by true false e more) refl refl (too_long_named e more) (refused_by true false e more) on
       by_right true true e more on =
           granted_step accounts f me call old new t ready result walk mid chain next
           (λ _. Answers Done) (said_by true true e more) on

@@ -44,7 +44,8 @@ use Rattle.histar_refinement.proofs.MakingRanges.{is_made_within}
 use Rattle.histar_layout.proofs.Declared.{equal_tested}
 use Rattle.histar_refinement.proofs.Agreeing.{thread_found, guard_at, container_found, listing_found, file_found, step_linked}
 use Rattle.histar_sim.specs.Simulation.{IsReady}
-use Rattle.histar_sim.proofs.Walks.{runs, place_at, agrees, at_container, at_listing, dir, seen, file_number}
+use Rattle.histar_sim.specs.Named.{IsMaking, IsFileAt}
+use Rattle.histar_sim.proofs.Walks.{runs, place_at, agrees, at_container, at_listing, dir, seen, file_number, file_is_at}
 use Rattle.histar_sim.proofs.NewEntries.{HasSegment, still_there, there_then, making_inside}
 use Rattle.histar_refinement.proofs.Agreement.{agreement}
 
@@ -172,6 +173,7 @@ module _ (accounts : Accounts) (ok : AreAccounts accounts) (s : State) (f : Flat
       -- out of the thread's range, and else only where the directory may not be written or there is no number for the object.
       pub record MakesObject (make : Levels → RawCall) : Type 0 where
         pub reveals : (x : Levels) (denied : Denied) → errno_for (make x) denied ≡ errno_of denied
+        pub makes : (x : Levels) → IsMaking container (make x)
         pub outside : (g : Guard) → is_made_within accounts l.category l.different me p g ≡ false
             → check s t (make (guard_label l.category g))
             ≡ (unless (may_write accounts p directory_class) Modify orelse Some Range)
@@ -185,6 +187,7 @@ module _ (accounts : Accounts) (ok : AreAccounts accounts) (s : State) (f : Flat
       pub segment_made : MakesObject (λ x. raw.MakeSegment container x [])
       segment_made = record {
         reveals = λ x denied. refl;
+        makes = λ x. refl;
         outside =
             λ g out. segment_out_of_range accounts s f l ok me p t (runs accounts ok s f me t ready) d directory_class
             directory_agrees container listing container_numbered listing_numbered may_look g out [];
@@ -197,6 +200,7 @@ module _ (accounts : Accounts) (ok : AreAccounts accounts) (s : State) (f : Flat
       pub container_made : MakesObject (λ x. raw.MakeContainer container x)
       container_made = record {
         reveals = λ x denied. refl;
+        makes = λ x. refl;
         outside =
             λ g out. container_out_of_range accounts s f l ok me p t (runs accounts ok s f me t ready) d directory_class
             directory_agrees container listing container_numbered listing_numbered may_look g out;
@@ -210,6 +214,10 @@ module _ (accounts : Accounts) (ok : AreAccounts accounts) (s : State) (f : Flat
       module _ (m : Name) (class : Class) (held : List ℕ) (at : get f.files (m ∷ d) ≡ Some (record { class = class; content = File held })) where
         pub file_numbered : l.naming.number (address_of (m ∷ d)) ≡ Some (segment m)
         file_numbered = file_number accounts ok s f me t ready m d class held at
+
+        -- the segments lead to the file
+        pub file_led_to : IsFileAt accounts s (m ∷ d) container (segment m)
+        file_led_to = file_is_at accounts ok s f me t ready m d is_dir class held at
 
         pub holds_bytes : bytes_at f (m ∷ d) ≡ held
         holds_bytes = ap bytes_of at

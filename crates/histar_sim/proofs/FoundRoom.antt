@@ -1,6 +1,7 @@
 -- Room for an entry: the walk into its directory is made, it has no entry of the name, and it has fewer than 64 entries; or the
 -- call is refused as the flat rules refuse it.
-use Rattle.std.proofs.Common.{◌≡◌, ℕ, Bool, true, false, List, [], ◌∷◌, ◌++◌, Option, None, Some, Result, arith, refl, ◌∙◌, subst, length, ◌≤◌, ◌==◌}
+use Rattle.std.proofs.Common.{◌≡◌, ℕ, Bool, true, false, List, [], ◌∷◌, ◌++◌, Option, None, Some, Result, inl, inr, arith, refl}
+use Rattle.std.proofs.Common.{sym, ap, ◌∙◌, subst, length, ◌≤◌, ◌==◌}
 use Rattle.std.specs.Prelude.{nat_lt, not}
 use Rattle.std.specs.FinMap as map
 use Rattle.std.proofs.lemmas.Bool.Decides.{nat_tests}
@@ -14,10 +15,15 @@ use Rattle.histar_flat.specs.Words.{Name, Path, ProcName}
 use Rattle.histar_flat.specs.Accounts.{Accounts}
 use Rattle.histar_flat.specs.Files.{get}
 use Rattle.histar_flat.specs.Classes.{Class, Process, may_write}
-use Rattle.histar_flat.specs.FlatState.{Flat, Content, entries_in, into, Node, is_some_and, writes}
+use Rattle.histar_flat.specs.FlatState.{Flat, Content, entries_in, into, Node, is_some_and, is_there, writes}
 use Rattle.histar_flat.specs.FlatState.Content.{Dir, File}
 use Rattle.histar_flat.specs.FlatCalls.{refused, most_entries}
+use Rattle.histar_flat.specs.Needs.{room as room_needed}
+use Rattle.histar_flat.specs.PathOrder.{parent}
+use Rattle.histar_flat.specs.CallRules.{path_of}
 use Rattle.histar_flat.proofs.CommonNeeds.{no_room}
+use Rattle.histar_reasons.specs.Reasons.{Reason, not_written, why_need, why}
+use Rattle.histar_reasons.specs.Reasons.Reason.{MayNotWrite, IsTaken, IsFull}
 use Rattle.histar_object.specs.State.{State}
 use Rattle.histar_rules.specs.declared.raw.RawCall.{RawCall}
 use Rattle.histar_syscall.specs.KernelModel.{KernelModel, state}
@@ -35,18 +41,24 @@ use Rattle.histar_refinement.specs.Accounts.{AreAccounts}
 use Rattle.histar_refinement.proofs.Making.{count_entries}
 use Rattle.histar_sim.specs.Simulation.{IsReady}
 use Rattle.histar_sim.specs.Reads.{AreAmong}
+use Rattle.histar_sim.specs.Named.{IsMaking, MakesAt, IsAbout}
+use Rattle.histar_sim.proofs.FirstReasons.{unwritten_at, written_at, named_by}
 use Rattle.histar_sim.proofs.ReadsByCall.{HasWalk, HasReadsByCall}
 use Rattle.histar_sim.proofs.Chains.{all_granted, entries_of, Chain, Step}
-use Rattle.histar_sim.proofs.CallErrors.{ReadsAmong}
+use Rattle.histar_sim.proofs.CallErrors.{IsDenialNamed, ReadsAmong}
 use Rattle.histar_sim.proofs.Steps.{Goal, refused_at_once}
 use Rattle.histar_sim.proofs.Walks.{place_at, walk_reads, holds, among_granted_behind, nothing_there, file_there, directory_there, has_walk}
-use Rattle.histar_sim.proofs.Walks.{walk_step_behind}
-use Rattle.histar_sim.proofs.FoundObjects.{entries, is_dir, directory_class, writes_as_class}
+use Rattle.histar_sim.proofs.Walks.{found, way_clear, walk_step_behind}
+use Rattle.histar_sim.proofs.FoundObjects.{entries, is_dir, directory_class, directory_agrees, writes_as_class}
 
--- What the flat rules say of a call that needs room for an entry: where there is none they refuse it, and it cannot do without the reads of the walk.
+-- What the flat rules say of a call that needs room for an entry at its path: where there is none they refuse it, with the reason of that, and
+-- it cannot do without the reads of the walk.
 pub record NeedsRoom (accounts : Accounts) (f : Flat) (me : ProcName) (p : Process) (q : Path) (call : UnixCall)
     (behind : Option Errno) : Type 0 where
   pub refuses : refused accounts f me p call ≡ (no_room accounts f p q orelse behind)
+  pub path : path_of call ≡ q
+  pub named : Option Reason
+  pub explains : why accounts f me p call ≡ (why_need accounts f me p q room_needed orelse named)
   pub reads : (s : State) (reply : Reply) (entries : List TraceEntry) → HasWalk accounts s f p q entries
       → HasReadsByCall accounts s f p call reply entries
 
@@ -120,6 +132,46 @@ module _ (accounts : Accounts) (ok : AreAccounts accounts) (old new : KernelMode
       refused_is None None true may open_so_far absent room
       (writes_as_class accounts ok (state old) f me t ready d open_so_far ∙ is_may)
 
+  -- what is made in the directory is on what the reason names: the directory, where it may not be written, or where nothing may be made in it
+  module _ (open_so_far : into accounts f ready.caller.process d ≡ None) (absent : get f.files (m ∷ d) ≡ None)
+      (room : nat_lt (length (entries_in f d)) most_entries ≡ true) (next : RawCall)
+      (making : IsMaking (place_at accounts ok (state old) f me t ready d).container next) where
+    abbrev above : Node
+    above = record { class = directory_class accounts ok (state old) f me t ready d open_so_far; content = Dir }
+
+    above_agrees : get f.files d ≡ Some above
+    above_agrees = directory_agrees accounts ok (state old) f me t ready d open_so_far
+
+    reason_is : why accounts f me ready.caller.process call ≡ (not_written accounts f ready.caller.process d orelse needs.named)
+    reason_is =
+        let clear = way_clear accounts ok (state old) f me t ready d open_so_far in
+        needs.explains
+        ∙ (λ i. (clear i orelse unless (not (is_some_and (absent i) (λ n. true))) (IsTaken (m ∷ d))
+        orelse unless (room i) (IsFull d (length (entries_in f d))) orelse not_written accounts f ready.caller.process d)
+        orelse needs.named)
+
+    makes_here : MakesAt accounts (state old) d next
+    makes_here =
+        let place = place_at accounts ok (state old) f me t ready d in
+        let is = is_dir accounts ok (state old) f me t ready d open_so_far in
+        (place.container, place.listing, found accounts ok (state old) f me t ready d is, making)
+
+    pub unwritten_named : may_write accounts ready.caller.process (directory_class accounts ok (state old) f me t ready d open_so_far) ≡ false
+        → IsDenialNamed accounts f me call old new t ready next
+    unwritten_named fails =
+        let cause = unwritten_at accounts f p d above above_agrees fails in
+        named_by accounts (state old) f me p call next (MayNotWrite d cause.0)
+        (reason_is ∙ ap (λ (o : Option Reason). o orelse needs.named) cause.1) (inr (inl makes_here))
+
+    pub unmade_named : may_write accounts ready.caller.process (directory_class accounts ok (state old) f me t ready d open_so_far) ≡ true
+        → (reason : Reason) → needs.named ≡ Some reason
+        → (MakesAt accounts (state old) (parent (path_of call)) next → IsAbout accounts (state old) call reason next)
+        → IsDenialNamed accounts f me call old new t ready next
+    unmade_named passes reason is about =
+        named_by accounts (state old) f me p call next reason
+        (reason_is ∙ ap (λ (o : Option Reason). o orelse needs.named) (written_at accounts f p d above above_agrees passes) ∙ is)
+        (about (subst (λ (q : Path). MakesAt accounts (state old) q next) (sym (ap parent needs.path)) makes_here))
+
   module _ (before : List RawCall) (start : KernelModel) (unchanged : state start ≡ state old)
       (begun : Chain old t (all_granted before) start) (rest : Room → Program) where
     -- the raw calls up to the end of the walk
@@ -186,10 +238,12 @@ module _ (accounts : Accounts) (ok : AreAccounts accounts) (old new : KernelMode
     room_step runs go_on =
         walk_step_behind accounts ok old new f me t ready call result before start unchanged begun d
         (λ directory. given (room_at (map.get directory.entries m) (map.len directory.entries == most_entries))
-        (λ _. rest (record { place = directory.place; entries = directory.entries; name = m }))) runs
-        (λ errno is steps among. (
-          refused_is (Some errno) (get f.files (m ∷ d)) roomy (writes accounts f p d) is refl refl refl,
-          has_reads
-              steps (Refused errno) among,
-        ))
+        (λ _. rest (record { place = directory.place; entries = directory.entries; name = m }))) runs (
+          λ errno is steps among. (
+            refused_is (Some errno) (get f.files (m ∷ d)) roomy (writes accounts f p d) is refl refl refl,
+            has_reads steps (Refused errno) among,
+          ),
+          λ reason is. needs.explains ∙ ap (λ (o : Option Reason). (o orelse unless (not (is_there f (m ∷ d))) (IsTaken (m ∷ d))
+              orelse unless roomy (IsFull d (length (entries_in f d))) orelse not_written accounts f p d) orelse needs.named) is,
+        )
         (λ open_so_far mid stays chain on. by_agrees go_on open_so_far mid stays chain on (get f.files (m ∷ d)) refl)

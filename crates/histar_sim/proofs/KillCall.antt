@@ -20,6 +20,8 @@ use Rattle.histar_flat.specs.Classes.{Process, is_free, sees}
 use Rattle.histar_flat.specs.FlatState.{Flat, without_process}
 use Rattle.histar_flat.specs.FlatCalls.{not_found, refused}
 use Rattle.histar_flat.proofs.FileLemmas.{same_name_found}
+use Rattle.histar_reasons.specs.Reasons.{Reason}
+use Rattle.histar_reasons.specs.Reasons.Reason.{IsNoChild}
 use Rattle.histar_label.specs.Levels.{is_below, is_below_raised}
 use Rattle.histar_object.specs.declared.objects.Kind.TheVariants.{Container}
 use Rattle.histar_object.specs.Objects.{Numbers as Links, links_in}
@@ -63,15 +65,16 @@ use Rattle.histar_refinement.proofs.Agreeing.{thread_found, step_linked}
 use Rattle.histar_refinement.proofs.Steps.{step_tests_equality}
 use Rattle.histar_refinement.proofs.Tested.{below_by_names}
 use Rattle.histar_sim.specs.Simulation.{IsReady}
-use Rattle.histar_sim.proofs.CallErrors.{from_each}
+use Rattle.histar_sim.proofs.FirstReasons.{named_by}
+use Rattle.histar_sim.proofs.CallErrors.{IsDenialNamed, from_each}
 use Rattle.histar_sim.proofs.Chains.{all_granted, Chain}
 use Rattle.histar_sim.proofs.Steps.{Goal, granted_step, refused_step, answered_step}
 use Rattle.histar_sim.proofs.Walks.{among_granted_all, among_then, among_also}
 use Rattle.histar_sim.specs.Laws.{KillRefines}
-use Rattle.histar_sim.proofs.FoundProcesses.{at_container, at_segment, container_found, observed, modified, unlink_said}
+use Rattle.histar_sim.proofs.FoundProcesses.{at_container, at_segment, led_to, container_found, observed, modified, unlink_said}
 use Rattle.histar_sim.proofs.KilledChild.{killed_bytes, killed_few, thread_then, segment_then, holder_then, linked_then}
 use Rattle.histar_sim.proofs.OwnSegment.{write_granted}
-use Rattle.histar_sim.proofs.Searches.{Refuses, runs_as, status_of, search_reads, has_search, parent_refuses, child_step, search_step}
+use Rattle.histar_sim.proofs.Searches.{Refuses, runs_as, status_of, search_reads, has_search, search_clear, parent_refuses, child_step, search_step}
 
 -- the test of names is symmetric
 same_turned : (a b : ProcName) → same a b ≡ same b a
@@ -153,11 +156,13 @@ module _ (accounts : Accounts) (ok : AreAccounts accounts) (old new : KernelMode
 
   -- what refuses the search refuses the kill
   kill_refuses : (name : ProcName) → Refuses accounts ok old new f me t ready (calls.Kill name) result name
-  kill_refuses [] errno is steps among = absurd cc
-  kill_refuses (n ∷ above) errno is steps among = (
-    ap (λ (o : Option Errno). o orelse unless (same me above) EACCES) is,
-    has_search accounts (state old) f me t
-        ready (n ∷ above) _ among,
+  kill_refuses [] = (λ errno is steps among. absurd cc, λ reason is. absurd cc)
+  kill_refuses (n ∷ above) = (
+    λ errno is steps among. (
+      ap (λ (o : Option Errno). o orelse unless (same me above) EACCES) is,
+      has_search accounts (state old) f me t ready (n ∷ above) _ among,
+    ),
+    λ reason is. ap (λ (o : Option Reason). o orelse unless (same me above) (IsNoChild (n ∷ above))) is,
   )
 
   -- process 0 is read, and its container is kept
@@ -172,6 +177,7 @@ module _ (accounts : Accounts) (ok : AreAccounts accounts) (old new : KernelMode
       refused_step accounts f me (calls.Kill []) old new t ready result (calls_to []) mid chain
       stays EACCES refl unlinks (λ _. Answers Done) Modify
       (ap (λ (s : State). check s t unlinks) stays ∙ first_kept accounts (state old) f l me p t (runs_as accounts (state old) f me t ready)) refl refl
+      (named_by accounts (state old) f me p (calls.Kill []) unlinks (IsNoChild []) refl refl)
       (has_search accounts (state old) f me t ready [] _ (among_also old.line t (calls_to []) (calls_to []) ((unlinks, Some Modify) ∷ [])
       (among_granted_all old.line t (calls_to [])))) on)
 
@@ -211,6 +217,21 @@ module _ (accounts : Accounts) (ok : AreAccounts accounts) (old new : KernelMode
         (chain : Chain old t (all_granted (calls_to (n ∷ above))) mid) where
       refused_by : (b : Bool) → same above me ≡ b → refused accounts f me p call ≡ unless b EACCES
       refused_by b is = λ i. found i orelse unless ((same_turned me above ∙ is) i) EACCES
+
+      -- the raw call is on what the reason names that the process is no child of the caller
+      unlinking_named : same above me ≡ false → IsDenialNamed accounts f me call old new t ready unlinking
+      unlinking_named is =
+          let clear = search_clear accounts (state old) f me t ready (n ∷ above) found in
+          named_by accounts (state old) f me p call unlinking (IsNoChild name)
+          (λ i. clear i orelse unless ((same_turned me above ∙ is) i) (IsNoChild name)) (
+            C,
+            S,
+            o,
+            (where_is accounts (state old) f l name).segment,
+            led_to accounts (state old) f l above parent here,
+            led_to accounts (state old) f l name child there,
+            refl,
+          )
 
       -- the kernel's check is the flat rule
       said : (b : Bool) → same above me ≡ b → check (state mid) t unlinking ≡ unless b Modify
@@ -279,7 +300,7 @@ module _ (accounts : Accounts) (ok : AreAccounts accounts) (old new : KernelMode
       by_kin : (b : Bool) → same above me ≡ b → Runs (ask unlinking (λ _. call_error)) mid new t result → Refined name
       by_kin false is on =
           refused_step accounts f me call old new t ready result (calls_to name) mid chain stays
-          EACCES (refused_by false is) unlinking (λ _. call_error) Modify (said false is) refl refl
+          EACCES (refused_by false is) unlinking (λ _. call_error) Modify (said false is) refl refl (unlinking_named is)
           (has_search accounts (state old) f me t ready name _ (among_also old.line t (calls_to name) (calls_to name)
           ((unlinking, Some Modify) ∷ []) (among_granted_all old.line t (calls_to name)))) on
       by_kin true is on =

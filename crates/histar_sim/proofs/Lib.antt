@@ -1,6 +1,7 @@
 -- The lemmas of this crate.
 pub mod ReadsByCall
 pub mod Chains
+pub mod FirstReasons
 pub mod CallErrors
 pub mod Steps
 pub mod Walks
@@ -53,3 +54,4 @@ pub mod GrantedWrap
 pub mod GivenBack
 pub mod WrapCall
 pub mod StayingNames
+pub mod DeniedOnes

@@ -10,6 +10,8 @@ use Rattle.histar_flat.specs.Words.{Path, ProcName}
 use Rattle.histar_flat.specs.Accounts.{Accounts}
 use Rattle.histar_flat.specs.FlatState.{Flat, is_some_and, is_dir, reads, into, entries_in}
 use Rattle.histar_flat.specs.FlatCalls.{refused}
+use Rattle.histar_reasons.specs.Reasons.{not_read, why_into, why}
+use Rattle.histar_reasons.specs.Reasons.Reason.{IsMissing, HasFile}
 use Rattle.histar_syscall.specs.KernelModel.{KernelModel, state}
 use Rattle.histar_layout.specs.Listing.{names_in}
 use Rattle.histar_programs.specs.declared.call_error.Stopped.{Stopped}
@@ -42,6 +44,14 @@ module _ (accounts : Accounts) (ok : AreAccounts accounts) (old new : KernelMode
       orelse unless (reads accounts f ready.caller.process []) EACCES
   refused_is (n ∷ d) = refl
 
+  -- and its reason is the call's
+  reason_is : (q : Path) → why accounts f me ready.caller.process (calls.List q) ≡ why_into accounts f ready.caller.process q
+  reason_is [] =
+      let root = (root_is_dir accounts (state old) f ready.represents.matched).1 in
+      λ i. unless (is_some_and (root i) (λ n. true)) (IsMissing []) orelse unless (is_some_and (root i) is_dir) (HasFile [])
+      orelse not_read accounts f ready.caller.process []
+  reason_is (n ∷ d) = refl
+
   names_are : names_in (directory_of f.files ready.represents.matched.naming.number path) ≡ entries_in f path
   names_are =
       names_directory f ready.represents.matched.naming.number path
@@ -52,8 +62,10 @@ module _ (accounts : Accounts) (ok : AreAccounts accounts) (old new : KernelMode
   unfolding list_program
   list_is_refined run =
       let walk = walk_reads accounts ok (state old) f me t ready path in
-      walk_step accounts ok old new f me t ready call result path (λ directory. Answers (Entries (names_in directory.entries))) run
-      (λ errno is steps among. (refused_is path ∙ is, has_way accounts ok (state old) f me t ready path _ among))
+      walk_step accounts ok old new f me t ready call result path (λ directory. Answers (Entries (names_in directory.entries))) run (
+        λ errno is steps among. (refused_is path ∙ is, has_way accounts ok (state old) f me t ready path _ among),
+        λ reason is. reason_is path ∙ is,
+      )
       (λ open_so_far mid stays chain on.
       answered_step accounts f me call old new t ready result walk mid chain
       (Entries (names_in (directory_of f.files ready.represents.matched.naming.number path))) (ap Entries names_are)

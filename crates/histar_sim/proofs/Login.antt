@@ -19,6 +19,9 @@ use Rattle.histar_flat.specs.Accounts.{Accounts, user_named, user_number}
 use Rattle.histar_flat.specs.Classes.{Process, is_free}
 use Rattle.histar_flat.specs.FlatState.{Flat, is_some_and, with_process}
 use Rattle.histar_flat.specs.FlatCalls.{refused}
+use Rattle.histar_reasons.specs.Causes.{innermost}
+use Rattle.histar_reasons.specs.Reasons.Reason.{NoUser, WrongPassword, IsInJob}
+use Rattle.histar_reasons.proofs.Causes.{innermost_agrees}
 use Rattle.histar_label.specs.Floors.{join_of, floor_of}
 use Rattle.histar_object.specs.Objects.{thread_of, is_thread, label_there, clearance_there, bytes_in}
 use Rattle.histar_rules.specs.Rights.{with_label, with_clearance, with_changed}
@@ -58,7 +61,8 @@ use Rattle.histar_refinement.proofs.LoginChecks.{set_label_said, relabelled_stat
 use Rattle.histar_refinement.proofs.LoggingIn.{still_login}
 use Rattle.histar_refinement.proofs.GateLabels.{gate_label_is, gate_clearance_is}
 use Rattle.histar_refinement.proofs.CallLabels.{equal_bytes, number_by_place, user_label_is, user_clearance_is}
-use Rattle.histar_sim.proofs.CallErrors.{FollowsFrom, from_each}
+use Rattle.histar_sim.proofs.FirstReasons.{value_of, named_by}
+use Rattle.histar_sim.proofs.CallErrors.{FollowsFrom, IsDenialNamed, from_each}
 use Rattle.histar_sim.proofs.TakenLabels.{labels_taken, labels_back, kept_bytes}
 use Rattle.histar_sim.specs.Laws.{LoginRefines}
 use Rattle.histar_sim.specs.Simulation.{IsReady}
@@ -330,6 +334,15 @@ module _ (accounts : Accounts) (name : Name) (password : Password) (me : ProcNam
           (λ inside entry called entry_is longer goes.
           from_gate inside longer (called.state ∙ ap (λ (s : State). with_own s t code_label code_clearance) stays ∙ entered_is) goes)
 
+    -- the entry is on what the reason names that the process is in a job
+    kept_out_named : is_free p ≡ false → IsDenialNamed accounts f me call old new t ready enters
+    kept_out_named jobbed =
+        let job = value_of (innermost p) (innermost_agrees p ∙ jobbed) in
+        named_by accounts (state old) f me p call enters (IsInJob job.0)
+        (λ i. unless (is_some (user.1 i)) (NoUser name) orelse option_map IsInJob (job.1 i)
+        orelse unless (is_some_and (user.1 i) (λ (u : User). same u.password password)) (WrongPassword name))
+        (place, at_place, (refl, refl))
+
     -- a process in a job is not let in
     kept_out : is_free p ≡ false → (asked : KernelModel) → Chain old t (all_granted (OwnLabel ∷ [])) asked
         → state asked ≡ state old → Runs (ask enters (λ _. reading)) asked new t result → Goal
@@ -337,6 +350,7 @@ module _ (accounts : Accounts) (name : Name) (password : Password) (me : ProcNam
         refused_step accounts f me call old new t ready result (OwnLabel ∷ []) asked chain stays
         EACCES (refused_is (Some user.0) false user.1 jobbed) enters (λ _. reading) Gate
         (ap (λ (s : State). check s t enters) stays ∙ enters_said ∙ ap (λ (b : Bool). unless b Gate) jobbed) refl refl
+        (kept_out_named jobbed)
         (subst (λ (o : Option ℕ). AreAmong (reads_of_login accounts o false)
         (entries_of old.line t (all_granted (OwnLabel ∷ []) ++ (enters, Some Gate) ∷ []))) (sym at_place)
         tt) runs

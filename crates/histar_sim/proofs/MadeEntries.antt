@@ -20,6 +20,7 @@ use Rattle.histar_flat.specs.Classes.{Class, Process, class_made, may_write}
 use Rattle.histar_flat.specs.FlatState.{Flat, Content, entries_in, with_node, into}
 use Rattle.histar_flat.specs.FlatCalls as flat
 use Rattle.histar_flat.specs.FlatCalls.{refused, changed, most_entries, class_or_open}
+use Rattle.histar_reasons.specs.Reasons.{unmade}
 use Rattle.histar_level.specs.Levels.{Levels}
 use Rattle.histar_object.specs.Objects.{label_there}
 use Rattle.histar_object.specs.State.{State, with_segment_bytes}
@@ -52,13 +53,14 @@ use Rattle.histar_refinement.proofs.Making.{count_entries, jobs_made}
 use Rattle.histar_refinement.proofs.RawChecks.{caller_passes}
 use Rattle.histar_sim.specs.Simulation.{errno_by_rule, IsReady}
 use Rattle.histar_sim.specs.Reads.{AreAmong}
+use Rattle.histar_sim.proofs.FirstReasons.{about_unmade}
 use Rattle.histar_sim.proofs.Chains.{all_granted, entries_of, Chain, Step}
-use Rattle.histar_sim.proofs.CallErrors.{IsBacked, ReadsAmong}
+use Rattle.histar_sim.proofs.CallErrors.{IsBacked, IsDenialNamed, ReadsAmong}
 use Rattle.histar_sim.proofs.Steps.{Goal, granted_step, refused_step, exhausted_step, answered_step}
 use Rattle.histar_sim.proofs.Walks.{place_at, walk_reads, holds, among_granted_all, among_then, among_also}
 use Rattle.histar_sim.proofs.FoundObjects.{label, clearance, thread, entries, is_dir, directory_class, may_look, directory_guard, HasListing}
 use Rattle.histar_sim.proofs.FoundObjects.{MakesObject}
-use Rattle.histar_sim.proofs.FoundRoom.{NeedsRoom, the_room, has_reads, refused_in_room, room_step}
+use Rattle.histar_sim.proofs.FoundRoom.{NeedsRoom, the_room, has_reads, refused_in_room, unwritten_named, unmade_named, room_step}
 use Rattle.histar_sim.proofs.Makers.{own, MakesClass, makes}
 use Rattle.histar_sim.proofs.NewEntries.{segment_written}
 
@@ -66,6 +68,7 @@ use Rattle.histar_sim.proofs.NewEntries.{segment_written}
 pub record MakesEntry (accounts : Accounts) (f : Flat) (me : ProcName) (p : Process) (q : Path) (mode : Mode)
     (content : Content) (call : UnixCall) : Type 0 where
   pub needs : NeedsRoom accounts f me p q call (unless (is_some (class_made accounts p mode)) EPERM)
+  pub names : needs.named ≡ unless (is_some (class_made accounts p mode)) (unmade mode)
   pub changes : changed accounts f me p call ≡ with_node f q (class_or_open (class_made accounts p mode)) content
   pub answers : flat.answer f me p call ≡ Done
 
@@ -173,12 +176,13 @@ module _ (accounts : Accounts) (ok : AreAccounts accounts) (old new : KernelMode
 
       -- the make call is denied, and so the Unix call is refused
       denied : (x : Levels) (why : Denied) (errno : Errno) → check (state mid) t (make place.container x) ≡ Some why
-          → errno_of why ≡ Some errno → errno_by_rule why ≡ Some errno → refused accounts f me p call ≡ Some errno
+          → errno_of why ≡ Some errno → errno_by_rule why ≡ Some errno
+          → IsDenialNamed accounts f me call old new t ready (make place.container x) → refused accounts f me p call ≡ Some errno
           → Runs (making x) mid new t result → Refined
-      denied x why errno fails revealed by_rule is on =
+      denied x why errno fails revealed by_rule named is on =
           refused_step accounts f me call old new t ready result calls mid chain stays
           errno is (make place.container x) (within room_here x) why fails
-          (object.reveals x why ∙ revealed) by_rule
+          (object.reveals x why ∙ revealed) by_rule named
           (has_reads_made _ _ (among_also old.line t reads calls ((make place.container x, Some why) ∷ [])
           (among_then old.line t reads reads (raw.OwnLabel ∷ []) (among_granted_all old.line t reads)))) on
 
@@ -189,9 +193,17 @@ module _ (accounts : Accounts) (ok : AreAccounts accounts) (old new : KernelMode
           ≡ (unless can Modify orelse unless makes Range orelse unless has TooBig)
           → (may ≡ true → makes ≡ true → has_number (state old) ≡ true → GoesOnWith mid x) → Runs (making x) mid new t result → Refined
       by_right x false makes has is_may is_makes is_has said go_on on =
-          denied x Modify EACCES said refl refl (refused_then open_so_far absent room false makes is_may is_makes) on
+          denied x Modify EACCES said refl refl
+          (unwritten_named accounts ok old new f me t ready m d call result no_class entry.needs open_so_far absent room
+          (make place.container x) (object.makes x) is_may)
+          (refused_then open_so_far absent room false makes is_may is_makes) on
       by_right x true false has is_may is_makes is_has said go_on on =
-          denied x Range EPERM said refl refl (refused_then open_so_far absent room true false is_may is_makes) on
+          denied x Range EPERM said refl refl
+          (unmade_named accounts ok old new f me t ready m d call result no_class entry.needs open_so_far absent room
+          (make place.container x) (object.makes x) is_may (unmade mode)
+          (entry.names ∙ ap (λ (b : Bool). unless b (unmade mode)) is_makes)
+          (about_unmade accounts (state old) call (make place.container x) mode))
+          (refused_then open_so_far absent room true false is_may is_makes) on
       by_right x true true false is_may is_makes is_has said go_on on =
           exhausted_step accounts f me call old new t ready result calls mid chain
           (make place.container x) (within room_here x) said (object.reveals x TooBig)

@@ -1,6 +1,6 @@
 -- The program of `mkdir` refines its rule.
 use Rattle.std.proofs.Common.{◌≡◌, ℕ, ◌+◌, Bool, true, false, List, [], ◌∷◌, ◌++◌, None, Result, arith, refl, ap, ◌∙◌, subst, length}
-use Rattle.std.specs.Prelude.{IsTrue, not, nat_lt}
+use Rattle.std.specs.Prelude.{IsTrue, not, nat_lt, is_some}
 use Rattle.std.specs.FinMap as map
 use Rattle.std.specs.FinSet as set
 use Rattle.std.proofs.lemmas.Bool.{ltb-true}
@@ -13,10 +13,11 @@ use Rattle.histar_flat.specs.declared.replies.Reply.TheVariants.{Done}
 use Rattle.histar_flat.specs.Words.{Name, Path, ProcName, is_name}
 use Rattle.histar_flat.specs.Accounts.{Accounts}
 use Rattle.histar_flat.specs.Files.{get}
-use Rattle.histar_flat.specs.Classes.{Process, may_write}
+use Rattle.histar_flat.specs.Classes.{Process, may_write, class_made}
 use Rattle.histar_flat.specs.FlatState.{Flat, entries_in, into}
 use Rattle.histar_flat.specs.FlatState.Content.{Dir}
 use Rattle.histar_flat.specs.FlatCalls.{most_entries}
+use Rattle.histar_reasons.specs.Reasons.{unmade}
 use Rattle.histar_level.specs.Levels.{Levels}
 use Rattle.histar_object.specs.declared.objects.Kind.TheVariants.{Segment, Container}
 use Rattle.histar_object.specs.declared.objects.Object.{Object}
@@ -59,7 +60,18 @@ use Rattle.histar_sim.proofs.NewEntries.{last_name}
 mkdir_makes : (accounts : Accounts) (f : Flat) (me : ProcName) (p : Process) (q : Path) (mode : Mode)
     → MakesEntry accounts f me p q mode Dir (calls.Mkdir q mode)
 mkdir_makes accounts f me p q mode =
-    record { needs = record { refuses = refl; reads = λ s reply entries walk. walk }; changes = refl; answers = refl }
+    record {
+      needs = record {
+        refuses = refl;
+        path = refl;
+        named = unless (is_some (class_made accounts p mode)) (unmade mode);
+        explains = refl;
+        reads = λ s reply entries walk. walk;
+      };
+      names = refl;
+      changes = refl;
+      answers = refl;
+    }
 
 -- the container is made, its directory segment in it, and the directory is written
 abbrev make : ℕ → Levels → RawCall

@@ -1,5 +1,6 @@
 -- The program of `read` refines its rule.
-use Rattle.std.proofs.Common.{◌≡◌, ℕ, Bool, true, false, List, [], ◌∷◌, ◌++◌, None, Some, Result, refl, sym, ap, ◌∙◌, subst}
+use Rattle.std.proofs.Common.{◌≡◌, ℕ, inr, Bool, true, false, List, [], ◌∷◌, ◌++◌, None, Some, Result, refl}
+use Rattle.std.proofs.Common.{sym, ap, ◌∙◌, subst}
 use Rattle.std.proofs.lemmas.List.{map-append}
 use Rattle.histar_base.specs.Refusals.{unless}
 use Rattle.histar_flat.specs.declared.calls.UnixCall.{UnixCall}
@@ -11,9 +12,11 @@ use Rattle.histar_flat.specs.Words.{Name, Path, ProcName}
 use Rattle.histar_flat.specs.Accounts.{Accounts}
 use Rattle.histar_flat.specs.Files.{get}
 use Rattle.histar_flat.specs.Classes.{Class, Process}
-use Rattle.histar_flat.specs.FlatState.{Flat, bytes_at, reads, into}
+use Rattle.histar_flat.specs.FlatState.{Flat, Node, bytes_at, reads, into}
 use Rattle.histar_flat.specs.FlatState.Content.{File}
 use Rattle.histar_flat.specs.FlatCalls.{refused}
+use Rattle.histar_reasons.specs.Reasons.{not_read}
+use Rattle.histar_reasons.specs.Reasons.Reason.{MayNotRead}
 use Rattle.histar_object.specs.Objects.{bytes_in}
 use Rattle.histar_object.specs.State.{State}
 use Rattle.histar_rules.specs.declared.raw.Denied.TheVariants.{Observe}
@@ -31,17 +34,19 @@ use Rattle.histar_refinement.specs.Accounts.{AreAccounts}
 use Rattle.histar_refinement.proofs.KeepingNames.{still_represents}
 use Rattle.histar_sim.specs.Simulation.{IsReady, EndsWithRead}
 use Rattle.histar_sim.specs.Laws.{ReadRefines}
+use Rattle.histar_sim.proofs.FirstReasons.{unread_at, named_by}
 use Rattle.histar_sim.proofs.Chains.{all_granted, entries_of, Chain}
-use Rattle.histar_sim.proofs.CallErrors.{from_each, read_last}
+use Rattle.histar_sim.proofs.CallErrors.{IsDenialNamed, from_each, read_last}
 use Rattle.histar_sim.proofs.Steps.{Goal, granted_step, refused_step, answered_step}
 use Rattle.histar_sim.proofs.Walks.{walk_reads, walked_then, walked_also}
-use Rattle.histar_sim.proofs.Files.{ReachesFile, slash_is_no_file, reached, file_step}
-use Rattle.histar_sim.proofs.FoundObjects.{container, segment, held_there, read_said}
+use Rattle.histar_sim.proofs.Files.{ReachesFile, slash_is_no_file, reached, reached_reason, file_step}
+use Rattle.histar_sim.proofs.FoundObjects.{container, segment, file_led_to, reads_is, held_there, read_said}
 
 -- a read reaches the file that it reads
 read_reaches : (accounts : Accounts) (f : Flat) (me : ProcName) (p : Process) (q : Path)
     → ReachesFile accounts f me p q (calls.Read q) (unless (reads accounts f p q) EACCES)
-read_reaches accounts f me p q = record { refuses = refl; reads = λ s reply entries walk. walk }
+read_reaches accounts f me p q =
+    record { refuses = refl; named = not_read accounts f p q; explains = refl; reads = λ s reply entries walk. walk }
 
 module _ (accounts : Accounts) (ok : AreAccounts accounts) (old new : KernelModel) (f : Flat) (me : ProcName) (t : ℕ)
     (ready : IsReady accounts (state old) f me t) (m : Name) (d : Path) (result : Result Reply Stopped) where
@@ -79,6 +84,19 @@ module _ (accounts : Accounts) (ok : AreAccounts accounts) (old new : KernelMode
         reached accounts ok old new f me t ready m d call result _ (read_reaches accounts f me p (m ∷ d)) open_so_far
         class bytes at ∙ ap (λ (b : Bool). unless b EACCES) is
 
+    -- the read is on what the reason names that the file may not be read
+    unread_named : reads accounts f p (m ∷ d) ≡ false → IsDenialNamed accounts f me call old new t ready next
+    unfolding read_reaches
+    unread_named is =
+        let node : Node = record { class = class; content = File bytes } in
+        let fails = sym (reads_is accounts ok (state old) f me t ready d open_so_far m class bytes at) ∙ is in
+        let found = unread_at accounts f p (m ∷ d) node at fails in
+        let there = file_led_to accounts ok (state old) f me t ready d open_so_far m class bytes at in
+        named_by accounts (state old) f me p call next (MayNotRead (m ∷ d) found.0)
+        (reached_reason accounts ok old new f me t ready m d call result _ (read_reaches accounts f me p (m ∷ d)) open_so_far class bytes at
+        ∙ found.1)
+        (container accounts ok (state old) f me t ready d, file, inr there, refl)
+
     held : bytes_in ((state mid).objects file) ≡ bytes_at f (m ∷ d)
     held = ap (λ (s : State). bytes_in (s.objects file)) stays ∙ held_there accounts ok (state old) f me t ready d open_so_far m class bytes at
 
@@ -86,7 +104,8 @@ module _ (accounts : Accounts) (ok : AreAccounts accounts) (old new : KernelMode
     by_right false is on =
         refused_step accounts f me call old new t ready result walk mid chain stays
         EACCES (refused_by false is) next (λ (b : List ℕ). Answers (Data b)) Observe
-        (said_by false is) refl refl (walked_also accounts ok (state old) f me t ready m d old.line ((next, Some Observe) ∷ [])) on
+        (said_by false is) refl refl (unread_named is)
+        (walked_also accounts ok (state old) f me t ready m d old.line ((next, Some Observe) ∷ [])) on
     by_right true is on =
         granted_step accounts f me call old new t ready result walk mid chain next
         (λ (b : List ℕ). Answers (Data b)) (said_by true is) on

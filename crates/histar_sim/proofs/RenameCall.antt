@@ -1,5 +1,6 @@
 -- The program of `rename` refines its rule.
 use Rattle.std.proofs.Common.{◌≡◌, ℕ, Bool, true, false, List, [], ◌∷◌, ◌++◌, Option, None, Some, Result, refl, sym, ap, ◌∙◌, subst, length}
+use Rattle.std.proofs.Common.{inl, inr}
 use Rattle.std.specs.Prelude.{IsTrue, not}
 use Rattle.std.specs.FinMap as map
 use Rattle.histar_base.specs.Refusals.{◌orelse◌, unless}
@@ -13,9 +14,11 @@ use Rattle.histar_flat.specs.Words.{Name, Path, ProcName, is_name}
 use Rattle.histar_flat.specs.Accounts.{Accounts}
 use Rattle.histar_flat.specs.Files.{get}
 use Rattle.histar_flat.specs.Classes.{Class, Process, may_read, may_write}
-use Rattle.histar_flat.specs.FlatState.{Flat, Node, Content, is_some_and, is_dir_at, writes, into, with_renamed}
+use Rattle.histar_flat.specs.FlatState.{Flat, Node, Content, is_some_and, is_dir_at, writes, into, with_renamed, is_there}
 use Rattle.histar_flat.specs.FlatState.Content.{Dir}
 use Rattle.histar_flat.specs.FlatCalls.{refused}
+use Rattle.histar_reasons.specs.Reasons.{not_written, why}
+use Rattle.histar_reasons.specs.Reasons.Reason.{MayNotWrite, IsTaken}
 use Rattle.histar_object.specs.State.{State, with_segment_bytes}
 use Rattle.histar_rules.specs.declared.raw.Denied.TheVariants.{Modify}
 use Rattle.histar_rules.specs.declared.raw.RawCall.{RawCall}
@@ -42,13 +45,14 @@ use Rattle.histar_refinement.proofs.FileChecks.{write_listing_said}
 use Rattle.histar_refinement.proofs.ListedFiles.{leads_at}
 use Rattle.histar_refinement.proofs.Renaming.{listable_renamed, still_renamed}
 use Rattle.histar_sim.specs.Simulation.{IsReady}
-use Rattle.histar_sim.proofs.CallErrors.{from_each}
+use Rattle.histar_sim.proofs.CallErrors.{from_each, IsDenialNamed}
 use Rattle.histar_sim.proofs.Chains.{all_granted, Chain}
 use Rattle.histar_sim.proofs.Steps.{Goal, granted_step, refused_step, refused_at_once, answered_step}
 use Rattle.histar_sim.proofs.Walks.{runs, place_at, walk_reads, among_granted_all, agrees, at_container, at_listing, dir, seen, nothing_there}
-use Rattle.histar_sim.proofs.Walks.{has_walk, walked_then, walked_also}
+use Rattle.histar_sim.proofs.Walks.{has_walk, walked_then, walked_also, found}
 use Rattle.histar_sim.specs.Laws.{RenameRefines}
-use Rattle.histar_sim.proofs.Entries.{target_at, entry_leads, reached, entry_step}
+use Rattle.histar_sim.proofs.Entries.{target_at, entry_leads, reached, entry_step, entry_explained, entry_clear}
+use Rattle.histar_sim.proofs.FirstReasons.{unwritten_at, named_by}
 
 module _ (accounts : Accounts) (ok : AreAccounts accounts) (old new : KernelModel) (f : Flat) (me : ProcName) (t : ℕ)
     (ready : IsReady accounts (state old) f me t) (m : Name) (d : Path) (name : Name) (named : IsTrue (is_name name))
@@ -112,6 +116,12 @@ module _ (accounts : Accounts) (ok : AreAccounts accounts) (old new : KernelMode
         (record { class = class; content = content }) at
         ∙ (λ i. refusal (is_o i) ((right_is ∙ is_may) i))
 
+    -- where the new name is free the reason is that of the directory
+    reason_is : get f.files (name ∷ d) ≡ None → why accounts f me p call ≡ not_written accounts f p d
+    reason_is absent =
+        let clear = entry_clear accounts ok (state old) f me t ready m d open_so_far _ at in
+        λ i. clear i orelse unless (not (is_some_and (absent i) (λ n. true))) (IsTaken (name ∷ d)) orelse not_written accounts f p d
+
     -- where the entry leads
     abbrev target : Target
     target = target_at accounts ok (state old) f me t ready m d content
@@ -139,6 +149,13 @@ module _ (accounts : Accounts) (ok : AreAccounts accounts) (old new : KernelMode
           named (ready.represents.matched.listable d is_dir_here))
           ∙ ap (λ (b : Bool). unless b Modify) is_may
 
+      -- the write is on what the reason names that the directory may not be written
+      unwritten_named : may_write accounts p root ≡ false → IsDenialNamed accounts f me call old new t ready next
+      unwritten_named fails =
+          let cause = unwritten_at accounts f p d (record { class = root; content = Dir }) root_at fails in
+          named_by accounts (state old) f me p call next (MayNotWrite d cause.0) (reason_is absent ∙ cause.1)
+          (inr (inr (inl (container, listing, found accounts ok (state old) f me t ready d is_dir_here, (refl, refl)))))
+
       -- the kernel has the objects of the flat state with the entry renamed
       matched_after : RepresentsStill ready.represents (with_segment_bytes (state old) listing (spelling renamed)) (with_renamed f (m ∷ d) (name ∷ d))
       matched_after =
@@ -149,7 +166,7 @@ module _ (accounts : Accounts) (ok : AreAccounts accounts) (old new : KernelMode
       by_right false is_may on =
           refused_step accounts f me call old new t ready result walk mid chain stays
           EACCES (refused_by None false absent is_may) next (λ _. Answers Done) Modify
-          (said false is_may) refl refl
+          (said false is_may) refl refl (unwritten_named is_may)
           (walked_also accounts ok (state old) f me t ready m d old.line ((next, Some Modify) ∷ [])) on
       by_right true is_may on =
           granted_step accounts f me call old new t ready result walk mid chain next (λ _. Answers Done) (said true is_may) on
@@ -181,7 +198,9 @@ module _ (accounts : Accounts) (ok : AreAccounts accounts) (old new : KernelMode
   rename_is_refined run =
       entry_step accounts ok old new f me t ready m d call result
       (refusal (get f.files (name ∷ d)) (writes accounts f p d)) refl
-      (λ _ steps r among. has_walk accounts ok (state old) f me t ready m d _ among) _ run
+      (λ _ steps r among. has_walk accounts ok (state old) f me t ready m d _ among) _
+      (entry_explained accounts f me p m d call
+      (unless (not (is_there f (name ∷ d))) (IsTaken (name ∷ d)) orelse not_written accounts f p d) refl) run
       (λ open_so_far class content at mid stays chain on. by_name open_so_far class content at mid stays chain (get f.files (name ∷ d)) refl on)
 
 -- a rename of `/`

@@ -17,6 +17,8 @@ use Rattle.histar_flat.specs.Classes.{Class, Process}
 use Rattle.histar_flat.specs.FlatState.{Flat, Node, Content, is_some_and, is_dir, is_dir_at, reads, writes, into, entries_in}
 use Rattle.histar_flat.specs.FlatState.Content.{Dir, File}
 use Rattle.histar_flat.specs.FlatCalls.{refused}
+use Rattle.histar_reasons.specs.Reasons.{Reason, not_read, not_written, why}
+use Rattle.histar_reasons.specs.Reasons.Reason.{HasFile, IsNotEmpty}
 use Rattle.histar_rules.specs.declared.raw.Denied.TheVariants.{Observe}
 use Rattle.histar_rules.specs.declared.raw.RawCall.{RawCall}
 use Rattle.histar_syscall.specs.KernelModel.{KernelModel, state}
@@ -38,8 +40,9 @@ use Rattle.histar_sim.proofs.Chains.{Step, all_granted, entries_of, Chain}
 use Rattle.histar_sim.proofs.CallErrors.{from_each, ReadsAmong}
 use Rattle.histar_sim.proofs.Steps.{Goal, refused_at_once}
 use Rattle.histar_sim.proofs.Walks.{read_of, walk_reads, directory_read, has_way, among_granted_all, among_refused, read_step}
+use Rattle.histar_sim.proofs.Walks.{unread_directory, read_directory_at, read_named}
 use Rattle.histar_sim.specs.Laws.{RmdirRefines}
-use Rattle.histar_sim.proofs.Entries.{entry_of, reached, entry_step}
+use Rattle.histar_sim.proofs.Entries.{entry_of, reached, entry_step, entry_explained, entry_clear}
 use Rattle.histar_sim.proofs.TakingAway.{take_away_step}
 
 -- a directory must have no entry
@@ -99,6 +102,10 @@ module _ (accounts : Accounts) (ok : AreAccounts accounts) (old new : KernelMode
   abbrev is_empty : Bool
   is_empty = length (entries_in f (m ∷ d)) == 0
 
+  -- the reasons of a directory: that it may not be read, that it is not empty, or that the one above may not be written
+  abbrev behind : Option Reason → Bool → Option Reason
+  behind unread empty = unread orelse unless empty (IsNotEmpty (m ∷ d) (length (entries_in f (m ∷ d)))) orelse not_written accounts f p d
+
   -- what comes after the entry was found, and after the directory was read
   abbrev when_read : FoundEntry → Directory → Program
   when_read entry directory = given (must_be_empty directory.entries) (λ _. take_away entry (λ _. Answers Done))
@@ -118,6 +125,12 @@ module _ (accounts : Accounts) (ok : AreAccounts accounts) (old new : KernelMode
         ∙ (λ i. refusal (is_some_and (at i) is_dir) (is_seen i) (is_so i))
 
     module _ (class : Class) (at : get f.files (m ∷ d) ≡ Some (record { class = class; content = Dir })) where
+      -- a directory is there: the reason is its own, or that of the one above
+      reason_is : why accounts f me p call ≡ behind (not_read accounts f p (m ∷ d)) is_empty
+      reason_is =
+          let clear = entry_clear accounts ok (state old) f me t ready m d open_so_far _ at in
+          λ i. clear i orelse unless (is_some_and (at i) is_dir) (HasFile (m ∷ d)) orelse behind (not_read accounts f p (m ∷ d)) is_empty
+
       is_dir_here : is_dir_at f (m ∷ d) ≡ true
       is_dir_here = ap (λ (o : Option Node). is_some_and o is_dir) at
 
@@ -134,7 +147,15 @@ module _ (accounts : Accounts) (ok : AreAccounts accounts) (old new : KernelMode
             (among_granted_all old.line t (walk ++ read ∷ []))) on
         by_entries true is on =
             take_away_step accounts ok old new f me t ready m d call result
-            (record { refuses = refused_by Dir class true true at sees is; removes = refl; answers = refl })
+            (record {
+              refuses = refused_by Dir class true true at sees is;
+              path = refl;
+              explains =
+                  reason_is
+                  ∙ (λ i. behind (read_directory_at accounts ok (state old) f me t ready (m ∷ d) is_dir_here sees i) (is i));
+              removes = refl;
+              answers = refl;
+            })
             open_so_far class Dir at
             (walk ++ read ∷ []) (λ steps r among. both_suffice steps r open_so_far is_dir_here among) mid stays chain on
 
@@ -159,6 +180,10 @@ module _ (accounts : Accounts) (ok : AreAccounts accounts) (old new : KernelMode
             both_suffice (all_granted walk ++ (read, Some Observe) ∷ []) (Refused EACCES) open_so_far
                 (is_dir_here class at) (among_refused old.line t walk read Observe),
           ))
+          (λ unseen.
+          let unread = unread_directory accounts ok (state old) f me t ready (m ∷ d) (is_dir_here class at) unseen in
+          read_named accounts ok old new f me t ready call result (m ∷ d) (is_dir_here class at) unread.0
+          (reason_is class at ∙ ap (λ (o : Option Reason). behind o is_empty) unread.1))
           (λ sees later same longer rest. emptied class at sees later same longer rest)
       by_content class (File bytes) at on =
           refused_at_once accounts f me call old new t ready result walk mid chain stays
@@ -173,7 +198,9 @@ module _ (accounts : Accounts) (ok : AreAccounts accounts) (old new : KernelMode
   rmdir_is_refined run =
       entry_step accounts ok old new f me t ready m d call result
       (refusal (is_dir_at f (m ∷ d)) (reads accounts f p (m ∷ d)) is_empty) refl
-      (λ none steps r among. walk_suffices steps r none among) at_entry run
+      (λ none steps r among. walk_suffices steps r none among) at_entry
+      (entry_explained accounts f me p m d call
+      (unless (is_dir_at f (m ∷ d)) (HasFile (m ∷ d)) orelse behind (not_read accounts f p (m ∷ d)) is_empty) refl) run
       (λ open_so_far class content at mid stays chain on. by_content open_so_far mid stays chain class content at on)
 
 -- an rmdir of `/`

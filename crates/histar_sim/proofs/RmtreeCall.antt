@@ -1,6 +1,6 @@
 -- The program of `rmtree` refines its rule.
-use Rattle.std.proofs.Common.{ℕ, [], ◌∷◌, Option, Result, refl, length}
-use Rattle.histar_base.specs.Refusals.{unless}
+use Rattle.std.proofs.Common.{ℕ, [], ◌∷◌, Option, Result, refl, length, ap}
+use Rattle.histar_base.specs.Refusals.{unless, ◌orelse◌}
 use Rattle.histar_flat.specs.declared.calls.UnixCall.{UnixCall}
 use Rattle.histar_flat.specs.declared.calls.UnixCall.TheVariants as calls
 use Rattle.histar_flat.specs.declared.replies.Errno.{Errno}
@@ -9,7 +9,8 @@ use Rattle.histar_flat.specs.declared.replies.Reply.{Reply}
 use Rattle.histar_flat.specs.declared.replies.Reply.TheVariants.{Done}
 use Rattle.histar_flat.specs.Words.{Name, Path, ProcName}
 use Rattle.histar_flat.specs.Accounts.{Accounts}
-use Rattle.histar_flat.specs.FlatState.{Flat, writes}
+use Rattle.histar_flat.specs.FlatState.{Flat, writes, Node}
+use Rattle.histar_reasons.specs.Reasons.{Reason, not_written}
 use Rattle.histar_syscall.specs.KernelModel.{KernelModel, state}
 use Rattle.histar_syscall.proofs.Runs.{same_kernel}
 use Rattle.histar_programs.specs.declared.call_error.Stopped.{Stopped}
@@ -24,7 +25,7 @@ use Rattle.histar_sim.proofs.CallErrors.{from_each}
 use Rattle.histar_sim.proofs.Steps.{Goal, refused_at_once}
 use Rattle.histar_sim.proofs.Walks.{walk_reads, has_walk}
 use Rattle.histar_sim.specs.Laws.{RmtreeRefines}
-use Rattle.histar_sim.proofs.Entries.{reached, entry_step}
+use Rattle.histar_sim.proofs.Entries.{reached, entry_step, entry_explained, entry_clear}
 use Rattle.histar_sim.proofs.TakingAway.{take_away_step}
 
 module _ (accounts : Accounts) (ok : AreAccounts accounts) (old new : KernelModel) (f : Flat) (me : ProcName) (t : ℕ)
@@ -42,14 +43,19 @@ module _ (accounts : Accounts) (ok : AreAccounts accounts) (old new : KernelMode
   rmtree_is_refined run =
       entry_step accounts ok old new f me t ready m d call result refusal refl
       (λ none steps r among. has_walk accounts ok (state old) f me t ready m d _ among)
-      (λ entry. take_away entry (λ _. Answers Done)) run
+      (λ entry. take_away entry (λ _. Answers Done))
+      (entry_explained accounts f me ready.caller.process m d call (not_written accounts f ready.caller.process d) refl) run
       (λ open_so_far class content at mid stays chain on.
       let refuses =
       reached accounts ok old new f me t ready m d call result refusal refl
       (λ none steps r among. has_walk accounts ok (state old) f me t ready m d _ among) open_so_far
       (record { class = class; content = content }) at in
+      let node : Node = record { class = class; content = content } in
+      let explains =
+      ap (λ (o : Option Reason). o orelse not_written accounts f ready.caller.process d)
+      (entry_clear accounts ok (state old) f me t ready m d open_so_far node at) in
       take_away_step accounts ok old new f me t ready m d call result
-      (record { refuses = refuses; removes = refl; answers = refl }) open_so_far class content at
+      (record { refuses = refuses; path = refl; explains = explains; removes = refl; answers = refl }) open_so_far class content at
       (walk_reads accounts ok (state old) f me t ready d)
       (λ steps r among. has_walk accounts ok (state old) f me t ready m d _ among) mid stays chain on)
 

@@ -17,6 +17,9 @@ use Rattle.histar_flat.specs.Accounts.{Accounts}
 use Rattle.histar_flat.specs.Classes.{Process, knows, sees}
 use Rattle.histar_flat.specs.FlatState.{Flat, is_some_and}
 use Rattle.histar_flat.specs.FlatCalls.{not_found, refused}
+use Rattle.histar_reasons.specs.Reasons.{Reason, unseen as not_seen, why_not_found, why}
+use Rattle.histar_reasons.specs.Reasons.Reason.{NoProcess, IsUnseen}
+use Rattle.histar_reasons.proofs.Agreeing.{search_agrees}
 use Rattle.histar_object.specs.Objects.{bytes_in}
 use Rattle.histar_object.specs.State.{State}
 use Rattle.histar_rules.specs.declared.raw.Denied.TheVariants.{Observe}
@@ -45,7 +48,8 @@ use Rattle.histar_sim.specs.Simulation.{IsReady}
 use Rattle.histar_sim.specs.Reads.{AreAmong, looked_at}
 use Rattle.histar_sim.proofs.ReadsByCall.{AreStatusReads, HasSearch}
 use Rattle.histar_sim.proofs.Chains.{Step, all_granted, entries_of, Chain}
-use Rattle.histar_sim.proofs.CallErrors.{ReadsAmong}
+use Rattle.histar_sim.proofs.FirstReasons.{no_reason, unseen_at, named_by}
+use Rattle.histar_sim.proofs.CallErrors.{IsDenialNamed, ReadsAmong}
 use Rattle.histar_sim.proofs.Steps.{Goal, granted_step, refused_step, refused_at_once}
 use Rattle.histar_sim.proofs.Walks.{among_granted_all, among_refused, all_joined}
 use Rattle.histar_sim.proofs.FoundProcesses.{first_place, led_to, read_said}
@@ -86,6 +90,20 @@ module _ (accounts : Accounts) (s : State) (f : Flat) (me : ProcName) (t : ℕ) 
   first_there =
       let there = some_of (f.processes []) l.first in
       (there.0, there.1, seen_if_free p there.0 (ready.first there.0 there.1))
+
+  -- where the search for a process has no refusal, it has no reason
+  pub search_clear : (name : ProcName) → not_found f p name ≡ None → why_not_found accounts f p name ≡ None
+  search_clear name found = no_reason (why_not_found accounts f p name) (search_agrees accounts f p name ∙ found)
+
+  -- a child that is not seen, whose parent is found, is the one that the search's reason names
+  unseen_below : (n : ℕ) (above : ProcName) → not_found f p above ≡ None → (child : Process) → f.processes (n ∷ above) ≡ Some child
+      → sees p child ≡ false → (job : ProcName) × (why_not_found accounts f p (n ∷ above) ≡ Some (IsUnseen (n ∷ above) job))
+  unseen_below n above found child there hidden =
+      let named = unseen_at accounts f p (n ∷ above) child hidden in
+      let clear = search_clear above found in (
+        named.0,
+        (λ i. clear i orelse unless (is_some (there i)) (NoProcess (n ∷ above)) orelse not_seen accounts f p (n ∷ above) (there i)) ∙ named.1,
+      )
 
   -- the processes that are looked at are there
   looked_there : (name : ProcName) → AllByRecursion (λ (q : ProcName). is_some (f.processes q) ≡ true) (looked_at accounts f p name)
@@ -176,11 +194,24 @@ module _ (accounts : Accounts) (ok : AreAccounts accounts) (old new : KernelMode
       (refused accounts f me process call ≡ Some errno)
       × ReadsAmong accounts f me call old new t ready steps (Refused errno)
 
-  -- where the search for the process is refused, so is the call, once the reads of the way are made
+  -- where the search for the process has a reason, that is the call's
+  abbrev pub Explains : ProcName → Type 0
+  Explains name =
+      (reason : Reason) → why_not_found accounts f process name ≡ Some reason → why accounts f me process call ≡ Some reason
+
+  -- where the search for the process is refused, so is the call, once the reads of the way are made, and the reason is that of the search
   abbrev pub Refuses : ProcName → Type 0
   Refuses name =
-      (errno : Errno) → not_found f process name ≡ Some errno → (steps : List Step)
-      → AreAmong (calls_to name) (entries_of old.line t steps) → IsRefusedBy errno steps
+      ((errno : Errno) → not_found f process name ≡ Some errno → (steps : List Step)
+      → AreAmong (calls_to name) (entries_of old.line t steps) → IsRefusedBy errno steps)
+      × Explains name
+
+  -- the read of a process segment is on what the reason names that the process is not seen
+  read_named : (name : ProcName) (other : Process) → f.processes name ≡ Some other → (job : ProcName)
+      → why accounts f me process call ≡ Some (IsUnseen name job) → IsDenialNamed accounts f me call old new t ready (read name)
+  read_named name other here job is =
+      named_by accounts (state old) f me process call (read name) (IsUnseen name job) is
+      ((place name).container, (place name).segment, led_to accounts (state old) f ready.represents.matched name other here, refl)
 
   -- where the process is found, the call goes on with its home and the status in its process segment
   abbrev pub GoesOn : ProcName → (Home → ProcessStatus → Program) → Type 0
@@ -194,11 +225,12 @@ module _ (accounts : Accounts) (ok : AreAccounts accounts) (old new : KernelMode
       → (before : List RawCall) (mid : KernelModel) → state mid ≡ state old → Chain old t (all_granted before) mid
       → (rest : ProcessStatus → Program) → Runs (read_status (place name) rest) mid new t result
       → (sees process other ≡ false → IsRefusedBy EACCES (all_granted before ++ (read name, Some Observe) ∷ []))
+      → (sees process other ≡ false → IsDenialNamed accounts f me call old new t ready (read name))
       → (sees process other ≡ true → (later : KernelModel) → state later ≡ state old
       → Chain old t (all_granted (before ++ read name ∷ [])) later
       → Runs (rest (status name other)) later new t result → Refined) → Refined
   unfolding read_status
-  status_step name other here before mid stays chain rest run refuses go_on = by (sees process other) refl
+  status_step name other here before mid stays chain rest run refuses named go_on = by (sees process other) refl
     where
       said : (b : Bool) → sees process other ≡ b → check (state mid) t (read name) ≡ unless b Observe
       said b is =
@@ -210,7 +242,7 @@ module _ (accounts : Accounts) (ok : AreAccounts accounts) (old new : KernelMode
       by false is =
           let end = refuses is in
           refused_step accounts f me call old new t ready result before mid chain stays
-          EACCES end.0 (read name) _ Observe (said false is) refl refl end.1 run
+          EACCES end.0 (read name) _ Observe (said false is) refl refl (named is) end.1 run
       by true is =
           granted_step accounts f me call old new t ready result before mid chain (read name) _ (said true is) run
           (λ later bytes called right longer on.
@@ -241,11 +273,14 @@ module _ (accounts : Accounts) (ok : AreAccounts accounts) (old new : KernelMode
     enters child is on =
         let longer = search_longer accounts (state old) f me t ready n above found true (ap is_some is) in
         status_step (n ∷ above) child is (calls_to above) mid stays chain (rest (place (n ∷ above))) on
-        (λ unseen. refuses EACCES (tests_are (Some child) is ∙ ap (λ (b : Bool). unless b EACCES) unseen)
+        (λ unseen. refuses.0 EACCES (tests_are (Some child) is ∙ ap (λ (b : Bool). unless b EACCES) unseen)
         (all_granted (calls_to above) ++ (read (n ∷ above), Some Observe) ∷ [])
         (subst (λ (calls : List RawCall). AreAmong calls
         (entries_of old.line t (all_granted (calls_to above) ++ (read (n ∷ above), Some Observe) ∷ [])))
         (sym longer) (among_refused old.line t (calls_to above) (read (n ∷ above)) Observe)))
+        (λ unseen.
+        let named = unseen_below accounts (state old) f me t ready n above found child is unseen in
+        read_named (n ∷ above) child is named.0 (refuses.1 (IsUnseen (n ∷ above) named.0) named.1))
         (λ seen later same further end. go_on (tests_are (Some child) is ∙ ap (λ (b : Bool). unless b EACCES) seen) child is seen later same
         (subst (λ (calls : List RawCall). Chain old t (all_granted calls) later) (sym longer) further) end)
 
@@ -257,7 +292,7 @@ module _ (accounts : Accounts) (ok : AreAccounts accounts) (old new : KernelMode
         }) o)) mid new t result → Refined
     by_child None is on =
         let same = search_longer accounts (state old) f me t ready n above found false (ap is_some is) ∙ append-nil (calls_to above) in
-        let end = refuses ESRCH (tests_are None is) (all_granted (calls_to above))
+        let end = refuses.0 ESRCH (tests_are None is) (all_granted (calls_to above))
         (subst (λ (calls : List RawCall). AreAmong calls (entries_of old.line t (all_granted (calls_to above))))
         (sym same) (among_granted_all old.line t (calls_to above))) in
         refused_at_once accounts f me call old new t ready result (calls_to above) mid chain stays
@@ -272,11 +307,16 @@ module _ (accounts : Accounts) (ok : AreAccounts accounts) (old new : KernelMode
 
   -- where the search for the parent is refused, so is that for the child
   pub parent_refuses : (n : ℕ) (above : ProcName) → Refuses (n ∷ above) → Refuses above
-  parent_refuses n above refuses errno is steps among =
-      refuses errno (ap (λ (o : Option Errno). o orelse unless (is_some (f.processes (n ∷ above))) ESRCH
-      orelse unless (is_some_and (f.processes (n ∷ above)) (sees process)) EACCES) is) steps
-      (subst (λ (calls : List RawCall). AreAmong calls (entries_of old.line t steps))
-      (sym (search_stopped accounts (state old) f me t ready n above errno is)) among)
+  parent_refuses n above refuses = (
+    λ errno is steps among.
+        refuses.0 errno (ap (λ (o : Option Errno). o orelse unless (is_some (f.processes (n ∷ above))) ESRCH
+        orelse unless (is_some_and (f.processes (n ∷ above)) (sees process)) EACCES) is) steps
+        (subst (λ (calls : List RawCall). AreAmong calls (entries_of old.line t steps))
+        (sym (search_stopped accounts (state old) f me t ready n above errno is)) among),
+    λ reason is.
+        refuses.1 reason (ap (λ (o : Option Reason). o orelse unless (is_some (f.processes (n ∷ above))) (NoProcess (n ∷ above))
+        orelse not_seen accounts f process (n ∷ above) (f.processes (n ∷ above))) is),
+  )
 
   -- The way to a process: it is refused as the flat rules refuse the call, or the call goes on with the process.
   pub search_step : (name : ProcName) (rest : Home → ProcessStatus → Program)
@@ -288,6 +328,7 @@ module _ (accounts : Accounts) (ok : AreAccounts accounts) (old new : KernelMode
       status_step [] first.0 first.1 [] old refl (same_kernel old) (rest (place []))
       (subst (λ (home : Home). Runs (read_status home (rest home)) old new t result)
       (first_place accounts (state old) f ready.represents.matched) run)
+      (λ unseen. absurd (true≢false (sym first.2 ∙ unseen)))
       (λ unseen. absurd (true≢false (sym first.2 ∙ unseen)))
       (λ seen later stays chain on. go_on refl first.0 first.1 seen later stays chain on)
   search_step (n ∷ above) rest run refuses go_on =

@@ -14,9 +14,11 @@ use Rattle.histar_flat.specs.Words.{Name, Path, ProcName}
 use Rattle.histar_flat.specs.Accounts.{Accounts}
 use Rattle.histar_flat.specs.Files.{get}
 use Rattle.histar_flat.specs.Classes.{Class, Process}
-use Rattle.histar_flat.specs.FlatState.{Flat, Node, Content, is_some_and, is_dir, is_dir_at, into}
+use Rattle.histar_flat.specs.FlatState.{Flat, Node, Content, is_some_and, is_dir, is_dir_at, into, is_there}
 use Rattle.histar_flat.specs.FlatState.Content.{Dir, File}
 use Rattle.histar_flat.specs.FlatCalls.{refused, stat_reply}
+use Rattle.histar_reasons.specs.Reasons.{Reason}
+use Rattle.histar_reasons.specs.Reasons.Reason.{IsMissing}
 use Rattle.histar_level.specs.Levels.{Levels}
 use Rattle.histar_object.specs.Objects.{label_there}
 use Rattle.histar_object.specs.State.{State}
@@ -209,12 +211,13 @@ module _ (accounts : Accounts) (ok : AreAccounts accounts) (old new : KernelMode
     stat_is_refined run =
         look_step accounts ok old new f me t ready stat result d m
         (λ place target. given (entry_at target) (λ found. ask (raw.LabelOf place.container (object_of found))
-        (λ label. class_reply (is_directory found) (class_shown accounts label)))) run
-        (λ errno is steps among. (
-          refused_is (Some errno) (get f.files (m ∷ d)) is refl,
-          label_less accounts (state old) f m d errno _
-              ready.caller.process (has_way accounts ok (state old) f me t ready d _ among),
-        ))
+        (λ label. class_reply (is_directory found) (class_shown accounts label)))) run (
+          λ errno is steps among. (
+            refused_is (Some errno) (get f.files (m ∷ d)) is refl,
+            label_less accounts (state old) f m d errno _ ready.caller.process (has_way accounts ok (state old) f me t ready d _ among),
+          ),
+          λ reason is. ap (λ (o : Option Reason). o orelse unless (is_there f (m ∷ d)) (IsMissing (m ∷ d))) is,
+        )
         (λ open_so_far mid stays chain on. by_agrees open_so_far mid stays chain on (get f.files (m ∷ d)) refl)
 
   -- a stat of `/`

@@ -50,7 +50,7 @@ module _ (accounts : Accounts) (ok : AreAccounts accounts) (old new : KernelMode
   status_is_refined run =
       let reads = search_reads accounts (state old) f me t ready name in
       search_step accounts ok old new f me t ready call result name (λ home status. Answers (status_reply status.exited)) run
-      (λ errno is steps among. (is, has_search accounts (state old) f me t ready name _ among))
+      (λ errno is steps among. (is, has_search accounts (state old) f me t ready name _ among), λ reason is. is)
       (λ found other here seen mid stays chain on.
       answered_step accounts f me call old new t ready result reads mid chain (status_reply other.exited) (said other here) found
       (subst (IsBacked (state old) _) (said other here) (life_backed (state old) _ other.exited))

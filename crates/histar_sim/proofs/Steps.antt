@@ -30,7 +30,8 @@ use Rattle.histar_programs.specs.Parts.{refused_with, or_refused, ask, if_there,
 use Rattle.histar_refinement.specs.KeptNames.{RepresentsStill}
 use Rattle.histar_sim.specs.Simulation.{errno_by_rule, IsReady, has_category}
 use Rattle.histar_sim.proofs.Chains.{Step, all_granted, entries_of, Chain, chain_after, granted_broken_off, exhausted_broken_off}
-use Rattle.histar_sim.proofs.CallErrors.{FollowsFrom, IsBacked, ReadsAmong, chain_unanswered, granted_refined, unchanged_refined, refused_refined}
+use Rattle.histar_sim.proofs.CallErrors.{FollowsFrom, IsBacked, IsDenialNamed, ReadsAmong, chain_unanswered, granted_refined}
+use Rattle.histar_sim.proofs.CallErrors.{unchanged_refined, refused_refined}
 
 -- the call ended here without a reply
 pub record EndsHere (old new : KernelModel) (result : Result Reply Stopped) : Type 0 where
@@ -237,12 +238,13 @@ module _ (accounts : Accounts) (f : Flat) (me : ProcName) (call : UnixCall)
 
     module _ (stays : state mid ≡ state old) (errno : Errno)
         (is : refused accounts f me ready.caller.process call ≡ Some errno) where
-      -- a raw call that the rules refuse, as the flat rules refuse the call
+      -- a raw call that the rules refuse, as the flat rules refuse the call, and that is on what their reason names
       pub refused_step : (next : RawCall) (rest : AnswerOf next → Program) (denied : Denied)
           → check (state mid) t next ≡ Some denied → errno_for next denied ≡ Some errno → errno_by_rule denied ≡ Some errno
+          → IsDenialNamed accounts f me call old new t ready next
           → ReadsAmong accounts f me call old new t ready (all_granted calls ++ (next, Some denied) ∷ [])
           (Refused errno) → Runs (ask next rest) mid new t result → Goal
-      refused_step next rest denied fails revealed by_rule reads runs =
+      refused_step next rest denied fails revealed by_rule named reads runs =
           elim (refused_so t mid new next (or_refused (errno_for next) rest) denied fails result runs) [
             | inl ends ↦ ends_here ends
             | inr end ↦
@@ -252,7 +254,7 @@ module _ (accounts : Accounts) (f : Flat) (me : ProcName) (call : UnixCall)
                 let chain = chain_after t old mid new (all_granted calls) ((next, Some denied) ∷ []) so_far (end.mid, end.called, said.0) in
                 subst (FollowsFrom accounts f me call old new t ready.represents) (sym said.1)
                 (refused_refined accounts f me call old new t ready (said.0.state ∙ end.called.state ∙ stays)
-                calls next denied chain errno by_rule is reads)
+                calls next denied chain errno by_rule is named reads)
           ]
 
       -- a call that is refused with no further raw call

@@ -1,5 +1,6 @@
 -- An entry is removed: its object is unlinked with all below it, and then the directory is written without it.
 use Rattle.std.proofs.Common.{◌≡◌, ◌≢◌, ℕ, ◌&&◌, Bool, true, false, List, [], ◌∷◌, ◌++◌, Option, None, Some, Result, refl, sym, ap, ◌∙◌, subst}
+use Rattle.std.proofs.Common.{inr}
 use Rattle.std.specs.FinMap as map
 use Rattle.std.specs.FinSet as set
 use Rattle.std.specs.Prelude.{not, option_map}
@@ -18,6 +19,10 @@ use Rattle.histar_flat.specs.FlatState.{Flat, Node, Content, is_some_and, is_dir
 use Rattle.histar_flat.specs.FlatState.Content.{Dir}
 use Rattle.histar_flat.specs.FlatCalls as flat
 use Rattle.histar_flat.specs.FlatCalls.{refused, changed}
+use Rattle.histar_flat.specs.PathOrder.{parent}
+use Rattle.histar_flat.specs.CallRules.{path_of}
+use Rattle.histar_reasons.specs.Reasons.{not_written, why}
+use Rattle.histar_reasons.specs.Reasons.Reason.{MayNotWrite}
 use Rattle.histar_level.specs.Levels.{Levels}
 use Rattle.histar_label.specs.Levels.{is_below, is_below_raised}
 use Rattle.histar_object.specs.declared.objects.Kind.TheVariants.{Segment, Container, Thread}
@@ -61,10 +66,12 @@ use Rattle.histar_refinement.proofs.Agreeing.{thread_found, guard_at, container_
 use Rattle.histar_sim.specs.Simulation.{IsReady}
 use Rattle.histar_sim.specs.Reads.{AreAmong}
 use Rattle.histar_sim.proofs.Chains.{Step as Made, all_granted, entries_of, Chain}
-use Rattle.histar_sim.proofs.CallErrors.{IsBacked, ReadsAmong}
+use Rattle.histar_sim.proofs.CallErrors.{IsBacked, ReadsAmong, IsDenialNamed}
 use Rattle.histar_sim.proofs.Steps.{Goal, granted_step, refused_step, answered_step}
 use Rattle.histar_sim.proofs.Walks.{runs, place_at, agrees, at_container, at_listing, dir, seen, among_granted_all, among_then, among_also}
-use Rattle.histar_sim.proofs.Entries.{object_at, entry_of, object_led_to, object_numbered}
+use Rattle.histar_sim.proofs.Entries.{object_at, entry_of, object_led_to, object_numbered, object_found}
+use Rattle.histar_sim.proofs.FirstReasons.{unwritten_at, named_by}
+use Rattle.histar_sim.specs.Named.{UnlinksAt}
 use Rattle.histar_refinement.proofs.Agreement.{agreement}
 
 -- ---- the state between the two raw calls
@@ -177,6 +184,8 @@ module _ (accounts : Accounts) (ok : AreAccounts accounts) (old new : KernelMode
   -- The flat rule removes the entry where the directory that it lies in may be written.
   pub record TakesAway : Type 0 where
     pub refuses : refused accounts f me p call ≡ unless (writes accounts f p d) EACCES
+    pub path : path_of call ≡ m ∷ d
+    pub explains : why accounts f me p call ≡ not_written accounts f p d
     pub removes : changed accounts f me p call ≡ without_below f (m ∷ d)
     pub answers : flat.answer f me p call ≡ Done
 
@@ -217,6 +226,15 @@ module _ (accounts : Accounts) (ok : AreAccounts accounts) (old new : KernelMode
 
     abbrev unlinks : RawCall
     unlinks = raw.Unlink container o
+
+    -- the raw call is on what the reason names that the directory may not be written
+    unlinks_named : may_write accounts p root ≡ false → IsDenialNamed accounts f me call old new t ready unlinks
+    unlinks_named fails =
+        let cause = unwritten_at accounts f p d (record { class = root; content = Dir }) root_at fails in
+        let at_path : UnlinksAt accounts (state old) (m ∷ d) unlinks =
+        (container, o, object_found accounts ok (state old) f me t ready m d class is_dir_here content at, refl) in
+        named_by accounts (state old) f me p call unlinks (MayNotWrite d cause.0) (rule.explains ∙ cause.1)
+        (inr (inr (inr (ap parent rule.path, subst (λ (q : Path). UnlinksAt accounts (state old) q unlinks) (sym rule.path) at_path))))
 
     abbrev writing : RawCall
     writing = raw.Write container listing 0 (spelling (map.remove entries m))
@@ -269,7 +287,7 @@ module _ (accounts : Accounts) (ok : AreAccounts accounts) (old new : KernelMode
     by_right : (may : Bool) → may_write accounts p root ≡ may → Runs (ask unlinks (λ _. call_error)) mid new t result → Refined
     by_right false is on =
         refused_step accounts f me call old new t ready result calls mid chain same
-        EACCES (refused_so false is) unlinks (λ _. call_error) Modify (said false is) refl refl
+        EACCES (refused_so false is) unlinks (λ _. call_error) Modify (said false is) refl refl (unlinks_named is)
         (has_reads _ _ (among_also old.line t calls calls ((unlinks, Some Modify) ∷ []) (among_granted_all old.line t calls))) on
     by_right true is on =
         granted_step accounts f me call old new t ready result calls mid chain unlinks (λ _. call_error) (said true is) on

@@ -15,6 +15,8 @@ use Rattle.histar_flat.specs.Classes.{Class}
 use Rattle.histar_flat.specs.FlatState.{Flat, Node, Content, is_some_and, is_dir, is_file_at, writes, into}
 use Rattle.histar_flat.specs.FlatState.Content.{Dir, File}
 use Rattle.histar_flat.specs.FlatCalls.{refused}
+use Rattle.histar_reasons.specs.Reasons.{not_written, why}
+use Rattle.histar_reasons.specs.Reasons.Reason.{HasDirectory}
 use Rattle.histar_rules.specs.declared.raw.RawCall.{RawCall}
 use Rattle.histar_syscall.specs.KernelModel.{KernelModel, state}
 use Rattle.histar_syscall.proofs.Runs.{same_kernel}
@@ -33,7 +35,7 @@ use Rattle.histar_sim.proofs.Chains.{all_granted, Chain}
 use Rattle.histar_sim.proofs.Steps.{Goal, refused_at_once}
 use Rattle.histar_sim.proofs.Walks.{walk_reads, has_walk, among_granted_all}
 use Rattle.histar_sim.specs.Laws.{UnlinkRefines}
-use Rattle.histar_sim.proofs.Entries.{entry_of, reached, entry_step}
+use Rattle.histar_sim.proofs.Entries.{entry_of, reached, entry_step, entry_explained, entry_clear}
 use Rattle.histar_sim.proofs.TakingAway.{take_away_step}
 
 module _ (accounts : Accounts) (ok : AreAccounts accounts) (old new : KernelModel) (f : Flat) (me : ProcName) (t : ℕ)
@@ -67,6 +69,14 @@ module _ (accounts : Accounts) (ok : AreAccounts accounts) (old new : KernelMode
         ∙ ap (λ (x : Option Node). unless (is_some_and x (λ n. not (is_dir n))) EISDIR
         orelse unless (writes accounts f ready.caller.process d) EACCES) at
 
+    -- a file is there, and the reason is that of the directory
+    reason_is : (class : Class) (bytes : List ℕ) → get f.files (m ∷ d) ≡ Some (record { class = class; content = File bytes })
+        → why accounts f me ready.caller.process call ≡ not_written accounts f ready.caller.process d
+    reason_is class bytes at =
+        let clear = entry_clear accounts ok (state old) f me t ready m d open_so_far _ at in
+        λ i. clear i orelse unless (is_some_and (at i) (λ n. not (is_dir n))) (HasDirectory (m ∷ d))
+        orelse not_written accounts f ready.caller.process d
+
     by_content : (class : Class) (content : Content)
         → get f.files (m ∷ d) ≡ Some (record { class = class; content = content })
         → Runs (at_entry (entry_of accounts ok (state old) f me t ready m d content)) mid new t result → Refined
@@ -76,15 +86,23 @@ module _ (accounts : Accounts) (ok : AreAccounts accounts) (old new : KernelMode
         (has_walk accounts ok (state old) f me t ready m d _ (among_granted_all old.line t walk)) on
     by_content class (File bytes) at on =
         take_away_step accounts ok old new f me t ready m d call result
-        (record { refuses = refused_by class (File bytes) at; removes = refl; answers = refl }) open_so_far class
-        (File bytes) at
+        (record {
+          refuses = refused_by class (File bytes) at;
+          path = refl;
+          explains = reason_is class bytes at;
+          removes = refl;
+          answers = refl;
+        })
+        open_so_far class (File bytes) at
         walk (λ steps r among. has_walk accounts ok (state old) f me t ready m d _ among) mid stays chain on
 
   unlink_is_refined : Runs (unlink_program (roots_of (length accounts.users)) (m ∷ d)) old new t result → Refined
   unfolding unlink_program
   unlink_is_refined run =
       entry_step accounts ok old new f me t ready m d call result refusal refl
-      (λ none steps r among. has_walk accounts ok (state old) f me t ready m d _ among) at_entry run
+      (λ none steps r among. has_walk accounts ok (state old) f me t ready m d _ among) at_entry
+      (entry_explained accounts f me ready.caller.process m d call
+      (unless (is_file_at f (m ∷ d)) (HasDirectory (m ∷ d)) orelse not_written accounts f ready.caller.process d) refl) run
       (λ open_so_far class content at mid stays chain on. by_content open_so_far mid stays chain class content at on)
 
 -- an unlink of `/`

@@ -20,6 +20,10 @@ use Rattle.histar_flat.specs.FlatState.{Flat, Node, Content, is_some_and, is_dir
 use Rattle.histar_flat.specs.FlatState.Content.{Dir, File}
 use Rattle.histar_flat.specs.FlatCalls.{refused}
 use Rattle.histar_flat.proofs.Refusals.{passed, three_pass}
+use Rattle.histar_reasons.specs.Causes.{Cause}
+use Rattle.histar_reasons.specs.Reasons.{Reason, not_read, why_into, why}
+use Rattle.histar_reasons.specs.Reasons.Reason.{MayNotRead, IsMissing, HasFile}
+use Rattle.histar_reasons.proofs.Agreeing.{into_agrees, directory_there as something_there}
 use Rattle.histar_object.specs.Objects.{bytes_in}
 use Rattle.histar_object.specs.State.{State}
 use Rattle.histar_rules.specs.declared.raw.Denied.{Denied}
@@ -57,9 +61,11 @@ use Rattle.histar_refinement.proofs.StatusFound.{thread_back}
 use Rattle.histar_refinement.proofs.CallerFound.{is_or_zero}
 use Rattle.histar_sim.specs.Simulation.{IsReady}
 use Rattle.histar_sim.specs.Reads.{AreAmong, tested}
+use Rattle.histar_sim.specs.Named.{IsFileAt}
 use Rattle.histar_sim.proofs.ReadsByCall.{AreReadsOf, HasWay, HasWalk}
 use Rattle.histar_sim.proofs.Chains.{Step, all_granted, entries_of, Chain}
-use Rattle.histar_sim.proofs.CallErrors.{ReadsAmong}
+use Rattle.histar_sim.proofs.FirstReasons.{no_reason, unread_at, read_at, named_by}
+use Rattle.histar_sim.proofs.CallErrors.{IsDenialNamed, ReadsAmong}
 use Rattle.histar_sim.proofs.Steps.{Goal, granted_step, refused_step, listed_step, refused_at_once}
 
 -- a directory is there
@@ -209,6 +215,34 @@ module _ (accounts : Accounts) (ok : AreAccounts accounts) (s : State) (f : Flat
         (place_at d).container (place_at d).listing at_container at_listing
         ∙ ap (λ (b : Bool). unless b Observe) (sym reads_is)
 
+  -- a directory that may not be read has a reason that says so
+  pub unread_directory : (d : Path) → is_dir_at f d ≡ true → reads accounts f p d ≡ false
+      → (cause : Cause) × (not_read accounts f p d ≡ Some (MayNotRead d cause))
+  unread_directory d dir unseen =
+      unread_at accounts f p d (record { class = (agrees d dir).0; content = Dir }) (agrees d dir).1 (sym (reads_is d dir) ∙ unseen)
+
+  -- a directory that may be read has none
+  pub read_directory_at : (d : Path) → is_dir_at f d ≡ true → reads accounts f p d ≡ true → not_read accounts f p d ≡ None
+  read_directory_at d dir seen =
+      read_at accounts f p d (record { class = (agrees d dir).0; content = Dir }) (agrees d dir).1 (sym (reads_is d dir) ∙ seen)
+
+  -- where the way into a directory has no refusal, it has no reason
+  pub way_clear : (d : Path) → into accounts f p d ≡ None → why_into accounts f p d ≡ None
+  way_clear d open_so_far =
+      no_reason (why_into accounts f p d)
+      (into_agrees accounts f p (something_there (get f.files []) slash_is_dir) d ∙ open_so_far)
+
+  -- a directory that may not be read, at the end of a way that is open up to it, is the one that the way's reason names
+  unread_below : (n : Name) (d : Path) → into accounts f p d ≡ None → is_dir_at f (n ∷ d) ≡ true → reads accounts f p (n ∷ d) ≡ false
+      → (cause : Cause) × (why_into accounts f p (n ∷ d) ≡ Some (MayNotRead (n ∷ d) cause))
+  unread_below n d open_so_far dir unseen =
+      let found = unread_directory (n ∷ d) dir unseen in
+      let clear = way_clear d open_so_far in
+      let there = something_there (get f.files (n ∷ d)) dir in (
+        found.0,
+        λ i. clear i orelse unless (there i) (IsMissing (n ∷ d)) orelse unless (dir i) (HasFile (n ∷ d)) orelse found.1 i,
+      )
+
   -- the walk tests whether directories may be read, and nothing else
   tested_dirs : (d : Path) → AllByRecursion (λ (q : Path). is_dir_at f q ≡ true) (tested accounts f p d)
   tested_dirs [] = (slash_is_dir, tt)
@@ -287,6 +321,13 @@ module _ (accounts : Accounts) (ok : AreAccounts accounts) (s : State) (f : Flat
         target_is (Some (record { class = class; content = File bytes })) is
         ∙ ap (option_map targets.File) (file_number class bytes is)
 
+    -- the segments lead to a file in a directory
+    pub file_is_at : (dir : is_dir_at f d ≡ true) (class : Class) (bytes : List ℕ)
+        → get f.files (m ∷ d) ≡ Some (record { class = class; content = File bytes })
+        → IsFileAt accounts s (m ∷ d) (place_at d).container (or_zero (numbers (address_of (m ∷ d))))
+    file_is_at dir class bytes is =
+        ((place_at d).listing, directory_of f.files numbers d, found d dir, holds d dir, file_there class bytes is)
+
     -- a directory at the path is the target of its entry
     pub directory_there : (class : Class) → get f.files (m ∷ d) ≡ Some (record { class = class; content = Dir })
         → finite.get (directory_of f.files numbers d) m ≡ Some (targets.Directory (place_at (m ∷ d)).container (place_at (m ∷ d)).listing)
@@ -317,11 +358,24 @@ module _ (accounts : Accounts) (ok : AreAccounts accounts) (old new : KernelMode
       (refused accounts f me process call ≡ Some errno)
       × ReadsAmong accounts f me call old new t ready steps (Refused errno)
 
-  -- where the way into the directory is refused, so is the call, once the reads of the walk are made
+  -- where the way into the directory has a reason, that is the call's
+  abbrev pub Explains : Path → Type 0
+  Explains d = (reason : Reason) → why_into accounts f process d ≡ Some reason → why accounts f me process call ≡ Some reason
+
+  -- where the way into the directory is refused, so is the call, once the reads of the walk are made, and the reason is that of the way
   abbrev pub Refuses : Path → Type 0
   Refuses d =
-      (errno : Errno) → into accounts f process d ≡ Some errno → (steps : List Step)
-      → AreAmong (calls_to d) (entries_of old.line t steps) → IsRefusedBy errno steps
+      ((errno : Errno) → into accounts f process d ≡ Some errno → (steps : List Step)
+      → AreAmong (calls_to d) (entries_of old.line t steps) → IsRefusedBy errno steps)
+      × Explains d
+
+  -- the read of a directory segment is on what the reason names that the directory may not be read
+  pub read_named : (d : Path) → is_dir_at f d ≡ true → (cause : Cause) → why accounts f me process call ≡ Some (MayNotRead d cause)
+      → IsDenialNamed accounts f me call old new t ready (read d)
+  read_named d dir cause is =
+      let place = place_at accounts ok (state old) f me t ready d in
+      named_by accounts (state old) f me process call (read d) (MayNotRead d cause) is
+      (place.container, place.listing, inl (found accounts ok (state old) f me t ready d dir), refl)
 
   -- the entries of a directory
   abbrev entries_at : Path → Entries
@@ -332,9 +386,10 @@ module _ (accounts : Accounts) (ok : AreAccounts accounts) (old new : KernelMode
       → Chain old t (all_granted before) mid
       → (rest : List ℕ → Program) → Runs (ask (read d) rest) mid new t result
       → (reads accounts f process d ≡ false → IsRefusedBy EACCES (all_granted before ++ (read d, Some Observe) ∷ []))
+      → (reads accounts f process d ≡ false → IsDenialNamed accounts f me call old new t ready (read d))
       → (reads accounts f process d ≡ true → (later : KernelModel) → state later ≡ state old → Chain old t (all_granted (before ++ read d ∷ [])) later
       → (bytes : List ℕ) → IsDirectory bytes (entries_at d) → Runs (rest bytes) later new t result → Refined) → Refined
-  bytes_step d dir before mid stays chain rest run refuses go_on = by (reads accounts f process d) refl
+  bytes_step d dir before mid stays chain rest run refuses named go_on = by (reads accounts f process d) refl
     where
       said : (b : Bool) → reads accounts f process d ≡ b → check (state mid) t (read d) ≡ unless b Observe
       said b is =
@@ -345,7 +400,7 @@ module _ (accounts : Accounts) (ok : AreAccounts accounts) (old new : KernelMode
       by false is =
           let end = refuses is in
           refused_step accounts f me call old new t ready result before mid chain stays
-          EACCES end.0 (read d) rest Observe (said false is) refl refl end.1 run
+          EACCES end.0 (read d) rest Observe (said false is) refl refl (named is) end.1 run
       by true is =
           granted_step accounts f me call old new t ready result before mid chain (read d) rest (said true is) run
           (λ later bytes called right longer on.
@@ -362,14 +417,15 @@ module _ (accounts : Accounts) (ok : AreAccounts accounts) (old new : KernelMode
       → state mid ≡ state old → Chain old t (all_granted before) mid
       → (rest : Directory → Program) → Runs (read_directory (place_at accounts ok (state old) f me t ready d) rest) mid new t result
       → (reads accounts f process d ≡ false → IsRefusedBy EACCES (all_granted before ++ (read d, Some Observe) ∷ []))
+      → (reads accounts f process d ≡ false → IsDenialNamed accounts f me call old new t ready (read d))
       → (reads accounts f process d ≡ true → (later : KernelModel) → state later ≡ state old
       → Chain old t (all_granted (before ++ read d ∷ [])) later → Runs (rest (last_of d)) later new t result
       → Refined) → Refined
   unfolding read_directory
-  read_step d dir before mid stays chain rest run refuses go_on =
+  read_step d dir before mid stays chain rest run refuses named go_on =
       bytes_step d dir before mid stays chain (λ bytes. list bytes (λ entries.
       rest (record { place = place_at accounts ok (state old) f me t ready d; entries = entries }))) run
-      refuses
+      refuses named
       (λ seen later same longer bytes is on.
       listed_step accounts f me call old new t ready result (before ++ read d ∷ []) later
       longer bytes (entries_at d) is _ on (go_on seen later same longer))
@@ -430,7 +486,7 @@ module _ (accounts : Accounts) (ok : AreAccounts accounts) (old new : KernelMode
       -- the walk ends here, with no raw call more
       breaks_off : (errno : Errno) → into accounts f process (n ∷ d) ≡ Some errno → is_dir_at f (n ∷ d) ≡ false
           → IsRefusedBy errno (all_granted (reached d))
-      breaks_off errno is no_dir = refuses errno is (all_granted (reached d))
+      breaks_off errno is no_dir = refuses.0 errno is (all_granted (reached d))
           (subst (λ (calls : List RawCall). AreAmong calls (entries_of old.line t (all_granted (reached d))))
           (sym (calls_are false no_dir ∙ append-nil (calls_to d)))
           (among_granted_behind old.line t before (calls_to d)))
@@ -444,11 +500,14 @@ module _ (accounts : Accounts) (ok : AreAccounts accounts) (old new : KernelMode
           orelse unless (is_some_and (is i) is_dir) ENOTDIR
           orelse unless (reads accounts f process (n ∷ d)) EACCES in
           bytes_step (n ∷ d) dir (reached d) mid stays chain (after (place_at accounts ok (state old) f me t ready (n ∷ d))) on
-          (λ unseen. refuses EACCES (into_so ∙ ap (λ (b : Bool). unless b EACCES) unseen)
+          (λ unseen. refuses.0 EACCES (into_so ∙ ap (λ (b : Bool). unless b EACCES) unseen)
           (all_granted (reached d) ++ (read (n ∷ d), Some Observe) ∷ [])
           (subst (λ (calls : List RawCall). AreAmong calls
           (entries_of old.line t (all_granted (reached d) ++ (read (n ∷ d), Some Observe) ∷ [])))
           (sym (calls_are true dir)) (among_refused_behind old.line t before (calls_to d) (read (n ∷ d)) Observe)))
+          (λ unseen.
+          let named = unread_below accounts ok (state old) f me t ready n d open_so_far dir unseen in
+          read_named (n ∷ d) dir named.0 (refuses.1 (MayNotRead (n ∷ d) named.0) named.1))
           (λ seen later same longer bytes holds end.
           go_on (into_so ∙ ap (λ (b : Bool). unless b EACCES) seen) later same
           (subst (λ (calls : List RawCall). Chain old t (all_granted calls) later)
@@ -489,16 +548,24 @@ module _ (accounts : Accounts) (ok : AreAccounts accounts) (old new : KernelMode
         bytes_step [] (slash_is_dir accounts ok (state old) f me t ready) before start unchanged begun
         (after (place_at accounts ok (state old) f me t ready []))
         (subst (λ (place : Place). Runs (reading after place) start new t result) (slash_place accounts ok (state old) f me t ready) run)
-        (λ unseen. refuses EACCES (ap (λ (b : Bool). unless b EACCES) unseen)
+        (λ unseen. refuses.0 EACCES (ap (λ (b : Bool). unless b EACCES) unseen)
         (all_granted before ++ (read [], Some Observe) ∷ [])
         (among_behind old.line t (read [] ∷ []) before ((read [], Some Observe) ∷ []) (inl (refl, tt))))
+        (λ unseen.
+        let dir = slash_is_dir accounts ok (state old) f me t ready in
+        let named = unread_directory accounts ok (state old) f me t ready [] dir unseen in
+        read_named [] dir named.0 (refuses.1 (MayNotRead [] named.0) named.1))
         (λ seen. go_on (ap (λ (b : Bool). unless b EACCES) seen))
     reading_step (n ∷ d) after run refuses go_on =
-        reading_step d (λ above bytes. given (directory_at (found_in bytes n)) (reading after)) run
-        (λ errno is steps among. refuses errno (ap (λ (o : Option Errno).
-        o orelse unless (is_there f (n ∷ d)) ENOENT orelse unless (is_dir_at f (n ∷ d)) ENOTDIR
-        orelse unless (reads accounts f process (n ∷ d)) EACCES) is) steps
-        (subst (λ (calls : List RawCall). AreAmong calls (entries_of old.line t steps)) (sym (stopped_before n d errno is)) among))
+        reading_step d (λ above bytes. given (directory_at (found_in bytes n)) (reading after)) run (
+          λ errno is steps among. refuses.0 errno (ap (λ (o : Option Errno).
+              o orelse unless (is_there f (n ∷ d)) ENOENT orelse unless (is_dir_at f (n ∷ d)) ENOTDIR
+              orelse unless (reads accounts f process (n ∷ d)) EACCES) is) steps
+              (subst (λ (calls : List RawCall). AreAmong calls (entries_of old.line t steps)) (sym (stopped_before n d errno is)) among),
+          λ reason is. refuses.1 reason (ap (λ (o : Option Reason).
+              o orelse unless (is_there f (n ∷ d)) (IsMissing (n ∷ d)) orelse unless (is_dir_at f (n ∷ d)) (HasFile (n ∷ d))
+              orelse not_read accounts f process (n ∷ d)) is),
+        )
         (λ open_so_far mid stays chain bytes is on.
         next_step n d after refuses go_on open_so_far mid stays chain (get f.files (n ∷ d)) refl
         (subst (λ (target : Option Target). Runs (given (directory_at target) (reading after)) mid new t result)

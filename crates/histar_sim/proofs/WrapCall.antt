@@ -16,7 +16,10 @@ use Rattle.histar_flat.specs.Classes.{Process, nobody, may_write}
 use Rattle.histar_flat.specs.Files.{get}
 use Rattle.histar_flat.specs.FlatState.{Flat, entries_in, into}
 use Rattle.histar_flat.specs.FlatCalls.{most_entries, refused}
+use Rattle.histar_flat.specs.Needs.{room as room_needed}
 use Rattle.histar_flat.proofs.CommonNeeds.{no_room}
+use Rattle.histar_reasons.specs.Reasons.{why_need}
+use Rattle.histar_reasons.specs.Reasons.Reason.{HadChildren, HasNumbers, StartsNoJob}
 use Rattle.histar_rules.specs.Rights.{with_category, with_label, with_changed}
 use Rattle.histar_object.specs.State.{State, with_object}
 use Rattle.histar_rules.specs.declared.raw.Denied.{Denied}
@@ -46,13 +49,13 @@ use Rattle.histar_refinement.proofs.Agreeing.{some_of}
 use Rattle.histar_refinement.proofs.WrapRefused.{still_refused}
 use Rattle.histar_sim.specs.Simulation.{errno_by_rule, IsReady, has_category}
 use Rattle.histar_sim.specs.Reads.{AreAmong}
-use Rattle.histar_sim.proofs.CallErrors.{from_each}
+use Rattle.histar_sim.proofs.CallErrors.{IsDenialNamed, from_each}
 use Rattle.histar_sim.proofs.ReadsByCall.{HasWalk, HasWalkUnlessFull}
 use Rattle.histar_sim.proofs.Chains.{all_granted, entries_of, Chain}
 use Rattle.histar_sim.proofs.Steps.{Goal, allowed_step, spent_step}
 use Rattle.histar_sim.proofs.Walks.{walk_reads, among_granted_behind, among_then, among_also}
 use Rattle.histar_sim.proofs.FoundObjects.{container, directory_class, is_nobody, thread}
-use Rattle.histar_sim.proofs.FoundRoom.{NeedsRoom, slash_agrees, the_room, has_reads, refused_in_room, room_step}
+use Rattle.histar_sim.proofs.FoundRoom.{NeedsRoom, slash_agrees, the_room, has_reads, refused_in_room, unwritten_named, unmade_named, room_step}
 use Rattle.histar_sim.proofs.NewEntries.{last_name}
 use Rattle.histar_sim.proofs.BirthChecks.{category_said}
 use Rattle.histar_sim.proofs.BirthSteps.{category_step}
@@ -123,6 +126,11 @@ module _ (accounts : Accounts) (ok : AreAccounts accounts) (me : ProcName) (call
     needs_room : (q : Path) → NeedsRoom accounts f me p q (Wrap q) not_nobody
     needs_room q = record {
       refuses = λ i. (unless (few i) EAGAIN orelse unless (long i) EAGAIN) orelse no_room accounts f p q orelse not_nobody;
+      path = refl;
+      named = unless (not (same p.user nobody)) StartsNoJob;
+      explains =
+          λ i. (unless (few i) (HadChildren p.born) orelse unless (long i) (HasNumbers (length me + 1)))
+          orelse why_need accounts f me p q room_needed orelse unless (not (same p.user nobody)) StartsNoJob;
       reads = λ s reply entries walk. walk_unless_full accounts s f p q reply entries walk;
     }
 
@@ -169,13 +177,28 @@ module _ (accounts : Accounts) (ok : AreAccounts accounts) (me : ProcName) (call
             refused_in_room accounts ok old new f me t ready m d (Wrap (m ∷ d)) result not_nobody (needs_room (m ∷ d))
             open_so_far absent roomy can is
 
+        -- the raw call is on what the reason names: the directory above, where it may not be written, and where nobody starts a job in it
+        above_unwritten : may ≡ false → IsDenialNamed accounts f me (Wrap (m ∷ d)) old new t ready next
+        above_unwritten fails =
+            unwritten_named accounts ok old new f me t ready m d (Wrap (m ∷ d)) result not_nobody (needs_room (m ∷ d)) open_so_far absent roomy
+            next refl fails
+
+        starts_no_job : may ≡ true → is_some (user_number accounts p.user) ≡ false
+            → IsDenialNamed accounts f me (Wrap (m ∷ d)) old new t ready next
+        unfolding needs_room
+        starts_no_job passes undeclared =
+            unmade_named accounts ok old new f me t ready m d (Wrap (m ∷ d)) result not_nobody (needs_room (m ∷ d)) open_so_far absent roomy
+            next refl passes StartsNoJob
+            (ap (λ (b : Bool). unless (not b) StartsNoJob) (is_nobody accounts ok (state old) f me t ready undeclared)) (λ makes. makes)
+
         -- the raw call is refused, and so is the Unix call
         given_back : (denied : Denied) (errno : Errno) → check (state mid) t next ≡ Some denied
             → errno_for next denied ≡ Some errno → errno_by_rule denied ≡ Some errno
+            → IsDenialNamed accounts f me (Wrap (m ∷ d)) old new t ready next
             → refused accounts f me p (Wrap (m ∷ d)) ≡ Some errno → Runs (ask_or_give_back (own, clearance) next within) mid new t result → Refined
-        given_back denied errno fails revealed by_rule is on =
+        given_back denied errno fails revealed by_rule named is on =
             given_back_step accounts f me (Wrap (m ∷ d)) old new t ready result before mid chain
-            errno is (own, clearance) next within denied fails revealed by_rule
+            errno is (own, clearance) next within denied fails revealed by_rule named
             (ap (λ (s : State). check s t (SetLabel own)) counted ∙ set_label_said accounts ok (state old) f me t ready)
             (ap (λ (s : State). check (with_changed s t (with_label own)) t (SetClearance clearance)) counted
             ∙ set_clearance_said accounts ok (state old) f me t ready)
@@ -191,9 +214,10 @@ module _ (accounts : Accounts) (ok : AreAccounts accounts) (me : ProcName) (call
         by_right : (can declared has : Bool) → may ≡ can → is_some (user_number accounts p.user) ≡ declared → has_number (state old) ≡ has
             → check (state mid) t next ≡ (unless can Modify orelse unless declared Range orelse unless has TooBig)
             → Runs (ask_or_give_back (own, clearance) next within) mid new t result → Refined
-        by_right false declared has is_may is_declared is_has said on = given_back Modify EACCES said refl refl (refused_is false is_may) on
+        by_right false declared has is_may is_declared is_has said on =
+            given_back Modify EACCES said refl refl (above_unwritten is_may) (refused_is false is_may) on
         by_right true false has is_may is_declared is_has said on =
-            given_back Range EPERM said refl refl (refused_is true is_may
+            given_back Range EPERM said refl refl (starts_no_job is_may is_declared) (refused_is true is_may
             ∙ ap (λ (b : Bool). unless (not b) EPERM)
             (is_nobody accounts ok (state old) f me t ready is_declared)) on
         by_right true true false is_may is_declared is_has said on =

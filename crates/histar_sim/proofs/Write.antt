@@ -1,10 +1,15 @@
 -- The program of `write` refines its rule.
 use Rattle.std.proofs.Common.{ℕ, List, [], ◌∷◌, refl}
+use Rattle.std.specs.Prelude.{nat_le, length}
+use Rattle.histar_base.specs.Refusals.{◌orelse◌, unless}
 use Rattle.histar_flat.specs.declared.calls.UnixCall.TheVariants as calls
 use Rattle.histar_flat.specs.Words.{Path, ProcName}
 use Rattle.histar_flat.specs.Accounts.{Accounts}
 use Rattle.histar_flat.specs.Classes.{Process}
 use Rattle.histar_flat.specs.FlatState.{Flat}
+use Rattle.histar_flat.specs.FlatCalls.{most_bytes}
+use Rattle.histar_reasons.specs.Reasons.{not_written}
+use Rattle.histar_reasons.specs.Reasons.Reason.{IsTooLong}
 use Rattle.histar_calls.specs.Write.{write_program}
 use Rattle.histar_sim.specs.Laws.{WriteRefines}
 use Rattle.histar_sim.proofs.CallErrors.{from_each}
@@ -14,7 +19,17 @@ use Rattle.histar_sim.proofs.Files.{WritesFile, slash_is_no_file, writing_step}
 write_writes : (accounts : Accounts) (f : Flat) (me : ProcName) (p : Process) (q : Path) (bytes : List ℕ)
     → WritesFile accounts f me p q (calls.Write q bytes) bytes
 write_writes accounts f me p q bytes =
-    record { reaches = record { refuses = refl; reads = λ s reply entries walk. walk }; changes = refl; answers = refl }
+    record {
+      reaches = record {
+        refuses = refl;
+        named = not_written accounts f p q orelse unless (nat_le (length bytes) most_bytes) (IsTooLong q (length bytes));
+        explains = refl;
+        reads = λ s reply entries walk. walk;
+      };
+      names = refl;
+      changes = refl;
+      answers = refl;
+    }
 
 -- the program of `write` refines its rule
 pub write_refines : WriteRefines

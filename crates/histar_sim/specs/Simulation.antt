@@ -30,6 +30,7 @@ use Rattle.histar_refinement.specs.Represents.{Represents}
 use Rattle.histar_refinement.specs.KeptNames.{RepresentsStill}
 use Rattle.histar_refinement.specs.Lines.{IsThreadOf}
 use Rattle.histar_sim.specs.Reads.{HasReads}
+use Rattle.histar_sim.specs.Named.{DenialsAreNamed}
 
 -- The process that makes a call runs.
 pub record IsRunning (f : Flat) (me : ProcName) : Type 0 where
@@ -79,12 +80,13 @@ pub record IsLine (accounts : Accounts) (before : State) (line : ℕ) (process :
   pub ends_with_read : (bytes : List ℕ) → reply ≡ Data bytes → EndsWithRead before entries bytes
   pub gone : reply ≡ Gone → entries ≡ []
 
--- The line refines its rule: its reply is what the flat state says, it has the reads that the call cannot do without, and the
--- state after it represents the flat state after the call. It does so under names that keep their numbers, whatever names the
--- state before is represented under.
+-- The line refines its rule: its reply is what the flat state says, it has the reads that the call cannot do without, each raw call that the
+-- kernel denied is on what the reason of the refusal names, and the state after it represents the flat state after the call. It does so under
+-- names that keep their numbers, whatever names the state before is represented under.
 pub record SimulatesLine (accounts : Accounts) (before : State) (f : Flat) (asked : CallLine) (entries : List TraceEntry) (after : State) : Type 0 where
   pub line : IsLine accounts before asked.line asked.process (reply_to accounts f asked.process asked.call) entries after
   pub reads : HasReads accounts before f (running f asked.process) asked.call (reply_to accounts f asked.process asked.call) entries
+  pub named : DenialsAreNamed accounts before f asked.process (running f asked.process) asked.call entries
   pub represents : Represents accounts after (flat_after accounts f asked.process asked.call)
   pub keeps : (old : Represents accounts before f)
       → RepresentsStill old after (flat_after accounts f asked.process asked.call)

@@ -6,4 +6,5 @@
 #![tactic(auto)]
 
 pub mod calls;
+pub mod denials;
 pub mod names;
