@@ -27,24 +27,24 @@ pub none_looked : (m : MachineModel) (n : ℕ) (old : List Watch) → AreLookedA
 none_looked m n old = record { long = refl; each = λ accounts f shows named. refl }
 
 -- one more was looked at
-pub one_looked : {m : MachineModel} {n i : ℕ} {old now : List Watch} → (watch : Watch) → AreLookedAt m n i old now → i < length now
-    → LooksAt m n (get_or now i watch) watch → AreLookedAt m n (i + 1) old (set now i watch)
-one_looked {m = m} {n = n} {i = i} {old = old} {now = now} watch are lt looks = record {
+pub one_looked : {m : MachineModel} {n i : ℕ} {old now : List Watch} → (d watch : Watch) → AreLookedAt m n i old now → i < length now
+    → LooksAt m n (get_or now i d) watch → AreLookedAt m n (i + 1) old (set now i watch)
+one_looked {m = m} {n = n} {i = i} {old = old} {now = now} d watch are lt looks = record {
   long = length-set now i watch ∙ are.long;
   each = λ accounts f shows named.
       let look = watch_in accounts f n in
       let few : i < length old = omega (arith, are.long) in
-      let x = get_or old i watch in
+      let x = get_or old i d in
       let front = map look (take i old) in
       let rest = drop (i + 1) old in
       let long : length front ≡ i = length-map (take i old) look ∙ length-take-le i old (omega arith) in
-      let here : now ≡ front ++ x ∷ rest = are.each accounts f shows named ∙ ap (λ (l : List Watch). front ++ l) (drop_more old i watch few) in
-      let was : get_or now i watch ≡ x = ap (λ (l : List Watch). get_or l i watch) here ∙ get_or_at front x rest watch i long in
-      let is : watch ≡ look x = looks accounts f shows named ∙ ap look was in
+      let here : now ≡ front ++ x ∷ rest = are.each accounts f shows named ∙ ap (λ (l : List Watch). front ++ l) (drop_more old i d few) in
+      let same : get_or now i d ≡ x = ap (λ (l : List Watch). get_or l i d) here ∙ get_or_at front x rest d i long in
+      let is : watch ≡ look x = looks accounts f shows named ∙ ap look same in
       ap (λ (l : List Watch). set l i watch) here ∙ set_at front x rest watch i long
       ∙ ap (λ (w : Watch). front ++ w ∷ rest) is
       ∙ sym (append_assoc front (look x ∷ []) rest)
-      ∙ ap (λ (l : List Watch). l ++ rest) (sym (ap (map look) (take_more old i watch few) ∙ map-append look (take i old) (x ∷ [])));
+      ∙ ap (λ (l : List Watch). l ++ rest) (sym (ap (map look) (take_more old i d few) ∙ map-append look (take i old) (x ∷ [])));
 }
 
 -- all were looked at
