@@ -1,15 +1,15 @@
 -- The breach of a claim that is found on a machine is that in the flat state.
-use Rattle.std.specs.Prelude.{◌≡◌, ℕ, ◌+◌, Bool, true, false, List, [], ◌∷◌, drop, get_or, length, map, Option}
+use Rattle.std.specs.Prelude.{◌≡◌, ℕ, ◌+◌, ◌-◌, ◌≤◌, Result, Ok, Err, IfOk, take, true, false, List, ◌∷◌, drop, get_or, length, map, Option}
 use Rattle.std.specs.Prelude.{None, Some, is_some}
 use Rattle.std.specs.Prelude.{if◌then◌else◌, option_and_then, refl, slice_get}
 use Rattle.std.specs.Option.{option_or}
-use Rattle.std.proofs.Common.{ap, subst, sym, ◌∙◌}
+use Rattle.std.proofs.Common.{ap, arith, sym, ◌∙◌}
 use Rattle.std.proofs.lemmas.Bool.{true≢false}
-use Rattle.std.proofs.lemmas.List.{drop_more}
+use Rattle.std.proofs.lemmas.List.{drop_more, take_rest}
 use Rattle.std.proofs.lemmas.Option.{get_or_from_slice_get, slice_get_within}
 use Rattle.histar_flat.specs.declared.calls.User.{User}
 use Rattle.histar_flat.specs.Accounts.{Accounts}
-use Rattle.histar_flat.specs.Classes.{Process, nobody}
+use Rattle.histar_flat.specs.Classes.{nobody}
 use Rattle.histar_flat.specs.FlatState.{Flat}
 use Rattle.histar_flat.specs.Words.{Name, ProcName}
 use Rattle.histar_syscall.specs.KernelModel.{state}
@@ -41,6 +41,11 @@ use Rattle.histar_never.proofs.Alone.{of_one}
 use Rattle.histar_never.proofs.Broken.{breach_parts}
 use Rattle.histar_never.proofs.Firsts.{first_filter_map, first_map}
 use Rattle.histar_never.proofs.Joined.{joined}
+
+-- what holds of each value holds of a result
+pub on_ok : {A E : Type 0} {P Q : A → Type 0} → ((x : A) → P x → Q x) → (r : Result A E) → IfOk r P → IfOk r Q
+on_ok h (Ok x) is = h x is
+on_ok h (Err e) is = tt
 
 -- an answer that is there comes first, and one that isn't leaves the other
 pub comes_first : {B : Type 0} (o p : Option B) → is_some o ≡ true → o ≡ option_or o p
@@ -90,15 +95,20 @@ module _ (m : MachineModel) (never : Never) where
 
   -- ---- processes
 
-  -- the first of these processes breaks the claim
-  pub node_breaks : (nodes : List ProcessNode) (node : ProcessNode) (more : List ProcessNode) (found : Option Breach)
-      → ((accounts : Accounts) (f : Flat)
-      → first_of (node_breach accounts f never) nodes ≡ first_of (node_breach accounts f never) (node ∷ more))
-      → IsNodeBreach m never node found → is_some found ≡ true → IsBreachAmong m never nodes found
-  node_breaks nodes node more found so_far one some accounts f shows =
-      comes_first found _ some
-      ∙ ap (λ o. option_or o (first_of (node_breach accounts f never) more)) (one accounts f shows)
-      ∙ sym (so_far accounts f)
+  -- a process that breaks nothing leaves the others
+  pub nodes_go_on : (nodes rest : List ProcessNode) (node : ProcessNode) → 1 ≤ length rest → node ≡ get_or rest 0 node
+      → ((accounts : Accounts) (f : Flat) → Shows accounts m f
+      → first_of (node_breach accounts f never) nodes ≡ first_of (node_breach accounts f never) rest)
+      → (found : Option Breach) → IsNodeBreach m never node found → found ≡ None
+      → (accounts : Accounts) (f : Flat) → Shows accounts m f
+      → first_of (node_breach accounts f never) nodes
+      ≡ first_of (node_breach accounts f never) (take (length rest - 1) (drop 1 rest))
+  nodes_go_on nodes rest node some here so_far found one none accounts f shows =
+      let split : rest ≡ node ∷ take (length rest - 1) (drop 1 rest) =
+      drop_more rest 0 node (omega (arith, some)) ∙ (λ i. sym here i ∷ sym (take_rest rest 1) i) in
+      so_far accounts f shows ∙ ap (first_of (node_breach accounts f never)) split
+      ∙ ap (λ o. option_or o (first_of (node_breach accounts f never) (take (length rest - 1) (drop 1 rest))))
+      (sym (one accounts f shows) ∙ none)
 
   -- ---- users
 
