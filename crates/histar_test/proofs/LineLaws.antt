@@ -115,8 +115,8 @@ step_from accounts n line (Some (Expects text)) is = tt
 step_from accounts n line (Some (Asks q)) is = tt
 step_from accounts n line (Some (Forbids q)) is = tt
 
-lines_from : (accounts : Accounts) (n : ℕ) (is_open : Bool) (lines : List (List ℕ)) (steps : List Step) → steps_from accounts n is_open lines ≡ Ok steps
-    → AreFrom n (calls_in steps)
+lines_from : (accounts : Accounts) (n : ℕ) (is_open : Bool) (lines : List (List ℕ)) (steps : List Step)
+    → steps_from accounts n is_open lines ≡ Ok steps → AreFrom n (calls_in steps)
 unfolding steps_from
 lines_from accounts n is_open [] steps read = let none : steps ≡ [] = cc in subst (λ (s : List Step). AreFrom n (calls_in s)) (sym none) tt
 lines_from accounts n is_open (line ∷ lines) steps read =
@@ -231,8 +231,9 @@ module _ (script : ScriptModel) where
           )
 
       -- the case of a line with a question
-      asked_there : (q : Asking) (last : Option Made) → step_of script.accounts n line ≡ Ok (Some (Asks q)) → open_after is_open (Asks q) ≡ Some opened
-          → script.calls ≡ done ++ calls_in rest → is_some last ≡ is_open → HasLast done last → AreOfLines n (line ∷ lines) done last (Asks q ∷ rest)
+      asked_there : (q : Asking) (last : Option Made) → step_of script.accounts n line ≡ Ok (Some (Asks q))
+          → open_after is_open (Asks q) ≡ Some opened → script.calls ≡ done ++ calls_in rest → is_some last ≡ is_open → HasLast done last
+          → AreOfLines n (line ∷ lines) done last (Asks q ∷ rest)
       asked_there q last is opens calls was has =
           let o = own (Some (Asks q)) is refl in
           let w = rights_wanted n line (asked_of line) (expectation_of line) (call_in n (item_of line)) q o.1 in
@@ -243,7 +244,8 @@ module _ (script : ScriptModel) where
                 (subst (λ (o : Option (List ℕ)). MatchOption o (IsSomeAnd (expectation_of line) (λ t. check.wanted ≡ Text t))
                 (λ asked. IsSomeAnd (asking_of n asked) (λ (x : Asking). check.wanted ≡ Text (wanted_text x)))) (sym w.1)
                 (subst (λ (o : Option Asking). IsSomeAnd o (λ (x : Asking). check.wanted ≡ Text (wanted_text x))) (sym w.2) refl))
-                (subst (λ (o : Option (List ℕ)). MatchOption o (IsLastAnswer check.made (meaning script.accounts (calls_before (Some n) script.calls)))
+                (subst (λ (o : Option (List ℕ)).
+                MatchOption o (IsLastAnswer check.made (meaning script.accounts (calls_before (Some n) script.calls)))
                 (λ asked. IsSomeAnd (asking_of n asked)
                 (λ (x : Asking). check.made ≡ asked_in script.accounts (state_before (Some n) script) x)))
                 (sym w.1)
@@ -312,8 +314,9 @@ module _ (script : ScriptModel) where
       subst (AreOfLines n [] done last) (sym none) tt
   lines_checked n is_open (line ∷ lines) steps done last read calls before was has =
       let on = on_line script.accounts n is_open line lines steps read in
+      let from = lines_from script.accounts n is_open (line ∷ lines) steps read in
       let at : calls_before (Some n) script.calls ≡ done =
-      ap (calls_before (Some n)) calls ∙ before_line n done (calls_in steps) before (lines_from script.accounts n is_open (line ∷ lines) steps read) in
+      ap (calls_before (Some n)) calls ∙ before_line n done (calls_in steps) before from in
       let all : script.calls ≡ done ++ (calls_by on.step ++ calls_in on.rest) =
       calls ∙ ap (λ (cs : List CallLine). done ++ cs) (ap calls_in on.parts ∙ calls_on on.step on.rest) in
       subst (AreOfLines n (line ∷ lines) done last) (sym on.parts)
@@ -370,7 +373,8 @@ module _ (script : ScriptModel) where
         subst (λ (o : Option (List ℕ)). MatchOption o (IsAnsweredOn script line check)
             (λ claim. IsSomeAnd (never_of script.accounts line.number claim)
             (λ (other : Never). check ≡ never_check script.accounts script.calls other))) (sym is.on_line)
-            (subst (λ (o : Option Never). IsSomeAnd o (λ (other : Never). check ≡ never_check script.accounts script.calls other)) (sym is.reads) refl),
+            (subst (λ (o : Option Never). IsSomeAnd o (λ (other : Never). check ≡ never_check script.accounts script.calls other))
+            (sym is.reads) refl),
       )
 
 -- ---- whole texts

@@ -230,12 +230,14 @@ module _ (text : List ℕ) (accounts : Accounts) where
           let calls : makes_call line ≡ true = any_number (n + 1) (item_of line) ∙ ap is_some w.2 in
           let misses : is_expected_in (line ∷ lines) ≡ false =
           ap₂ (λ (e : Option (List ℕ)) (m : Bool). if is_some e then true else if m then false else is_expected_in lines) w.1 calls in
-          let at : drop c.line (lines_of text) ≡ lines = ap (λ (k : ℕ). drop k (lines_of text)) (line_of_step accounts (n + 1) line c said is) ∙ behind in
+          let number = line_of_step accounts (n + 1) line c said is in
+          let at : drop c.line (lines_of text) ≡ lines = ap (λ (k : ℕ). drop k (lines_of text)) number ∙ behind in
           let answers : refused_from f (Makes c said ∷ rest) ≡ due (Some a) lines ++ refused_from after rest =
           ap (λ (ls : List (List ℕ)).
           if is_refusal a.reply && not (is_expected_in ls) then a ∷ refused_from after rest else refused_from after rest) at
           ∙ one_more (is_refusal a.reply && not (is_expected_in lines)) a (refused_from after rest) in
-          subst (λ (cs : List Check). Are cs (due o (line ∷ lines) ++ refused_from f (Makes c said ∷ rest))) (sym (filter-append has_none opening more))
+          subst (λ (cs : List Check). Are cs (due o (line ∷ lines) ++ refused_from f (Makes c said ∷ rest)))
+          (sym (filter-append has_none opening more))
           (subst (λ (l : List RepliedCall). Are (filter has_none opening ++ filter has_none more) (due o (line ∷ lines) ++ l)) (sym answers)
           (are_both (filter has_none opening) (due o (line ∷ lines)) (filter has_none more) (due (Some a) lines ++ refused_from after rest)
           (closed_due last o (line ∷ lines) has misses) (later after (Some made) (Some a) (same_Some true opened opens) (refl, refl, refl))))

@@ -173,7 +173,8 @@ checks_taken strict accounts f last (Forbids q ∷ steps) = checks_taken strict 
 claims_watched : (accounts : Accounts) (calls : List CallLine) (nevers : List Never)
     → map watch_check (watches_after accounts (boot accounts) calls (map unbroken nevers)) ≡ map (never_check accounts calls) nevers
 claims_watched accounts calls [] = refl
-claims_watched accounts calls (never ∷ nevers) = ap (λ (cs : List Check). never_check accounts calls never ∷ cs) (claims_watched accounts calls nevers)
+claims_watched accounts calls (never ∷ nevers) =
+    ap (λ (cs : List Check). never_check accounts calls never ∷ cs) (claims_watched accounts calls nevers)
 
 -- the checks of a test whose steps were split
 pub whole_checks : (strict : Bool) (accounts : Accounts) (steps taken : List Step) (watches : List Watch) → AreSplit steps taken watches
@@ -188,7 +189,8 @@ whole_checks strict accounts steps taken watches are =
 
 -- ---- a whole test
 
-module _ {accounts : Accounts} {strict : Bool} {tally : Tally} {watches : List Watch} {start : Run} (starts : Starts accounts strict tally watches start) where
+module _ {accounts : Accounts} {strict : Bool} {tally : Tally} {watches : List Watch} {start : Run}
+    (starts : Starts accounts strict tally watches start) where
   -- the machine of a run represents the start, to which no calls lead
   pub watched_start : IsWatched accounts (boot accounts) start.watched
   watched_start = record {

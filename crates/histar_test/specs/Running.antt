@@ -162,7 +162,8 @@ BeginsStep file old step before after =
     (accounts : Accounts) (f : Flat) → IsWatched accounts f old.watched → AppendsFront before after (step_text file accounts f old step)
 
 -- steps were taken from a flat state: their checks were written and counted, and each claim that they broke first is known
-pub record AreTaken (accounts : Accounts) (f : Flat) (file : List ℕ) (old new : Run) (steps : List Step) (before after : Option (List ℕ)) : Type 0 where
+pub record AreTaken (accounts : Accounts) (f : Flat) (file : List ℕ) (old new : Run) (steps : List Step) (before after : Option (List ℕ))
+    : Type 0 where
   pub written : Appends before after (checks_text file (old.tally.count + 1) (checks_ahead accounts f old steps))
   pub tally : new.tally ≡ tally_with old.tally (checks_ahead accounts f old steps)
   pub watches : new.watched.watches.items ≡ watches_after accounts f (calls_in steps) old.watched.watches.items
@@ -198,7 +199,8 @@ test_checks accounts f run steps =
     checks_ahead accounts f run steps ++ map watch_check (watches_after accounts f (calls_in steps) run.watched.watches.items)
 
 -- the steps of a test were taken from a flat state, and all checks were written and counted
-pub record IsRun (accounts : Accounts) (f : Flat) (file : List ℕ) (old new : Run) (steps : List Step) (before after : Option (List ℕ)) : Type 0 where
+pub record IsRun (accounts : Accounts) (f : Flat) (file : List ℕ) (old new : Run) (steps : List Step) (before after : Option (List ℕ))
+    : Type 0 where
   pub written : Appends before after (checks_text file (old.tally.count + 1) (test_checks accounts f old steps))
   pub tally : new.tally ≡ tally_with old.tally (test_checks accounts f old steps)
 

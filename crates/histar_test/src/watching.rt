@@ -141,10 +141,10 @@ fn is_refusal(reply: &Reply) -> bool
 /// Returns the call on line `number`, which has this text, with its reply.
 fn answered(alloc: Global, number: u32, said: Bytes, reply: &Reply) -> Result<Made, AllocError>
     ensures { IfOk result (λ made. made ≡ record {
-        line = number;
-        said = said;
-        reply = reply_text reply.now;
-        is_refused = is_refusal reply.now;
+      line = number;
+      said = said;
+      reply = reply_text reply.now;
+      is_refused = is_refusal reply.now;
     }) }
 {
     let text = reply_text(alloc, reply)?;
@@ -183,11 +183,7 @@ pub(crate) fn split_steps(
 }
 
 /// Adds a step to those that are taken at their places, or to the claims.
-fn split_step(
-    taken: &mut Vec<Step>,
-    watches: &mut Vec<Watch>,
-    step: Step,
-) -> Result<(), AllocError>
+fn split_step(taken: &mut Vec<Step>, watches: &mut Vec<Watch>, step: Step) -> Result<(), AllocError>
     ensures { OnOk result (AreSplitWith step taken.old.items taken.new.items
         watches.old.items watches.new.items) }
 {

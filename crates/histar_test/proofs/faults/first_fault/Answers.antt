@@ -17,8 +17,9 @@ returns-in-Some c =
     let says : line_fault c.args.accounts.now c.lines.last line ≡ Some c.in-Some.said.now = search rules in
     let broken : is_none (line_fault c.args.accounts.now c.lines.last line) ≡ false = ap is_none says in
     let whole = found line rest c.split_line.ensures.first c.lines.invariant.is_behind broken ∙ says in
+    let accounts = c.args.accounts.now in
     let lines = lines_of c.args.text.now in
-    says_same c.copied.result (Some c.in-Some.said.now) (fault_in c.args.accounts.now lines (steps_from c.args.accounts.now 1 false lines)) (sym whole) c.copied.ensures
+    says_same c.copied.result (Some c.in-Some.said.now) (fault_in accounts lines (steps_from accounts 1 false lines)) (sym whole) c.copied.ensures
 
 pub lines-preserved : goal.lines-preserved
 lines-preserved c =

@@ -17,9 +17,11 @@ returns-in_default c =
 
 pub returns-in_default-open_after : goal.returns-in_default-open_after
 returns-in_default-open_after c =
-    let may : open_after c.args.reading.now.is_open c.in-Some.step ≡ None = search rules in
-    (refl, step_refused c.args.accounts.now c.args.number c.args.line.now c.args.reading.now.is_open c.in-Some.step
-    (read_as c.in_ok-step.ensures c.in-Some.is) may)
+    let may : open_after c.args.reading.now.is_open c.in-Some.step ≡ None = search rules in (
+      refl,
+      step_refused c.args.accounts.now c.args.number c.args.line.now c.args.reading.now.is_open c.in-Some.step
+          (read_as c.in_ok-step.ensures c.in-Some.is) may,
+    )
 
 pub returns : goal.returns
 returns c =

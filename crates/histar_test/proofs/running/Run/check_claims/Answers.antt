@@ -32,8 +32,9 @@ returns-in_err-check-clause-err g c =
     c.in-Some.is c.next.ensures.steps in
     let parts = parts_at watches c.claims.yielded c.in-Some.watch (sym (map-id c.claims.yielded) ∙ so_far) turn in
     let whole = ap (λ (v : Vec Watch). v.items) (sym c.replace-watches.ensures.value) ∙ parts in
-    rw p.1 (counted_front c.claims.invariant.counted c.in-Some.watch c.args.self.now.watched.watches.items _ (watch_check c.in-Some.watch) _ whole refl
-    (_, sent_none _ _))
+    rw p.1
+    (counted_front c.claims.invariant.counted c.in-Some.watch c.args.self.now.watched.watches.items _ (watch_check c.in-Some.watch) _ whole
+    refl (_, sent_none _ _))
 
 pub returns-in_err-count_check-clause-err : goal.returns-in_err-count_check-clause-err
 returns-in_err-count_check-clause-err g c =

@@ -20,4 +20,5 @@ returns-clause-ok c =
     let means = subst (λ (r : Result Reply Stopped). FollowsMeaning c.args.self.now.machine c.step.new.self call.line call.process call.call r)
     c.in-Ok.is c.step.ensures.means in
     call_watched c.args.self.now c.step.new.self call c.in-Ok.reply means c.may_change.result c.look.new.self
-    (c.may_change.ensures ∙ ap (λ (asks : Bool). not asks && is_answer c.in-Ok.reply) c.is_question-asks.ensures) c.in_ok-look.ensures c.args.said c.in_ok-made.made c.in_ok-made.ensures
+    (c.may_change.ensures ∙ ap (λ (asks : Bool). not asks && is_answer c.in-Ok.reply) c.is_question-asks.ensures) c.in_ok-look.ensures
+    c.args.said c.in_ok-made.made c.in_ok-made.ensures
