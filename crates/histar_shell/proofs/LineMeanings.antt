@@ -35,6 +35,7 @@ use Rattle.histar_refinement.proofs.StatusFound.{thread_led}
 use Rattle.histar_flat.specs.Calls.{IsCall}
 use Rattle.histar_sim.specs.Simulation.{IsLine, IsReady, FollowsRule, IsFirstFree, AreFilesSmall}
 use Rattle.histar_sim.specs.Reads.{HasReads}
+use Rattle.histar_sim.specs.Named.{DenialsAreNamed}
 use Rattle.histar_sim.proofs.FirstFree.{first_free_after}
 use Rattle.histar_shell.specs.Machine.{MachineModel, on_line, program_of, Makes, HasMade, AnswersFound, AnswersRunning, AnswersIf, AnswersLine}
 use Rattle.histar_shell.specs.Meaning.{Shows, EndsAsMeant, FollowsMeaning}
@@ -168,6 +169,7 @@ module _ (refinements : CallsRefine) (accounts : Accounts) (old new : MachineMod
         refined = record {
           line = subst (λ (r : Reply). IsLine accounts (state old.kernel) line me r [] (state old.kernel)) (sym still.0) is_line;
           reads = subst (λ (o : Option Process). HasReads accounts (state old.kernel) f o call (reply_to accounts f me call) []) (sym none) tt;
+          named = subst (λ (o : Option Process). DenialsAreNamed accounts (state old.kernel) f me o call []) (sym none) tt;
           represents = subst (Represents accounts (state old.kernel)) (sym still.1) shows.represents;
           keeps = λ from. subst (RepresentsStill from (state old.kernel)) (sym still.1) (still_represents from (state old.kernel) refl);
         };

@@ -19,7 +19,7 @@ use Rattle.histar_flat.specs.Classes.{Process}
 use Rattle.histar_flat.specs.FlatState.{Flat, Node, is_some_and, is_dir}
 use Rattle.histar_flat.specs.CallRules.{path_of, rule}
 use Rattle.histar_flat.specs.Effects.{life_reply, stat_reply}
-use Rattle.histar_flat.specs.FlatCalls.{refused, answer, changed, reply_or, flat_or, running, reply_by, flat_by, reply_to, flat_after}
+use Rattle.histar_flat.specs.FlatCalls.{refused, answer, changed, reply_or, flat_or, running, reply_by, flat_by, reply_to}
 use Rattle.histar_reasons.specs.Reasons.{Reason, errno_of, why}
 use Rattle.histar_reasons.proofs.Agreeing.{agrees, grounded_at}
 use Rattle.histar_object.specs.State.{State}

@@ -1,5 +1,5 @@
 -- Where a test of a rule fails, the reason is that test's: what may not be read or written, and where a test passes it has none.
-use Rattle.std.proofs.Common.{◌≡◌, Bool, true, false, [], ◌∷◌, Option, None, Some, refl, sym, ap, ◌∙◌, subst}
+use Rattle.std.proofs.Common.{◌≡◌, true, false, Option, None, Some, refl, sym, ap, ◌∙◌, subst}
 use Rattle.std.specs.Prelude.{option_map}
 use Rattle.std.specs.Option.{IsSomeAnd}
 use mathlib.Core.Bool.{true≢false}

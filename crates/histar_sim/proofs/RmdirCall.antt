@@ -103,8 +103,8 @@ module _ (accounts : Accounts) (ok : AreAccounts accounts) (old new : KernelMode
   is_empty = length (entries_in f (m ∷ d)) == 0
 
   -- the reasons of a directory: that it may not be read, that it is not empty, or that the one above may not be written
-  abbrev behind : Option Reason → Bool → Option Reason
-  behind unread empty = unread orelse unless empty (IsNotEmpty (m ∷ d) (length (entries_in f (m ∷ d)))) orelse not_written accounts f p d
+  abbrev reasons : Option Reason → Bool → Option Reason
+  reasons unread empty = unread orelse unless empty (IsNotEmpty (m ∷ d) (length (entries_in f (m ∷ d)))) orelse not_written accounts f p d
 
   -- what comes after the entry was found, and after the directory was read
   abbrev when_read : FoundEntry → Directory → Program
@@ -126,10 +126,10 @@ module _ (accounts : Accounts) (ok : AreAccounts accounts) (old new : KernelMode
 
     module _ (class : Class) (at : get f.files (m ∷ d) ≡ Some (record { class = class; content = Dir })) where
       -- a directory is there: the reason is its own, or that of the one above
-      reason_is : why accounts f me p call ≡ behind (not_read accounts f p (m ∷ d)) is_empty
+      reason_is : why accounts f me p call ≡ reasons (not_read accounts f p (m ∷ d)) is_empty
       reason_is =
           let clear = entry_clear accounts ok (state old) f me t ready m d open_so_far _ at in
-          λ i. clear i orelse unless (is_some_and (at i) is_dir) (HasFile (m ∷ d)) orelse behind (not_read accounts f p (m ∷ d)) is_empty
+          λ i. clear i orelse unless (is_some_and (at i) is_dir) (HasFile (m ∷ d)) orelse reasons (not_read accounts f p (m ∷ d)) is_empty
 
       is_dir_here : is_dir_at f (m ∷ d) ≡ true
       is_dir_here = ap (λ (o : Option Node). is_some_and o is_dir) at
@@ -152,7 +152,7 @@ module _ (accounts : Accounts) (ok : AreAccounts accounts) (old new : KernelMode
               path = refl;
               explains =
                   reason_is
-                  ∙ (λ i. behind (read_directory_at accounts ok (state old) f me t ready (m ∷ d) is_dir_here sees i) (is i));
+                  ∙ (λ i. reasons (read_directory_at accounts ok (state old) f me t ready (m ∷ d) is_dir_here sees i) (is i));
               removes = refl;
               answers = refl;
             })
@@ -183,7 +183,7 @@ module _ (accounts : Accounts) (ok : AreAccounts accounts) (old new : KernelMode
           (λ unseen.
           let unread = unread_directory accounts ok (state old) f me t ready (m ∷ d) (is_dir_here class at) unseen in
           read_named accounts ok old new f me t ready call result (m ∷ d) (is_dir_here class at) unread.0
-          (reason_is class at ∙ ap (λ (o : Option Reason). behind o is_empty) unread.1))
+          (reason_is class at ∙ ap (λ (o : Option Reason). reasons o is_empty) unread.1))
           (λ sees later same longer rest. emptied class at sees later same longer rest)
       by_content class (File bytes) at on =
           refused_at_once accounts f me call old new t ready result walk mid chain stays
@@ -200,7 +200,7 @@ module _ (accounts : Accounts) (ok : AreAccounts accounts) (old new : KernelMode
       (refusal (is_dir_at f (m ∷ d)) (reads accounts f p (m ∷ d)) is_empty) refl
       (λ none steps r among. walk_suffices steps r none among) at_entry
       (entry_explained accounts f me p m d call
-      (unless (is_dir_at f (m ∷ d)) (HasFile (m ∷ d)) orelse behind (not_read accounts f p (m ∷ d)) is_empty) refl) run
+      (unless (is_dir_at f (m ∷ d)) (HasFile (m ∷ d)) orelse reasons (not_read accounts f p (m ∷ d)) is_empty) refl) run
       (λ open_so_far class content at mid stays chain on. by_content open_so_far mid stays chain class content at on)
 
 -- an rmdir of `/`
