@@ -5,6 +5,5 @@ pub mod Tabled
 pub mod Adding
 pub mod Gathered
 pub mod Held
-pub mod Questions
 pub mod Again
 pub mod Making

@@ -15,13 +15,13 @@ use Rattle.histar_shell.specs.Machine.{MachineModel}
 use Rattle.histar_shell.specs.Meaning.{FollowsMeaning, Shows, ShowsStart}
 use Rattle.histar_access.specs.Shown.{IsShown}
 use Rattle.histar_ever.specs.declared.ever.Ever.{Ever}
-use Rattle.histar_ever.specs.Changing.{is_question, may_change}
+use Rattle.histar_never.specs.Changing.{is_question, may_change}
 use Rattle.histar_ever.specs.Following.{AddsState, FollowsCalls, GathersRun, IsAfter, IsRunning, IsStarted}
 use Rattle.histar_ever.specs.Gathering.{Gathers}
 use Rattle.histar_ever.specs.States.{states_from}
 use Rattle.histar_ever.proofs.Again.{last_again}
 use Rattle.histar_ever.proofs.Gathered.{state_added, states_more}
-use Rattle.histar_ever.proofs.Questions.{others_change_nothing}
+use Rattle.histar_never.proofs.Questions.{others_change_nothing}
 
 -- ---- one call
 

@@ -3,17 +3,15 @@ use Rattle.std.specs.Prelude.{◌≡◌, ◌↔◌, Bool, true, false, is_some, 
 use Rattle.std.specs.List.{Contains}
 use Rattle.std.specs.List.Sorted.{IsStrictlySortedBy}
 use Rattle.histar_flat.specs.declared.calls.CallLine.{CallLine}
-use Rattle.histar_flat.specs.declared.calls.UnixCall.{UnixCall}
 use Rattle.histar_flat.specs.Words.{Path, ProcName}
 use Rattle.histar_base.specs.Paths.{path_cmp}
 use Rattle.histar_flat.specs.Accounts.{Accounts}
 use Rattle.histar_flat.specs.FlatState.{Flat, is_there}
-use Rattle.histar_flat.specs.FlatCalls.{flat_after, reply_to, running}
+use Rattle.histar_flat.specs.FlatCalls.{running}
 use Rattle.histar_flat.specs.Meaning.{boot, flat_end}
 use Rattle.histar_rights.specs.declared.rights.Rights.{Rights}
 use Rattle.histar_rights.specs.Running.{process_cmp}
 use Rattle.histar_diff.specs.Shown.{rights_of}
-use Rattle.histar_ever.specs.Changing.{may_change}
 use Rattle.histar_ever.specs.Ever.{ever_paths, ever_processes, ever_rights}
 use Rattle.histar_ever.specs.States.{states_from}
 
@@ -51,9 +49,3 @@ pub record ProcessesRan : Type 0 where
   pub each : (accounts : Accounts) (calls : List CallLine) (p : ProcName)
       → Contains (ever_processes (states_from accounts (boot accounts) calls)) p
       ↔ HeldOnce accounts (boot accounts) calls (λ f. is_some (running f p))
-
--- a call that can't have changed anything, by its reply, leaves the flat state as it was
-abbrev pub OthersChangeNothing : Type 0
-OthersChangeNothing =
-    (accounts : Accounts) (f : Flat) (me : ProcName) (call : UnixCall) → may_change call (reply_to accounts f me call) ≡ false
-    → flat_after accounts f me call ≡ f

@@ -1,7 +1,6 @@
 -- The definitions of this crate that contracts cite.
 pub mod States
 pub mod Ever
-pub mod Changing
 pub mod Laws
 pub mod Gathering
 pub mod Following

@@ -1,6 +1,6 @@
 //! What the letters, the paths and the processes of a run mean. Each law is the contract of a function that
 //! does nothing.
-ghost use Rattle.histar_ever.specs.Laws.{LettersWereThere, OthersChangeNothing, PathsWereThere, ProcessesRan};
+ghost use Rattle.histar_ever.specs.Laws.{LettersWereThere, PathsWereThere, ProcessesRan};
 
 /// Shows that a process has a letter at a path exactly if it had it there before some call of the script, or
 /// after the last one.
@@ -18,9 +18,4 @@ pub fn paths_were_there()
 /// last one.
 pub fn processes_ran()
     ensures { ProcessesRan }
-{}
-
-/// Shows that a call that is refused, is answered by `gone` or only asks leaves the flat state as it was.
-pub fn others_change_nothing()
-    ensures { OthersChangeNothing }
 {}

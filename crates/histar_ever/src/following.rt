@@ -4,11 +4,11 @@ ghost use Rattle.histar_prefix.specs.Prefix.{calls_before, is_before as comes_be
 ghost use Rattle.histar_access.specs.Shown.{IsShown};
 ghost use Rattle.histar_ever.specs.Following.{AddsState, FollowsCalls, GathersRun, IsRunning, IsStarted};
 
-use crate::changing::{is_question, may_change};
 use crate::ever::Ever;
 use histar_access::table_of;
 use histar_flat::CallLine;
 use histar_label::LabelStore;
+use histar_never::{is_question, may_change};
 use histar_script::Fault;
 use histar_shell::Machine;
 use std::alloc::{AllocError, Global};

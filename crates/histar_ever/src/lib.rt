@@ -2,7 +2,6 @@
 //! process had at the path before some line or after the last one.
 #![tactic(auto)]
 
-mod changing;
 mod ever;
 pub mod ever_laws;
 mod following;
