@@ -57,11 +57,6 @@ module _ {A : Type 0} (g : A → Rights) where
   any_letter letter none by [] = none
   any_letter letter none by (x ∷ xs) = by (g x) (any_rights g xs) ∙ ap (λ b. letter (g x) || b) (any_letter letter none by xs)
 
--- tests of a list that is made of another
-pub any_test : {A B : Type 0} (t : A → Bool) (h : B → A) (xs : List B) → list_any t (map h xs) ≡ list_any (λ x. t (h x)) xs
-any_test t h [] = refl
-any_test t h (x ∷ xs) = ap (λ b. t (h x) || b) (any_test t h xs)
-
 -- tests of two lists
 pub any_in_both : {A : Type 0} (t : A → Bool) (xs ys : List A) → list_any t (xs ++ ys) ≡ (list_any t xs || list_any t ys)
 any_in_both t [] ys = refl

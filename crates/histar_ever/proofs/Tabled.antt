@@ -29,7 +29,8 @@ use Rattle.histar_diff.proofs.Steps.{process_cmp_exact, process_cmp_total}
 use Rattle.histar_ever.specs.Ever.{any_rights, either, paths_in, processes_in}
 use Rattle.histar_ever.specs.Gathering.{line_letters, row_letters}
 use Rattle.histar_ever.proofs.Keys.{either_way}
-use Rattle.histar_ever.proofs.Letters.{any_of, any_same, any_test, either_none}
+use Rattle.histar_ever.proofs.Letters.{any_of, any_same, either_none}
+use Rattle.histar_never.proofs.Parts.{any_test}
 
 -- ---- the letters at one key of entries that rise
 
