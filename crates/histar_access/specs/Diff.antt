@@ -195,23 +195,25 @@ abbrev pub ReadsUsersTable : Option ℕ → List ℕ → Result UsersTable Fault
 ReadsUsersTable at text (Ok t) = IsUsersTableOf at text t
 ReadsUsersTable at text (Err fault) = Gives {A = ScriptModel} (Err fault) (script_of text)
 
--- both texts are scripts, and the bytes are what `shows` says of them
-pub record IsTextBetween (shows : Scripts → List ℕ → Type 0) (a b bytes : List ℕ) : Type 0 where
+-- both texts are scripts, and the bytes are in this relation to them
+pub record IsTextBetween (says : Scripts → List ℕ → Type 0) (a b bytes : List ℕ) : Type 0 where
   pub scripts : Scripts
   pub are_read : scripts_of a b ≡ Ok scripts
-  pub is_text : shows scripts bytes
+  pub is_text : says scripts bytes
 
--- the texts were read as scripts, and this is what `shows` says of them, or the first fault of the two is the result
+-- the texts were read as scripts, and the bytes are in this relation to them, or the first fault of the two is the result
 abbrev pub ReadsScripts : (Scripts → List ℕ → Type 0) → List ℕ → List ℕ → Result (Vec ℕ) Fault → Type 0
-ReadsScripts shows a b (Ok text) = IsTextBetween shows a b text.items
-ReadsScripts shows a b (Err fault) = Gives {A = Scripts} (Err fault) (scripts_of a b)
+ReadsScripts says a b (Ok text) = IsTextBetween says a b text.items
+ReadsScripts says a b (Err fault) = Gives {A = Scripts} (Err fault) (scripts_of a b)
 
--- the same, for the text of what changed between the scripts, for their processes, and for their users
+-- the texts were read as scripts, and this is the text of what changed between them, or the first fault of the two is the result
 abbrev pub ReadsChanges : DiffOptions → List ℕ → List ℕ → Result (Vec ℕ) Fault → Type 0
 ReadsChanges options = ReadsScripts (IsTextOfChanges options)
 
+-- the same, for the text of what changed for processes
 abbrev pub ReadsProcessChanges : DiffOptions → List ℕ → List ℕ → Result (Vec ℕ) Fault → Type 0
 ReadsProcessChanges options = ReadsScripts (IsTextOfProcesses options)
 
+-- the same, for the text of what changed for users
 abbrev pub ReadsUserChanges : DiffOptions → List ℕ → List ℕ → Result (Vec ℕ) Fault → Type 0
 ReadsUserChanges options = ReadsScripts (IsTextOfUsers options)
