@@ -96,11 +96,7 @@ pub fn rights_ever(alloc: Global, script: &[u8], at: Option<u32>) -> Result<Vec<
 }
 
 /// Returns the table of the rights that users ever had in a script, before a line or up to its end.
-pub fn user_rights_ever(
-    alloc: Global,
-    script: &[u8],
-    at: Option<u32>,
-) -> Result<Vec<u8>, Fault> {
+pub fn user_rights_ever(alloc: Global, script: &[u8], at: Option<u32>) -> Result<Vec<u8>, Fault> {
     let mut reader = Counted::new(script);
     let mut writer = Counted::new(Vec::new(alloc));
     let done = access_users_ever(alloc, &mut reader, &mut writer, at);
