@@ -27,7 +27,6 @@ use Rattle.histar_prefix.specs.Prefix.{calls_before, state_before}
 use Rattle.histar_never.specs.declared.claims.Never.{Never}
 use Rattle.histar_never.specs.Claims.{never_of}
 use Rattle.histar_test.specs.declared.checks.Check.{Check}
-use Rattle.histar_test.specs.declared.checks.Wanted.{Wanted}
 use Rattle.histar_test.specs.declared.checks.Wanted.TheVariants.{NoBreach, Text}
 use Rattle.histar_test.specs.declared.checks.Made.{Made}
 use Rattle.histar_test.specs.declared.asking.Asking.{Asking}

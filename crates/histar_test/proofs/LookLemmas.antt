@@ -1,5 +1,5 @@
 -- Claims are looked at one after another, each in its place.
-use Rattle.std.proofs.Common.{◌≡◌, ℕ, ◌+◌, ◌<◌, ◌≤◌, Bool, true, false, List, [], ◌∷◌, ◌++◌, Option, Some, None, length, take, drop, get_or, set}
+use Rattle.std.proofs.Common.{◌≡◌, ℕ, ◌+◌, ◌<◌, ◌≤◌, true, false, List, [], ◌∷◌, ◌++◌, Option, Some, None, length, take, drop, get_or, set}
 use Rattle.std.proofs.Common.{refl, sym, ap, ap₂, ◌∙◌, append-nil, append_assoc, arith, length-set}
 use Rattle.std.proofs.lemmas.List.{drop_all, drop_more, get_or_at, length-map, length-take-le, map-append, set_at, take_all, take_more}
 use Rattle.std.specs.Prelude.{is_some, map, option_map}

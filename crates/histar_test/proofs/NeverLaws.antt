@@ -1,6 +1,6 @@
 -- The check of a claim `#never` is met exactly if the claim holds.
-use Rattle.std.proofs.Common.{◌≡◌, ℕ, Bool, true, false, List, [], ◌∷◌, ◌++◌, Option, Some, None, Ok}
-use Rattle.std.proofs.Common.{refl, sym, ap, ap₂, ◌∙◌, subst, arith}
+use Rattle.std.proofs.Common.{◌≡◌, ℕ, Bool, true, false, List, [], ◌∷◌, ◌++◌, Option, Some, None}
+use Rattle.std.proofs.Common.{refl, sym, ap₂, ◌∙◌, subst, arith}
 use Rattle.std.proofs.lemmas.Bool.Decides.{nat_tests}
 use Rattle.std.specs.Prelude.{◌↔◌, codes, decimal, filter, map, option_to_list, if◌then◌else◌}
 use Rattle.std.specs.List.{AllZip}
@@ -10,13 +10,11 @@ use Rattle.histar_flat.specs.FlatCalls.{flat_after}
 use Rattle.histar_flat.specs.FlatState.{Flat}
 use Rattle.histar_flat.specs.Accounts.{Accounts}
 use Rattle.histar_flat.specs.Meaning.{boot}
-use Rattle.histar_script.specs.Reading.{is_empty, script_of}
-use Rattle.histar_script.specs.Script.{ScriptModel}
+use Rattle.histar_script.specs.Reading.{is_empty}
 use Rattle.histar_never.specs.declared.claims.Never.{Never}
 use Rattle.histar_never.specs.declared.breaches.LateBreach.{LateBreach}
 use Rattle.histar_never.specs.Breaches.{breach_text, first_breach, holder_text}
 use Rattle.histar_never.specs.Letters.{letters_text}
-use Rattle.histar_never.specs.Laws.{IsNever}
 use Rattle.histar_never.proofs.Broken.{claims_are_never_broken}
 use Rattle.histar_test.specs.declared.checks.Check.{Check}
 use Rattle.histar_test.specs.declared.checks.Made.{Made}
@@ -25,7 +23,7 @@ use Rattle.histar_test.specs.declared.steps.Step.{Step}
 use Rattle.histar_test.specs.declared.steps.Step.TheVariants.{Makes, Expects, Asks, Forbids}
 use Rattle.histar_test.specs.Checks.{checks_from, checks_of, found_check, is_met, made_of, never_check, never_checks, unexpected}
 use Rattle.histar_test.specs.Laws.{IsMetIfNever, NeversAreMet, NumberedLine, forbidding_in, is_of_never}
-use Rattle.histar_test.specs.Steps.{Test, calls_in, nevers_in, test_of}
+use Rattle.histar_test.specs.Steps.{Test, calls_in, nevers_in}
 use Rattle.histar_test.proofs.StepLaws.{tests_make_the_calls}
 use Rattle.histar_test.proofs.LineLaws.{IsClaimed, each_mapped, test_claimed}
 use Rattle.histar_test.proofs.StrictLaws.{all_kept}

@@ -23,9 +23,9 @@ use Rattle.histar_test.specs.declared.steps.Step.TheVariants.{Makes, Expects, As
 use Rattle.histar_test.specs.declared.watching.Watch.{Watch}
 use Rattle.histar_test.specs.declared.checks.Wanted.TheVariants.{Text}
 use Rattle.histar_test.specs.Checks.{asked_check, check_text, checks_from, checks_of, checks_text, made_of, never_check, unexpected}
-use Rattle.histar_test.specs.Running.{AreSplit, AreSplitWith, BeginsSteps, BeginsTest, CountsClaims, IsRun, RunsTest, Starts, TakesSteps}
+use Rattle.histar_test.specs.Running.{AreSplit, AreSplitWith, BeginsSteps, BeginsTest, CountsClaims, RunsTest, Starts, TakesSteps}
 use Rattle.histar_test.specs.Running.{checks_ahead, claim_checks, claims_text, tally_with}
-use Rattle.histar_test.specs.Steps.{Test, calls_in, never_of_step, nevers_in}
+use Rattle.histar_test.specs.Steps.{calls_in, never_of_step, nevers_in}
 use Rattle.histar_test.specs.Watching.{HasWatched, IsWatched, unbroken, watch_check, watches_after}
 use Rattle.histar_test.proofs.CheckLemmas.{checks_text-append, tally_more, tally_none}
 use Rattle.histar_test.proofs.FileLemmas.{front_first, front_second}

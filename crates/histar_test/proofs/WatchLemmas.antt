@@ -4,19 +4,17 @@ use Rattle.std.proofs.Common.{refl, sym, ap, ap₂, ◌∙◌, subst}
 use Rattle.std.specs.Prelude.{map, option_map, if◌then◌else◌}
 use Rattle.std.specs.Option.{option_or}
 use Rattle.histar_flat.specs.declared.calls.CallLine.{CallLine}
-use Rattle.histar_flat.specs.declared.calls.UnixCall.{UnixCall}
 use Rattle.histar_flat.specs.declared.replies.Reply.{Reply}
 use Rattle.histar_flat.specs.Accounts.{Accounts}
 use Rattle.histar_flat.specs.FlatState.{Flat}
-use Rattle.histar_flat.specs.FlatCalls.{flat_after, reply_to}
+use Rattle.histar_flat.specs.FlatCalls.{flat_after}
 use Rattle.histar_flat.specs.Meaning.{boot, flat_end}
 use Rattle.histar_flat.specs.Texts.{reply_text}
 use Rattle.histar_flat.proofs.Laws.{states_go_on}
 use Rattle.histar_reasons.specs.Laws.{is_refusal}
-use Rattle.histar_rights.specs.Running.{HaveShownNames}
 use Rattle.histar_secrecy.specs.Noninterference.{IsReached}
 use Rattle.histar_shell.specs.Machine.{MachineModel}
-use Rattle.histar_shell.specs.Meaning.{FollowsMeaning, Shows}
+use Rattle.histar_shell.specs.Meaning.{FollowsMeaning}
 use Rattle.histar_trust.specs.Findings.{ShowsReached}
 use Rattle.histar_trust.proofs.ShownTrust.{has_processes, named}
 use Rattle.histar_prefix.specs.Listing.{HasProcesses}
@@ -29,8 +27,7 @@ use Rattle.histar_never.proofs.Questions.{others_change_nothing}
 use Rattle.histar_test.specs.declared.checks.Made.{Made}
 use Rattle.histar_test.specs.declared.watching.Watch.{Watch}
 use Rattle.histar_test.specs.declared.watching.Watched.{Watched}
-use Rattle.histar_test.specs.Checks.{made_of}
-use Rattle.histar_test.specs.Watching.{AreUpToDate, HasWatched, IsWatched, Looks, MakesCall, watch_after, watch_in, watches_after}
+use Rattle.histar_test.specs.Watching.{AreUpToDate, HasWatched, Looks, MakesCall, watch_in, watches_after}
 
 -- ---- what was found
 

@@ -32,7 +32,6 @@ use Rattle.histar_test.specs.declared.asking.Asking.{Asking}
 use Rattle.histar_test.specs.declared.steps.Step.{Step}
 use Rattle.histar_test.specs.declared.steps.Step.TheVariants.{Makes, Expects, Asks, Forbids}
 use Rattle.histar_test.specs.declared.watching.Watch.{Watch}
-use Rattle.histar_test.specs.declared.watching.Watched.{Watched}
 use Rattle.histar_test.specs.Steps.{calls_in, never_of_step, nevers_in}
 use Rattle.histar_test.specs.Checks.{is_met, asked_check, made_of, checks_from, checks_text, names_text, trusted_text, unexpected}
 use Rattle.histar_test.specs.Watching.{IsWatched, MakesCall, unbroken, watch_check, watches_after}

@@ -9,7 +9,6 @@ use Rattle.histar_flat.specs.Accounts.{Accounts}
 use Rattle.histar_test.specs.declared.steps.Step.{Step}
 use Rattle.histar_test.specs.Checks.{checks_of, checks_text}
 use Rattle.histar_test.specs.Running.{tally_with}
-use Rattle.histar_test.specs.Steps.{Test}
 use Rattle.histar_test.proofs.TestLemmas.{start_has_state, test_begun, test_taken}
 use Rattle.histar_test.proofs.session.test_file.Goals as goal
 

@@ -1,7 +1,6 @@
 -- Proves the goals of `look_at` of src/watching.rt that the search leaves open.
-use Rattle.std.proofs.Common.{◌≡◌, true, false, rules}
-use Rattle.std.specs.Prelude.{is_some}
-use Rattle.histar_test.proofs.LookLemmas.{looked_broken, looked_first, looked_unbroken}
+use Rattle.std.proofs.Common.{rules}
+use Rattle.histar_test.proofs.LookLemmas.{looked_first}
 use Rattle.histar_test.proofs.watching.look_at.Goals as goal
 
 pub returns : goal.returns

@@ -1,9 +1,9 @@
 -- Proves the goals of `Run::check_claims` of src/running.rt that the search leaves open.
-use Rattle.std.proofs.Common.{◌≡◌, List, None, ap, sym, subst, ◌∙◌, refl, rules}
+use Rattle.std.proofs.Common.{ap, sym, ◌∙◌, refl, rules}
 use Rattle.std.proofs.lemmas.List.{map-id}
 use Rattle.std.proofs.lemmas.Result.{err_from_is_err_and}
 use Rattle.std.proofs.lemmas.Iterator.Adapters.{YieldsList-from_vec}
-use Rattle.std.proofs.lemmas.Iterator.Consumers.{YieldsList-end, YieldsList-so_far, YieldsList-turn}
+use Rattle.std.proofs.lemmas.Iterator.Consumers.{YieldsList-so_far, YieldsList-turn}
 use Rattle.histar_io.proofs.WritingLemmas.{sent_none}
 use Rattle.std.specs.Global.{Vec}
 use Rattle.histar_test.specs.declared.watching.Watch.{Watch}

@@ -1,5 +1,4 @@
 -- Proves the goals of `Run::run_test` of src/running.rt that the search leaves open.
-use Rattle.std.proofs.Common.{refl}
 use Rattle.std.proofs.lemmas.Result.{err_from_is_err_and}
 use Rattle.histar_test.proofs.RunLemmas.{after_err, both_ok}
 use Rattle.histar_test.proofs.TestLemmas.{claims_begun, steps_begun, test_run}
