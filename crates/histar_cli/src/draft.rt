@@ -57,7 +57,7 @@ impl<'a, R: Files> Draft<'a, R> {
 }
 
 /// Writes what is left in a buffer.
-fn flushed<W: Write>(writer: Counted<BufWriter<W, Global>>) -> Result<(), Fault> {
+fn flushed<W: Write + Drop>(writer: Counted<BufWriter<W, Global>>) -> Result<(), Fault> {
     let mut buffer = writer.into_inner();
     match buffer.flush() {
         Ok(()) => Ok(()),

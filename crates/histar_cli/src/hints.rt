@@ -201,7 +201,7 @@ fn line_of<'a>(task: &Task<'a>) -> Option<&'a str> {
         Task::Trust(_, _, line, _) => *line,
         Task::Leak(_, _, line) => *line,
         Task::Flows(_, line) => *line,
-        Task::Report(_, line) => *line,
+        Task::Report(_, line, _) => *line,
         _ => None,
     }
 }
