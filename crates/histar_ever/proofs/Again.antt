@@ -12,11 +12,13 @@ use Rattle.histar_flat.specs.FlatCalls.{flat_after}
 use Rattle.histar_flat.specs.Meaning.{flat_end}
 use Rattle.histar_rights.specs.declared.rights.Rights.{Rights}
 use Rattle.histar_rights.specs.Running.{process_cmp}
+use Rattle.histar_cells.specs.ByUser.{user_rights_at}
 use Rattle.histar_diff.specs.Shown.{rights_of}
 use Rattle.histar_ever.specs.declared.ever.Ever.{Ever}
 use Rattle.histar_ever.specs.Ever.{any_rights, either, paths_in, processes_in}
 use Rattle.histar_ever.specs.Following.{AddsNothingAgain}
 use Rattle.histar_ever.specs.Gathering.{Gathers}
+use Rattle.histar_ever.specs.GatheringUsers.{GathersUsers}
 use Rattle.histar_ever.specs.States.{states_from}
 use Rattle.histar_ever.proofs.Keys.{in_ever, in_ever_more}
 use Rattle.histar_ever.proofs.Letters.{any_more, either_assoc, either_none, either_same}

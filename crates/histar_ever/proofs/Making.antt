@@ -1,6 +1,6 @@
 -- What a machine represents after calls, and what was gathered.
 use Rattle.std.proofs.Common.{◌≡◌, Bool, false, List, [], ◌∷◌, ◌++◌, Ok, sym, ap, ◌∙◌, subst, append-nil}
-use Rattle.std.specs.Prelude.{not, ◌&&◌}
+use Rattle.std.specs.Prelude.{not, ◌&&◌, refl}
 use Rattle.histar_flat.specs.declared.calls.CallLine.{CallLine}
 use Rattle.histar_flat.specs.declared.replies.Reply.{Reply}
 use Rattle.histar_flat.specs.Accounts.{Accounts}
@@ -31,6 +31,11 @@ pub shown_start : (m : MachineModel) → IsStarted m → IsShown m
 shown_start m is = (is.0, boot is.0, is.1, processes_are_named is.0 [])
 
 module _ {E : Type 0} (gathers : Gathering E) where
+  -- what was gathered is the same by another name
+  pub gathered_as : (calls : List CallLine) (old new : MachineModel) (e added after : E) → after ≡ added
+      → FollowsCalls gathers calls old new e added → FollowsCalls gathers calls old new e after
+  gathered_as calls old new e added after is = subst (λ (x : E). FollowsCalls gathers calls old new e x) (sym is)
+
   -- ---- one call
 
   module _ (accounts : Accounts) (first : List CallLine) (c : CallLine) where

@@ -1,17 +1,25 @@
 -- What was gathered by users, with one more state, and its text.
-use Rattle.std.specs.Prelude.{◌≡◌, ◌||◌, Bool, true, false, List, [], ◌∷◌, ◌++◌, codes, map, unwrap_or, refl}
+use Rattle.std.specs.Prelude.{◌≡◌, ◌+◌, ◌||◌, ℕ, Bool, true, false, List, [], ◌∷◌, ◌++◌}
+use Rattle.std.specs.Prelude.{Some, codes, get_or, map, slice_get, take, unwrap_or, refl}
 use Rattle.std.proofs.Common.{ap, sym, ◌∙◌}
-use Rattle.std.proofs.lemmas.List.{map_twice}
+use Rattle.std.proofs.lemmas.List.{map-append, take_more}
+use Rattle.std.proofs.lemmas.Option.{get_or_from_slice_get, slice_get_within}
+use Rattle.std.specs.BTreeMap.{is_at}
+use Rattle.std.specs.Map.{lookup}
 use Rattle.std.specs.List.{flat_map, list_any}
 use Rattle.std.specs.Ordering.{eq_by_cmp}
-use Rattle.std.specs.Cmp.{tied_itself}
 use Rattle.std.specs.Cmp.Lexicographic.{nat_list_cmp_total}
 use Rattle.std.specs.Global.{Vec}
 use Rattle.histar_flat.specs.declared.calls.User.{User}
 use Rattle.histar_flat.specs.Words.{Name, Path}
-use Rattle.histar_base.specs.Paths.{path_cmp}
+use Rattle.histar_base.specs.Paths.{path_cmp, same}
 use Rattle.histar_base.proofs.PathLaws.{path_cmp_exact, path_cmp_total}
-use Rattle.histar_flat.specs.Accounts.{Accounts}
+use Rattle.histar_flat.specs.Accounts.{Accounts, has}
+use Rattle.histar_flat.specs.Classes.{nobody}
+use Rattle.histar_flat.proofs.FileLemmas.{same_itself}
+use Rattle.histar_layout.specs.UserTable.{called, without_password, without_passwords}
+use Rattle.histar_access.proofs.Tables.{map_twice}
+use Rattle.histar_diff.specs.Tables.{no_rights}
 use Rattle.histar_flat.specs.FlatState.{Flat}
 use Rattle.histar_flat.specs.Texts.{path_text}
 use Rattle.histar_rights.proofs.Named.{processes_are_named}
@@ -25,11 +33,12 @@ use Rattle.histar_ever.specs.declared.by_users.EverUsers.{EverUsers}
 use Rattle.histar_ever.specs.Ever.{either, paths_in}
 use Rattle.histar_ever.specs.EverUsers.{ever_users_line, ever_users_text}
 use Rattle.histar_ever.specs.Following.{AddsState, GathersNone}
-use Rattle.histar_ever.specs.GatheringUsers.{AddsUsersTable, GathersUsers, IsGatheredUsersText, gathered_users_line}
+use Rattle.histar_ever.specs.GatheringUsers.{AddsUsersTable, GathersUsers, IsGatheredUsersText}
+use Rattle.histar_ever.specs.GatheringUsers.{gathered_users_line, place_cmp, user_letters_at}
 use Rattle.histar_ever.proofs.Keys.{in_ever_more, keys_are_rising}
 use Rattle.histar_ever.proofs.Letters.{any_more}
 use Rattle.histar_ever.proofs.Tabled.{line_paths}
-use Rattle.histar_ever.proofs.UsersTabled.{by_name, users_table_letters}
+use Rattle.histar_ever.proofs.UsersTabled.{users_table_letters}
 
 -- the users of a table without passwords are the same
 users_are : (accounts : Accounts) → somebody (without_passwords accounts) ≡ somebody accounts
