@@ -14,7 +14,6 @@ use Rattle.histar_rights.specs.declared.rights.Rights.{Rights}
 use Rattle.histar_rights.specs.Running.{process_cmp}
 use Rattle.histar_cells.specs.ByUser.{user_rights_at}
 use Rattle.histar_diff.specs.Shown.{rights_of}
-use Rattle.histar_ever.specs.declared.ever.Ever.{Ever}
 use Rattle.histar_ever.specs.Ever.{any_rights, either, paths_in, processes_in}
 use Rattle.histar_ever.specs.Following.{AddsNothingAgain}
 use Rattle.histar_ever.specs.Gathering.{Gathers}

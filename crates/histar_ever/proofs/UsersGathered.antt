@@ -8,7 +8,6 @@ use Rattle.std.specs.BTreeMap.{is_at}
 use Rattle.std.specs.Map.{lookup}
 use Rattle.std.specs.List.{flat_map, list_any}
 use Rattle.std.specs.Ordering.{eq_by_cmp}
-use Rattle.std.specs.Cmp.Lexicographic.{nat_list_cmp_total}
 use Rattle.std.specs.Global.{Vec}
 use Rattle.histar_flat.specs.declared.calls.User.{User}
 use Rattle.histar_flat.specs.Words.{Name, Path}
@@ -26,7 +25,7 @@ use Rattle.histar_rights.proofs.Named.{processes_are_named}
 use Rattle.histar_rights.specs.Users.{somebody, user_text, users_line}
 use Rattle.histar_cells.specs.ByUser.{user_rights_at}
 use Rattle.histar_diff.specs.declared.users.UsersTable.{UsersTable}
-use Rattle.histar_diff.specs.UserChanges.{ShowsUsers, is_user, users_rights}
+use Rattle.histar_diff.specs.UserChanges.{ShowsUsers, users_rights}
 use Rattle.histar_shell.specs.Machine.{MachineModel}
 use Rattle.histar_access.specs.Users.{ShowsUsersTable}
 use Rattle.histar_ever.specs.declared.by_users.EverUsers.{EverUsers}

@@ -1,5 +1,5 @@
 -- What the table by users of a flat state adds: its paths and the rights of users there.
-use Rattle.std.specs.Prelude.{◌≡◌, ◌||◌, ◌&&◌, ℕ, Bool, true, false, cond, List, [], ◌∷◌, map, Option, None, Some, refl}
+use Rattle.std.specs.Prelude.{◌≡◌, ◌||◌, Bool, true, false, cond, List, [], ◌∷◌, map, Option, None, Some, refl}
 use Rattle.std.proofs.Common.{ap, sym, ◌∙◌}
 use Rattle.std.specs.List.{list_any}
 use Rattle.std.specs.declared.cmp.Ordering.{Ordering}
@@ -24,7 +24,7 @@ use Rattle.histar_diff.specs.declared.users.UsersTable.{UsersTable}
 use Rattle.histar_diff.specs.UserChanges.{ShowsUsers, is_user, users_rights}
 use Rattle.histar_diff.specs.Tables.{no_rights}
 use Rattle.histar_ever.specs.Ever.{any_rights, either}
-use Rattle.histar_ever.specs.GatheringUsers.{Place, place_cmp, user_line_letters, user_row_letters}
+use Rattle.histar_ever.specs.GatheringUsers.{place_cmp, user_line_letters, user_row_letters}
 use Rattle.histar_ever.proofs.Letters.{any_of, any_same, either_none, either_same}
 use Rattle.histar_ever.proofs.Tabled.{any_found, cell_and_rest, if_at, none_twice, of_found}
 

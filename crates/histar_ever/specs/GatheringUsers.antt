@@ -12,7 +12,6 @@ use Rattle.histar_flat.specs.Accounts.{Accounts}
 use Rattle.histar_flat.specs.FlatState.{Flat}
 use Rattle.histar_flat.specs.Texts.{path_text}
 use Rattle.histar_rights.specs.declared.rights.Rights.{Rights}
-use Rattle.histar_rights.specs.declared.users.UserRights.{UserRights}
 use Rattle.histar_rights.specs.Users.{somebody, user_text}
 use Rattle.histar_diff.specs.declared.table.TableLine.{TableLine}
 use Rattle.histar_diff.specs.declared.users.UsersTable.{UsersTable}

@@ -1,14 +1,13 @@
 -- What the letters, the paths and the processes of a run mean, by the calls of its script.
-use Rattle.std.specs.Prelude.{◌≡◌, ◌↔◌, Bool, true, false, is_some, List, ◌++◌}
+use Rattle.std.specs.Prelude.{◌≡◌, ◌↔◌, Bool, true, is_some, List, ◌++◌}
 use Rattle.std.specs.List.{Contains}
 use Rattle.std.specs.List.Sorted.{IsStrictlySortedBy}
 use Rattle.histar_flat.specs.declared.calls.CallLine.{CallLine}
-use Rattle.histar_flat.specs.declared.calls.UnixCall.{UnixCall}
 use Rattle.histar_flat.specs.Words.{Name, Path, ProcName}
 use Rattle.histar_base.specs.Paths.{path_cmp}
 use Rattle.histar_flat.specs.Accounts.{Accounts}
 use Rattle.histar_flat.specs.FlatState.{Flat, is_there}
-use Rattle.histar_flat.specs.FlatCalls.{flat_after, reply_to, running}
+use Rattle.histar_flat.specs.FlatCalls.{running}
 use Rattle.histar_flat.specs.Meaning.{boot, flat_end}
 use Rattle.histar_rights.specs.declared.rights.Rights.{Rights}
 use Rattle.histar_rights.specs.Running.{process_cmp}

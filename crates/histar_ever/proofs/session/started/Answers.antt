@@ -1,5 +1,5 @@
 -- Proves the goal of `started` of src/session.rt that the search leaves open.
-use Rattle.std.proofs.Common.{sym, subst}
+use Rattle.std.proofs.Common.{subst}
 use Rattle.histar_flat.specs.Accounts.{Accounts}
 use Rattle.histar_shell.specs.Meaning.{ShowsStart}
 use Rattle.histar_ever.proofs.session.started.Goals as goal
