@@ -42,7 +42,7 @@ fn push_cell(line: &mut Vec<u8>, cell: &Cell) -> Result<(), AllocError>
     ensures { OnOk result (line.new.items ≡ line.old.items ++ shown_text cell.now) }
 {
     line.extend_from_slice(b" ")?;
-    push_process(line, &cell.process)?;
+    push_process(*line.allocator(), line, &cell.process)?;
     line.extend_from_slice(b":")?;
     cell.rights.push_letters(line)
 }

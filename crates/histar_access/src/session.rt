@@ -53,6 +53,8 @@ impl Command for TableAt {
 
     type Answer = ();
 
+    type Memory = Global;
+
     ghost Runs = { λ command. AccessText command.at };
 
     fn on_text<W: Sink>(self, alloc: Global, text: Vec<u8>, writer: &mut W) -> Result<(), Fault> {
@@ -124,6 +126,8 @@ impl Command for UsersAt {
     ghost use Rattle.std.proofs.Common.{rules};
 
     type Answer = ();
+
+    type Memory = Global;
 
     ghost Runs = { λ command. UsersText command.at };
 

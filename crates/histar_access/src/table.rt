@@ -123,9 +123,9 @@ fn access_line(alloc: Global, node: &TreeNode, row: &[Cell]) -> Result<Vec<u8>, 
     ensures { IfOk result (λ line. line.items ≡ access_line_text (line_of_node node.now row.now)) }
 {
     let mut line = Vec::new(alloc);
-    push_path(&mut line, &node.path)?;
+    push_path(alloc, &mut line, &node.path)?;
     line.extend_from_slice(b" ")?;
-    push_stat(&mut line, node.stat())?;
+    push_stat(alloc, &mut line, node.stat())?;
     push_cells(&mut line, row)?;
     line.extend_from_slice(b"\n")?;
     Ok(line)

@@ -89,9 +89,9 @@ fn push_users_line(
     ensures { OnOk result (text.new.items
         ≡ text.old.items ++ users_line_text (users_line_at node.now row.now)) }
 {
-    push_path(text, &node.path)?;
+    push_path(*text.allocator(), text, &node.path)?;
     text.extend_from_slice(b" ")?;
-    push_stat(text, node.stat())?;
+    push_stat(*text.allocator(), text, node.stat())?;
     push_users(text, row)?;
     text.extend_from_slice(b"\n")
 }

@@ -91,6 +91,8 @@ impl<'a> Command for Attacking<'a> {
 
     type Answer = ();
 
+    type Memory = Global;
+
     ghost Runs = { λ command. WritesAttack command.options command.job.now };
 
     fn on_text<W: Sink>(self, alloc: Global, text: Vec<u8>, writer: &mut W) -> Result<(), Fault> {

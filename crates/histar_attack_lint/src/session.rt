@@ -58,6 +58,8 @@ impl<'a> Command for MixedLinting<'a> {
 
     type Answer = bool;
 
+    type Memory = Global;
+
     ghost Runs = { λ command. LintsMixed command.file.now };
 
     fn on_text<W: Sink>(self, alloc: Global, text: Vec<u8>, writer: &mut W) -> Result<bool, Fault> {

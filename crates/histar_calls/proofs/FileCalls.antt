@@ -34,14 +34,16 @@ to_write kept bytes file = ask (write_of kept bytes file) (λ (done : Unit {0}).
 
 module _ (roots : Roots) (path : Path) (t : ℕ) (old : KernelModel) where
   -- at first the whole program is left
-  pub read_begun : Leaves t (read_program roots path) old (find_file roots path to_read) old
+  pub read_begun : {M : Type 0} → Leaves M t (read_program roots path) old (find_file roots path to_read) old
   unfolding read_program
   read_begun = record { leads = λ new result on. on }
 
-  pub write_begun : (bytes : List ℕ) → Leaves t (write_program roots path bytes) old (find_file roots path (to_write 0 bytes)) old
+  pub write_begun : {M : Type 0} → (bytes : List ℕ)
+      → Leaves M t (write_program roots path bytes) old (find_file roots path (to_write 0 bytes)) old
   unfolding write_program
   write_begun bytes = record { leads = λ new result on. on }
 
-  pub append_begun : (bytes : List ℕ) → Leaves t (append_program roots path bytes) old (find_file roots path (to_write most_bytes bytes)) old
+  pub append_begun : {M : Type 0} → (bytes : List ℕ)
+      → Leaves M t (append_program roots path bytes) old (find_file roots path (to_write most_bytes bytes)) old
   unfolding append_program
   append_begun bytes = record { leads = λ new result on. on }

@@ -35,15 +35,18 @@ abbrev pub after_container : Levels → Room → ℕ → Part (Unit {0})
 after_container label room container rest = ask (MakeSegment container label []) (λ listing. after_listing room container listing rest)
 
 -- memory ran out before a directory was added
-pub before_adding : (t : ℕ) (label : Levels) (room : Room) (k : KernelModel) → RunsPart (add_directory label room) k k t (Err Stopped)
-before_adding t label room k =
+pub before_adding : {M : Type 0} → (t : ℕ) (label : Levels) (room : Room) (k : KernelModel) → M
+    → RunsPart M (add_directory label room) k k t (Err Stopped)
+before_adding t label room k memory =
     part_fails t (ask (MakeContainer room.place.container label)) k k (after_container label room) Stopped
-    (before_ask t (MakeContainer room.place.container label) k)
+    (before_ask t (MakeContainer room.place.container label) k memory)
 
 -- a directory is added with the expected label
-pub adds_so : (t : ℕ) (old new : KernelModel) (label due : Levels) (room : Room) → label ≡ due → (result : Result (Unit {0}) CallError)
-    → RunsPart (add_directory label room) old new t result → RunsPart (add_directory due room) old new t result
-adds_so t old new label due room same result runs = subst (λ (l : Levels). RunsPart {A = Unit {0}} (add_directory l room) old new t result) same runs
+pub adds_so : {M : Type 0} → (t : ℕ) (old new : KernelModel) (label due : Levels) (room : Room) → label ≡ due
+    → (result : Result (Unit {0}) CallError)
+    → RunsPart M (add_directory label room) old new t result → RunsPart M (add_directory due room) old new t result
+adds_so {M} t old new label due room same result runs =
+    subst (λ (l : Levels). RunsPart {A = Unit {0}} M (add_directory l room) old new t result) same runs
 
 module _ (accounts : Accounts) (mode : Mode) where
   -- what comes after the thread's own label
@@ -55,7 +58,7 @@ module _ (accounts : Accounts) (mode : Mode) where
   after_room room = make_directory accounts mode room (λ (done : Unit {0}). Answers Done)
 
   -- at first the whole program is left
-  pub begun : (roots : Roots) (path : Path) (t : ℕ) (old : KernelModel)
-      → Leaves t (mkdir_program accounts roots path mode) old (find_room roots path after_room) old
+  pub begun : {M : Type 0} → (roots : Roots) (path : Path) (t : ℕ) (old : KernelModel)
+      → Leaves M t (mkdir_program accounts roots path mode) old (find_room roots path after_room) old
   unfolding mkdir_program
   begun roots path t old = record { leads = λ new result on. on }

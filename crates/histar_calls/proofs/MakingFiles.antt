@@ -31,15 +31,18 @@ abbrev pub after_segment : Room → ℕ → Part (Unit {0})
 after_segment room file = write_entries room.place (grown room file)
 
 -- memory ran out before a file was added
-pub before_adding : (t : ℕ) (label : Levels) (room : Room) (k : KernelModel) → RunsPart (add_file label room) k k t (Err Stopped)
-before_adding t label room k =
+pub before_adding : {M : Type 0} → (t : ℕ) (label : Levels) (room : Room) (k : KernelModel) → M
+    → RunsPart M (add_file label room) k k t (Err Stopped)
+before_adding t label room k memory =
     part_fails t (ask (MakeSegment room.place.container label [])) k k (after_segment room) Stopped
-    (before_ask t (MakeSegment room.place.container label []) k)
+    (before_ask t (MakeSegment room.place.container label []) k memory)
 
 -- a file is added with the expected label
-pub adds_so : (t : ℕ) (old new : KernelModel) (label due : Levels) (room : Room) → label ≡ due → (result : Result (Unit {0}) CallError)
-    → RunsPart (add_file label room) old new t result → RunsPart (add_file due room) old new t result
-adds_so t old new label due room same result runs = subst (λ (l : Levels). RunsPart {A = Unit {0}} (add_file l room) old new t result) same runs
+pub adds_so : {M : Type 0} → (t : ℕ) (old new : KernelModel) (label due : Levels) (room : Room) → label ≡ due
+    → (result : Result (Unit {0}) CallError)
+    → RunsPart M (add_file label room) old new t result → RunsPart M (add_file due room) old new t result
+adds_so {M} t old new label due room same result runs =
+    subst (λ (l : Levels). RunsPart {A = Unit {0}} M (add_file l room) old new t result) same runs
 
 module _ (accounts : Accounts) (mode : Mode) where
   -- what comes after the thread's own label
@@ -51,7 +54,7 @@ module _ (accounts : Accounts) (mode : Mode) where
   after_room room = make_file accounts mode room (λ (done : Unit {0}). Answers Done)
 
   -- at first the whole program is left
-  pub begun : (roots : Roots) (path : Path) (t : ℕ) (old : KernelModel)
-      → Leaves t (create_program accounts roots path mode) old (find_room roots path after_room) old
+  pub begun : {M : Type 0} → (roots : Roots) (path : Path) (t : ℕ) (old : KernelModel)
+      → Leaves M t (create_program accounts roots path mode) old (find_room roots path after_room) old
   unfolding create_program
   begun roots path t old = record { leads = λ new result on. on }

@@ -5,10 +5,10 @@ ghost use Rattle.histar_programs.specs.Refusals.{settled};
 
 use histar_base::Bytes;
 use histar_flat::{Name, Reply};
+use histar_heap::Heap;
 use histar_label::LabelStore;
 use histar_programs::{CallError, Unix, find_file, written};
 use histar_syscall::Kernel;
-use std::alloc::Global;
 
 /// The greatest number of bytes in a file: a write that keeps this many keeps all of them.
 const MOST_BYTES: u32 = 4096;
@@ -16,20 +16,20 @@ const MOST_BYTES: u32 = 4096;
 /// Appends bytes to a file. EISDIR for `/` and for a directory, ENOENT where nothing is at the path,
 /// ENOTDIR where a file lies on the way, EACCES where the kernel doesn't let the thread observe
 /// a directory on the way or modify the file, EFBIG where it would hold more than 4,096 bytes.
-pub fn append<S: LabelStore + Drop>(
-    alloc: Global,
+pub fn append<H: Heap, S: LabelStore + Drop>(
+    heap: H,
     kernel: &mut Kernel<S>,
     unix: &Unix,
     path: &[Name],
     bytes: Bytes,
 ) -> Result<Reply, CallError>
-    ensures { Runs (append_program unix.now.roots.now path.now bytes) kernel.old kernel.new
-        unix.now.caller.now.thread (settled result) }
+    ensures { Runs H.Refused (append_program unix.now.roots.now path.now bytes)
+        kernel.old kernel.new unix.now.caller.now.thread (settled result) }
 {
     let thread = unix.caller.thread;
-    let file = find_file(alloc, kernel, unix.roots, thread, path)?;
+    let file = find_file(heap, kernel, unix.roots, thread, path)?;
     written(kernel.write(
-        alloc,
+        heap,
         thread,
         file.container,
         file.segment,

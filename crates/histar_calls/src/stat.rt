@@ -4,13 +4,13 @@ ghost use Rattle.histar_programs.specs.Refusals.{settled};
 ghost use Rattle.histar_calls.specs.StatCall.{find_object, stat_program};
 
 use histar_flat::{Errno, Name, Reply};
+use histar_heap::Heap;
 use histar_label::LabelStore;
 use histar_layout::shown_class;
 use histar_object::ObjId;
 use histar_programs::{CallError, Roots, Unix, entry_at, find_place, look_in};
 use histar_rules::ROOT;
 use histar_syscall::Kernel;
-use std::alloc::Global;
 
 /// An object that was found at a path.
 #[derive(Clone, Copy)]
@@ -24,18 +24,18 @@ pub struct FoundObject {
 
 /// Returns kind, owner and mode of what is at a path. It is refused where the walk is, and with ENOENT
 /// where nothing is there, or an object of another label than the library gives files.
-pub fn stat<S: LabelStore + Drop>(
-    alloc: Global,
+pub fn stat<H: Heap, S: LabelStore + Drop>(
+    heap: H,
     kernel: &mut Kernel<S>,
     unix: &Unix,
     path: &[Name],
 ) -> Result<Reply, CallError>
-    ensures { Runs (stat_program unix.now.users.now unix.now.roots.now path.now) kernel.old kernel.new
-        unix.now.caller.now.thread (settled result) }
+    ensures { Runs H.Refused (stat_program unix.now.users.now unix.now.roots.now path.now)
+        kernel.old kernel.new unix.now.caller.now.thread (settled result) }
 {
     let thread = unix.caller.thread;
-    let found = find_object(alloc, kernel, unix.roots, thread, path)?;
-    let label = kernel.label_of(alloc, thread, found.container, found.object)?;
+    let found = find_object(heap, kernel, unix.roots, thread, path)?;
+    let label = kernel.label_of(heap, thread, found.container, found.object)?;
     let Some(class) = shown_class(&label, unix.users) else {
         return Err(CallError::Refused(Errno::ENOENT));
     };
@@ -43,14 +43,15 @@ pub fn stat<S: LabelStore + Drop>(
 }
 
 /// Finds what is at a path: ENOENT where nothing is there, and the errno of the walk where that is refused.
-fn find_object<S: LabelStore + Drop>(
-    alloc: Global,
+fn find_object<H: Heap, S: LabelStore + Drop>(
+    heap: H,
     kernel: &mut Kernel<S>,
     roots: &Roots,
     thread: ObjId,
     path: &[Name],
 ) -> Result<FoundObject, CallError>
-    ensures { RunsPart (find_object roots.now path.now) kernel.old kernel.new thread result }
+    ensures { RunsPart H.Refused (find_object roots.now path.now)
+        kernel.old kernel.new thread result }
 {
     let [name, parent @ ..] = path else {
         return Ok(FoundObject {
@@ -59,9 +60,9 @@ fn find_object<S: LabelStore + Drop>(
             is_directory: true,
         });
     };
-    let place = find_place(alloc, kernel, roots, thread, parent)?;
+    let place = find_place(heap, kernel, roots, thread, parent)?;
     let container = place.container;
-    let found = look_in(alloc, kernel, thread, place, name)?;
+    let found = look_in(heap, kernel, thread, place, name)?;
     let target = entry_at(found)?;
     Ok(FoundObject {
         container,

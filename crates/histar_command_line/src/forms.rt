@@ -399,7 +399,8 @@ pub(crate) fn lint<'a>() -> Form<'a>
         after_help: "Nothing is printed of a right script. Of a bad one it is FILE, the number of its first bad line, and a sentence.
 
 With --policy a right script has a line for each call of a process that was never started, each wrong password, each
-job that is never used, and each file or directory that not everyone reads and that another user may take away.
+job that is never used, each file or directory that not everyone reads and that another user may take away, and each
+file for a group that no one but its maker writes, though others may.
 
 Exit status: 0 where all scripts are right, 1 where one is bad; with --exit-code 5 where --policy printed a line
 

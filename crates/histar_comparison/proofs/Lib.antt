@@ -4,3 +4,4 @@ pub mod Observed
 pub mod Verdicts
 pub mod Explanations
 pub mod Wholes
+pub mod WantingMemory

@@ -1,12 +1,11 @@
 -- The run of a whole script: its replies and its tree.
-use Rattle.std.proofs.Common.{◌≡◌, List, [], ◌∷◌, ◌++◌, map, Option, None, Some, refl, sym, ap, ◌∙◌, append_assoc}
+use Rattle.std.proofs.Common.{◌≡◌, List, [], ◌∷◌, ◌++◌, None, Some, refl, sym, ap, ◌∙◌, append_assoc}
 use Rattle.std.proofs.lemmas.List.{map-append}
 use Rattle.histar_flat.specs.declared.calls.CallLine.{CallLine}
 use Rattle.histar_flat.specs.declared.replies.Reply.{Reply}
 use Rattle.histar_flat.specs.Words.{ProcName}
-use Rattle.histar_flat.specs.Meaning.{RepliedCall, meaning}
+use Rattle.histar_flat.specs.Meaning.{RepliedCall}
 use Rattle.histar_script.specs.Script.{ScriptModel}
-use Rattle.histar_noninterference.specs.Trees.{PathText}
 use Rattle.histar_shell.specs.Machine.{IsStart, MachineModel}
 use Rattle.histar_shell.specs.Answers.{calls_of}
 use Rattle.histar_shell.specs.Ending.{HasTree}
@@ -15,7 +14,7 @@ use Rattle.histar_shell.proofs.CallRefinements.{calls_refine}
 use Rattle.histar_shell.proofs.SessionMeanings.{all_replies}
 use Rattle.histar_comparison.specs.declared.whole.Whole.{Whole}
 use Rattle.histar_comparison.specs.Jobs.{is_wrap, job_started, jobs_started}
-use Rattle.histar_comparison.specs.Observation.{CanRun, KeepsReplies, ShowsTree}
+use Rattle.histar_comparison.specs.Observation.{CanRun, KeepsReplies}
 use Rattle.histar_comparison.specs.Replies.{no_replies, with_replies}
 use Rattle.histar_comparison.specs.Whole.{IsWhole, KeepsAnswer, KeepsAnswers, RunsWhole, answered, replies_of}
 use Rattle.histar_comparison.proofs.Observed.{has_tree, tree_is}
@@ -66,6 +65,7 @@ pub no_job_here : (call : CallLine) (reply : Reply) (answers : List RepliedCall)
     → jobs_started (record { call = call; reply = reply } ∷ answers) ≡ jobs_started answers
 no_job_here call reply answers e = rw e refl
 
-pub a_job_here : (call : CallLine) (reply : Reply) (answers : List RepliedCall) (job : ProcName) → job_started (is_wrap call.call) reply ≡ Some job
+pub a_job_here : (call : CallLine) (reply : Reply) (answers : List RepliedCall) (job : ProcName)
+    → job_started (is_wrap call.call) reply ≡ Some job
     → jobs_started (record { call = call; reply = reply } ∷ answers) ≡ job ∷ jobs_started answers
 a_job_here call reply answers job e = rw e refl

@@ -5,3 +5,4 @@ pub mod Whole
 pub mod Compared
 pub mod Explained
 pub mod Jobs
+pub mod Memory

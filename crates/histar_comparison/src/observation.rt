@@ -1,16 +1,19 @@
 //! Running a script, and keeping what a comparison needs.
-ghost use Rattle.std.specs.Prelude.{◌≡◌, IfOk, OnOk};
+ghost use Rattle.std.specs.Prelude.{◌≡◌, IfOk, OnErr, OnOk};
+ghost use Rattle.histar_comparison.specs.Memory.{FailsForMemory};
 ghost use Rattle.histar_comparison.specs.Observation.{CanRun, EndsWithTree, KeepsReplies, KeepsReply};
 ghost use Rattle.histar_comparison.specs.Observation.{Observes, ShowsTree, observation};
 ghost use Rattle.histar_shell.specs.Ending.{HasTree};
+ghost use Rattle.histar_shell.specs.Memory.{StillShows};
 
 use crate::replies::{LineReply, Replies, once_done, wrap_path};
 use histar_base::Bytes;
 use histar_flat::{CallLine, Path, ProcName};
+use histar_heap::Heap;
 use histar_label::{InternStore, LabelStore};
 use histar_script::Script;
 use histar_shell::{Machine, node_text};
-use std::alloc::{AllocError, Global};
+use std::alloc::AllocError;
 use std::marker::Model;
 
 /// The parts of the run of a script that a comparison needs.
@@ -33,61 +36,66 @@ impl Model for Observation {
 pub(crate) const REMEMBERED_ANSWERS: usize = 256;
 
 /// Runs a script on a machine of its own.
-pub fn observe(alloc: Global, script: Script, job: &ProcName) -> Result<Observation, AllocError>
+pub fn observe<H: Heap>(heap: H, script: Script, job: &ProcName) -> Result<Observation, AllocError>
     requires { CanRun script }
-    ensures { IfOk result (λ seen. seen ≡ observation job.now script) }
+    ensures ok { IfOk result (λ seen. seen ≡ observation job.now script) }
+    ensures memory { OnErr result H.Refused }
 {
-    let store = InternStore::new(alloc, REMEMBERED_ANSWERS)?;
+    let store = InternStore::new(heap, REMEMBERED_ANSWERS)?;
     let (accounts, calls) = script.into_parts();
-    let Ok(mut machine) = Machine::boot(alloc, store, accounts) else {
+    let Ok(mut machine) = Machine::boot(heap, store, accounts) else {
         return Err(AllocError);
     };
-    let seen = observe_run(alloc, &mut machine, job, calls);
+    let seen = observe_run(heap, &mut machine, job, calls);
     drop(machine);
     seen
 }
 
 /// Makes the calls on a machine that was booted, and keeps the replies and the tree after the last call.
-fn observe_run<S: LabelStore + Drop>(
-    alloc: Global,
+fn observe_run<H: Heap, S: LabelStore + Drop>(
+    heap: H,
     machine: &mut Machine<S>,
     job: &ProcName,
     calls: Vec<CallLine>,
 ) -> Result<Observation, AllocError>
     requires { EndsWithTree job.now machine.old calls.items }
-    ensures { IfOk result (Observes job.now machine.old machine.new calls.items) }
+    ensures ok { IfOk result (Observes job.now machine.old machine.new calls.items) }
+    ensures memory { FailsForMemory H.Refused machine.old result }
 {
-    let mut replies = Replies::new(alloc);
-    observe_calls(alloc, machine, job, calls, &mut replies)?;
-    let tree = show_tree(alloc, machine)?;
+    let mut replies = Replies::new(heap.alloc());
+    observe_calls(heap, machine, job, calls, &mut replies)?;
+    let tree = show_tree(heap, machine)?;
     Ok(Observation { replies, tree })
 }
 
 /// Makes the calls on the machine in their order, and keeps the replies.
-fn observe_calls<S: LabelStore + Drop>(
-    alloc: Global,
+fn observe_calls<H: Heap, S: LabelStore + Drop>(
+    heap: H,
     machine: &mut Machine<S>,
     job: &ProcName,
     calls: Vec<CallLine>,
     replies: &mut Replies,
 ) -> Result<(), AllocError>
-    ensures { OnOk result (KeepsReplies job.now machine.old machine.new replies.old replies.new calls.items) }
+    ensures ok { OnOk result (KeepsReplies job.now machine.old machine.new replies.old replies.new calls.items) }
+    ensures memory { FailsForMemory H.Refused machine.old result }
 {
     'calls: for call in calls {
-        observe_call(alloc, machine, job, call, replies)?;
+        observe_call(heap, machine, job, call, replies)?;
     }
     Ok(())
 }
 
 /// Makes one call on the machine, and keeps the reply.
-fn observe_call<S: LabelStore + Drop>(
-    alloc: Global,
+fn observe_call<H: Heap, S: LabelStore + Drop>(
+    heap: H,
     machine: &mut Machine<S>,
     job: &ProcName,
     call: CallLine,
     replies: &mut Replies,
 ) -> Result<(), AllocError>
-    ensures { OnOk result (KeepsReply job.now machine.old machine.new replies.old replies.new call) }
+    ensures ok { OnOk result (KeepsReply job.now machine.old machine.new replies.old replies.new call) }
+    ensures shows { OnOk result (StillShows machine.old machine.new) }
+    ensures memory { FailsForMemory H.Refused machine.old result }
 {
     let CallLine {
         line,
@@ -97,7 +105,7 @@ fn observe_call<S: LabelStore + Drop>(
     let wraps = wrap_path(&call);
     let done = once_done(replies.directory(), &call);
     let reveals = replies.reveals(job, &process, &call);
-    let Ok(reply) = machine.step(alloc, line, &process, call) else {
+    let Ok(reply) = machine.step(heap, line, &process, call) else {
         return Err(AllocError);
     };
     replies.follow(job, wraps, done, &reply);
@@ -107,23 +115,24 @@ fn observe_call<S: LabelStore + Drop>(
         reply: &reply,
         reveals,
     };
-    replies.show(alloc, job, &shown)
+    replies.show(heap, job, &shown)
 }
 
 /// Returns the lines of the tree of a machine.
-pub(crate) fn show_tree<S: LabelStore + Drop>(
-    alloc: Global,
+pub(crate) fn show_tree<H: Heap, S: LabelStore + Drop>(
+    heap: H,
     machine: &Machine<S>,
 ) -> Result<Vec<(Path, Bytes)>, AllocError>
     requires { HasTree machine.now }
-    ensures { IfOk result (λ lines. ShowsTree machine.now lines.items) }
+    ensures ok { IfOk result (λ lines. ShowsTree machine.now lines.items) }
+    ensures memory { OnErr result H.Refused }
 {
-    let tree = machine.tree(alloc)?;
-    let mut lines = Vec::new(alloc);
+    let tree = machine.tree(heap)?;
+    let mut lines = Vec::new(heap.alloc());
     'nodes: for node in &tree {
         let bytes = machine.bytes_of(node);
-        let text = node_text(alloc, &node.path, node.stat(), bytes)?;
-        lines.push((node.path, Bytes::from_vec(text)))?;
+        let text = node_text(heap, &node.path, node.stat(), bytes)?;
+        heap.push(&mut lines, (node.path, Bytes::from_vec(text)))?;
     }
     Ok(lines)
 }

@@ -1,5 +1,5 @@
 //! What is kept of the replies to a script.
-ghost use Rattle.std.specs.Prelude.{◌≡◌, ◌∷◌, ◌&&◌, ◌||◌, OnOk, option_map};
+ghost use Rattle.std.specs.Prelude.{◌≡◌, ◌∷◌, ◌&&◌, ◌||◌, OnErr, OnOk, option_map};
 ghost use Rattle.histar_noninterference.specs.Comparison.{is_outsider};
 ghost use Rattle.histar_noninterference.specs.Following.{left_without};
 ghost use Rattle.histar_noninterference.specs.Isolation.{is_rmdir_or_wrap};
@@ -11,6 +11,7 @@ ghost use Rattle.histar_comparison.specs.Replies.{shown_by, with_shown, wrap_pat
 
 use histar_base::Bytes;
 use histar_flat::{Name, Path, ProcName, Reply, UnixCall};
+use histar_heap::Heap;
 use histar_noninterference::ShownReply;
 use histar_shell::reply_text;
 use std::alloc::{AllocError, Global};
@@ -123,16 +124,17 @@ impl Replies {
     }
 
     /// Keeps the reply to a line, if its process is an outsider, and if it reveals the job.
-    pub fn show(
+    pub fn show<H: Heap>(
         &mut self,
-        alloc: Global,
+        heap: H,
         job: &ProcName,
         shown: &LineReply,
     ) -> Result<(), AllocError>
-        ensures { let a = shown.now in OnOk result (self.new ≡ record self.old {
+        ensures ok { let a = shown.now in OnOk result (self.new ≡ record self.old {
           shown = shown_by job.now self.old.shown a.line a.process.now a.reply.now;
           revealing = with_shown a.reveals self.old.revealing a.line a.reply.now;
         }) }
+        ensures memory { OnErr result H.Refused }
     {
         let LineReply {
             line,
@@ -141,29 +143,30 @@ impl Replies {
             reveals,
         } = *shown;
         push_if(
-            alloc,
+            heap,
             &mut self.shown,
             is_outsider(job, process),
             line,
             reply,
         )?;
-        push_if(alloc, &mut self.revealing, reveals, line, reply)
+        push_if(heap, &mut self.revealing, reveals, line, reply)
     }
 }
 
 /// Adds the reply to a line to the replies that are kept, if the test holds.
-fn push_if(
-    alloc: Global,
+fn push_if<H: Heap>(
+    heap: H,
     kept: &mut Vec<ShownReply>,
     test: bool,
     line: u32,
     reply: &Reply,
 ) -> Result<(), AllocError>
-    ensures { OnOk result (kept.new.items ≡ with_shown test kept.old.items line reply.now) }
+    ensures ok { OnOk result (kept.new.items ≡ with_shown test kept.old.items line reply.now) }
+    ensures memory { OnErr result H.Refused }
 {
     if test {
-        let text = Bytes::from_vec(reply_text(alloc, reply)?);
-        kept.push(ShownReply { line, text })?;
+        let text = Bytes::from_vec(reply_text(heap, reply)?);
+        heap.push(kept, ShownReply { line, text })?;
     }
     Ok(())
 }

@@ -15,7 +15,7 @@ pub(crate) fn claims_at(alloc: Global, table: &[u8], path: &Path) -> Result<Vec<
     ensures { IfOk result (λ claims. claims.items ≡ claims_at path.now (lines_of table.now)) }
 {
     let mut name = Vec::new(alloc);
-    push_path(&mut name, path)?;
+    push_path(alloc, &mut name, path)?;
     let mut claims = Vec::new(alloc);
     push_claims(&mut claims, table, name.as_slice())?;
     Ok(claims)

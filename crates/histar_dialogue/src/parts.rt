@@ -17,7 +17,7 @@ pub(crate) fn lines_at(alloc: Global, table: &[u8], path: &Path) -> Result<Vec<u
         ≡ or_no_entry (flat_map (line_at path.now) (lines_of table.now))) }
 {
     let mut name = Vec::new(alloc);
-    push_path(&mut name, path)?;
+    push_path(alloc, &mut name, path)?;
     let mut text = Vec::new(alloc);
     push_lines_of(&mut text, table, path, name.as_slice())?;
     if text.is_empty() {

@@ -18,7 +18,7 @@ pub(crate) fn spoken(
     let mut text = Vec::new(alloc);
     if let Some(process) = speaker {
         if lacks_process(line) {
-            push_process(&mut text, process)?;
+            push_process(alloc, &mut text, process)?;
             text.push(b' ')?;
         }
     }

@@ -38,7 +38,7 @@ fn push_lone(text: &mut Vec<u8>, lone: &Lone) -> Result<(), AllocError>
     ensures { OnOk result (text.new.items ≡ text.old.items ++ lone_text lone.now) }
 {
     text.extend_from_slice(b"process ")?;
-    push_process(text, &lone.process)?;
+    push_process(*text.allocator(), text, &lone.process)?;
     text.extend_from_slice(b" ")?;
     text.extend_from_slice(lone.user.as_bytes())?;
     push_fate(text, lone.is_new)
@@ -70,9 +70,10 @@ fn push_differences(text: &mut Vec<u8>, differences: &[Difference]) -> Result<()
 fn push_difference(text: &mut Vec<u8>, difference: &Difference) -> Result<(), AllocError>
     ensures { OnOk result (text.new.items ≡ text.old.items ++ difference_text difference.now) }
 {
-    push_path(text, &difference.path)?;
+    let alloc = *text.allocator();
+    push_path(alloc, text, &difference.path)?;
     text.extend_from_slice(b" ")?;
-    push_process(text, &difference.process)?;
+    push_process(alloc, text, &difference.process)?;
     text.extend_from_slice(b" ")?;
     push_user(text, difference.old_user, difference.user)?;
     push_change(text, difference.before, difference.after)

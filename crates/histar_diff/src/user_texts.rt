@@ -57,7 +57,7 @@ fn push_differences(text: &mut Vec<u8>, differences: &[UserDifference]) -> Resul
 fn push_difference(text: &mut Vec<u8>, difference: &UserDifference) -> Result<(), AllocError>
     ensures { OnOk result (text.new.items ≡ text.old.items ++ user_difference_text difference.now) }
 {
-    push_path(text, &difference.path)?;
+    push_path(*text.allocator(), text, &difference.path)?;
     text.extend_from_slice(b" ")?;
     text.extend_from_slice(difference.user.as_bytes())?;
     push_change(text, difference.before, difference.after)

@@ -49,7 +49,7 @@ module _ {E : Type 0} (gathers : Gathering E) where
     abbrev states : List Flat
     states = states_from accounts (boot accounts) first
 
-    shows_after : (old new : MachineModel) (reply : Reply) → FollowsMeaning old new c.line c.process c.call (Ok reply)
+    shows_after : (old new : MachineModel) (reply : Reply) → FollowsMeaning (Unit {0}) old new c.line c.process c.call (Ok reply)
         → Shows accounts old before → Shows accounts new after
     shows_after old new reply means shows =
         subst (Shows accounts new) (sym (states_go_on accounts (boot accounts) first (c ∷ []))) (means accounts before shows).shows
@@ -61,7 +61,7 @@ module _ {E : Type 0} (gathers : Gathering E) where
         (ap (λ (g : Flat). states ++ g ∷ []) is ∙ sym (states_more accounts (boot accounts) first c)) gathered
 
     -- a call was made, and the state after it was gathered
-    called : (old new : MachineModel) (e added : E) (reply : Reply) → FollowsMeaning old new c.line c.process c.call (Ok reply)
+    called : (old new : MachineModel) (e added : E) (reply : Reply) → FollowsMeaning (Unit {0}) old new c.line c.process c.call (Ok reply)
         → AddsState gathers new e added → IsAfter gathers accounts first old e → IsAfter gathers accounts (first ++ c ∷ []) new added
     called old new e added reply means adds is =
         let shows = shows_after old new reply means is.shows in
@@ -69,7 +69,7 @@ module _ {E : Type 0} (gathers : Gathering E) where
 
     -- a call was made that changed nothing
     asked : AddsNothingAgain gathers → (old new : MachineModel) (e : E) (reply : Reply)
-        → FollowsMeaning old new c.line c.process c.call (Ok reply)
+        → FollowsMeaning (Unit {0}) old new c.line c.process c.call (Ok reply)
         → may_change c.call reply ≡ false → IsAfter gathers accounts first old e → IsAfter gathers accounts (first ++ c ∷ []) new e
     asked again old new e reply means unchanged is =
         let same : flat_after accounts before c.process c.call ≡ before = others_change_nothing accounts before c.process c.call
@@ -81,7 +81,7 @@ module _ {E : Type 0} (gathers : Gathering E) where
         }
 
   module _ (old new : MachineModel) (e : E) (c : CallLine) (reply : Reply)
-      (means : FollowsMeaning old new c.line c.process c.call (Ok reply)) where
+      (means : FollowsMeaning (Unit {0}) old new c.line c.process c.call (Ok reply)) where
     -- the machine represents some state after a call
     pub shown_after : IsRunning gathers old e → IsShown new
     shown_after is = (

@@ -101,6 +101,8 @@ impl Command for EverAt {
 
     type Answer = ();
 
+    type Memory = Global;
+
     ghost Runs = { λ command. EverText command.at };
 
     fn on_text<W: Sink>(self, alloc: Global, text: Vec<u8>, writer: &mut W) -> Result<(), Fault> {
@@ -122,6 +124,8 @@ impl Command for EverUsersAt {
     ghost use Rattle.std.proofs.Common.{rules};
 
     type Answer = ();
+
+    type Memory = Global;
 
     ghost Runs = { λ command. EverUsersText command.at };
 

@@ -44,7 +44,7 @@ fn push_line(
     ensures { OnOk result (text.new.items
         ≡ text.old.items ++ gathered_line ever.now.letters processes.now path.now) }
 {
-    push_path(text, path)?;
+    push_path(*text.allocator(), text, path)?;
     push_cells(text, ever, path, processes)?;
     text.extend_from_slice(b"\n")
 }
@@ -76,7 +76,7 @@ fn push_cell(
         ≡ text.old.items ++ gathered_cell ever.now.letters path.now process.now) }
 {
     text.extend_from_slice(b" ")?;
-    push_process(text, process)?;
+    push_process(*text.allocator(), text, process)?;
     text.extend_from_slice(b":")?;
     ever.letters(path, process).push_letters(text)
 }

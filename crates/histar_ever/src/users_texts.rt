@@ -33,7 +33,7 @@ fn push_line(text: &mut Vec<u8>, ever: &EverUsers, path: &Path) -> Result<(), Al
     ensures { OnOk result (text.new.items
         ≡ text.old.items ++ gathered_users_line ever.now.letters ever.now.users.items path.now) }
 {
-    push_path(text, path)?;
+    push_path(*text.allocator(), text, path)?;
     push_users(text, ever, path, ever.users.as_slice())?;
     text.extend_from_slice(b"\n")
 }

@@ -1,11 +1,12 @@
 //! The users and groups that a script declares.
-ghost use Rattle.std.specs.Prelude.{◌≡◌, ◌<◌, ◌≤◌, length, position, IfSome, OnOk};
+ghost use Rattle.std.specs.Prelude.{◌≡◌, ◌<◌, ◌≤◌, length, position, IfSome, OnErr, OnOk};
 ghost use Rattle.histar_base.specs.Paths.{same};
 ghost use Rattle.histar_flat.specs.Accounts.{IsSmall, group_number, is_group, most_users, most_groups, no_accounts, with_user, with_group};
 
 use crate::calls::User;
 use crate::groups::Group;
 use crate::names::Name;
+use histar_heap::Heap;
 use std::alloc::{AllocError, Global};
 use std::marker::Model;
 
@@ -55,20 +56,22 @@ impl Accounts {
     }
 
     /// Declares a user, after the others.
-    pub fn add_user(&mut self, user: User) -> Result<(), AllocError>
+    pub fn add_user<H: Heap>(&mut self, heap: H, user: User) -> Result<(), AllocError>
         requires { length self.old.users < most_users }
-        ensures { OnOk result (self.new ≡ with_user self.old user) }
+        ensures ok { OnOk result (self.new ≡ with_user self.old user) }
+        ensures memory { OnErr result H.Refused }
     {
-        self.users.push(user)?;
+        heap.push(&mut self.users, user)?;
         Ok(())
     }
 
     /// Declares a group, after the others.
-    pub fn add_group(&mut self, group: Group) -> Result<(), AllocError>
+    pub fn add_group<H: Heap>(&mut self, heap: H, group: Group) -> Result<(), AllocError>
         requires { length self.old.groups < most_groups }
-        ensures { OnOk result (self.new ≡ with_group self.old group) }
+        ensures ok { OnOk result (self.new ≡ with_group self.old group) }
+        ensures memory { OnErr result H.Refused }
     {
-        self.groups.push(group)?;
+        heap.push(&mut self.groups, group)?;
         Ok(())
     }
 

@@ -1,10 +1,11 @@
 //! Paths that own their memory, as calls hold them.
-ghost use Rattle.std.specs.Prelude.{◌≡◌, ◌≤◌, [], length, reverse, IfOk, IsTrue};
+ghost use Rattle.std.specs.Prelude.{◌≡◌, ◌≤◌, [], length, reverse, IfOk, IsTrue, OnErr};
 ghost use Rattle.histar_flat.specs.Words.{most_names, is_path, path_of, path_from};
 
 use crate::names::Name;
 use crate::paths::{MOST_NAMES, Path};
 use crate::readers::{read_name, split_at_first};
+use histar_heap::Heap;
 use std::alloc::{AllocError, Global};
 use std::marker::Model;
 
@@ -27,12 +28,13 @@ impl Model for OwnedPath {
 }
 
 impl OwnedPath {
-    // Returns `/`, with room for this many names.
-    fn root(alloc: Global, names: usize) -> Result<OwnedPath, AllocError>
-        ensures { IfOk result (λ owned. owned ≡ []) }
+    // Returns `/`.
+    fn root(alloc: Global) -> OwnedPath
+        ensures { result ≡ [] }
     {
-        let names = Vec::with_capacity(alloc, names)?;
-        Ok(OwnedPath { names })
+        OwnedPath {
+            names: Vec::new(alloc),
+        }
     }
 
     // Returns the path along these names from `/` on, the first name first.
@@ -46,11 +48,12 @@ impl OwnedPath {
     }
 
     /// Returns a copy of the path, in memory of its own.
-    pub fn of(alloc: Global, path: &Path) -> Result<OwnedPath, AllocError>
-        ensures { IfOk result (λ owned. owned ≡ path.now) }
+    pub fn of<H: Heap>(heap: H, path: &Path) -> Result<OwnedPath, AllocError>
+        ensures ok { IfOk result (λ owned. owned ≡ path.now) }
+        ensures memory { OnErr result H.Refused }
     {
-        let mut names = Vec::with_capacity(alloc, path.depth())?;
-        names.extend_from_slice(path.names())?;
+        let mut names = heap.with_room(path.depth())?;
+        heap.extend(&mut names, path.names())?;
         Ok(OwnedPath { names })
     }
 
@@ -72,31 +75,30 @@ impl OwnedPath {
 }
 
 /// Returns the path that the bytes spell, in memory of its own, or `None` if they spell none.
-pub fn read_owned_path(alloc: Global, text: &[u8]) -> Result<Option<OwnedPath>, AllocError>
-    ensures { IfOk result (λ path. path ≡ path_of text.now) }
+pub fn read_owned_path<H: Heap>(heap: H, text: &[u8]) -> Result<Option<OwnedPath>, AllocError>
+    ensures ok { IfOk result (λ path. path ≡ path_of text.now) }
+    ensures memory { OnErr result H.Refused }
 {
     match text {
-        [b'/'] => {
-            let root = OwnedPath::root(alloc, 0)?;
-            Ok(Some(root))
-        }
-        [b'/', names @ ..] => read_owned_names(alloc, names),
+        [b'/'] => Ok(Some(OwnedPath::root(heap.alloc()))),
+        [b'/', names @ ..] => read_owned_names(heap, names),
         _ => Ok(None),
     }
 }
 
 // Returns the path from `/` along these names, which have slashes between them.
-fn read_owned_names(alloc: Global, text: &[u8]) -> Result<Option<OwnedPath>, AllocError>
-    ensures { IfOk result (λ path. path ≡ path_from most_names [] text.now) }
+fn read_owned_names<H: Heap>(heap: H, text: &[u8]) -> Result<Option<OwnedPath>, AllocError>
+    ensures ok { IfOk result (λ path. path ≡ path_from most_names [] text.now) }
+    ensures memory { OnErr result H.Refused }
 {
-    let mut names = Vec::with_capacity(alloc, count_names(text))?;
+    let mut names = heap.with_room(count_names(text))?;
     let mut rest = text;
     for _ in 0..MOST_NAMES {
         let (word, after) = split_at_first(rest, b'/');
         let Some(name) = read_name(word) else {
             return Ok(None);
         };
-        names.push(name)?;
+        heap.push(&mut names, name)?;
         match after {
             None => return Ok(Some(OwnedPath::along(names))),
             Some(others) => rest = others,

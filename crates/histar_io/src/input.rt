@@ -3,9 +3,11 @@ ghost use Rattle.std.specs.Prelude.{◌≡◌, IfOk, OnErr};
 ghost use Rattle.histar_io.specs.declared.input.InputError.TheVariants.{OutOfMemory};
 ghost use Rattle.histar_io.specs.Device.{CountsFailure};
 ghost use Rattle.histar_io.specs.Input.{TakesAll, TakesSome, is_read_failed};
+ghost use Rattle.histar_io.specs.Memory.{OnOutOfMemory};
 
 use crate::device::Source;
-use std::alloc::{AllocError, Global};
+use histar_heap::Heap;
+use std::alloc::AllocError;
 use thiserror::Error;
 
 /// The most bytes that a run takes of its input: one more than a script may have, which is enough
@@ -36,18 +38,19 @@ impl From<AllocError> for InputError {
 /// Reads a source up to its end, or up to one byte more than a script may have.
 ///
 /// Each failed read is an error, of whatever kind, and no read is tried again.
-pub fn read_input<R: Source>(alloc: Global, reader: &mut R) -> Result<Vec<u8>, InputError>
+pub fn read_input<H: Heap, R: Source>(heap: H, reader: &mut R) -> Result<Vec<u8>, InputError>
     ensures ok { IfOk result (λ input. TakesAll (R.left reader.old) (R.left reader.new) input.items) }
     ensures err { OnErr result (TakesSome (R.left reader.old) (R.left reader.new)) }
     ensures count { CountsFailure (R.failures reader.old) (R.failures reader.new) (is_read_failed result) }
+    ensures memory { OnOutOfMemory result H.Refused }
 {
-    let mut input = Vec::new(alloc);
+    let mut input = Vec::new(heap.alloc());
     let mut chunk = [0u8; CHUNK];
     'chunks: while input.len() < MOST_TAKEN {
         let room = CHUNK.min(MOST_TAKEN - input.len());
         match reader.pull(&mut chunk[..room]) {
             Ok(0) => break 'chunks,
-            Ok(n) => input.extend_from_slice(&chunk[..n])?,
+            Ok(n) => heap.extend(&mut input, &chunk[..n])?,
             Err(_) => return Err(InputError::ReadFailed),
         }
     }

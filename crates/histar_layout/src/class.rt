@@ -1,5 +1,6 @@
 //! The classes of files and directories, each with its label.
-ghost use Rattle.std.specs.Prelude.{◌≡◌, ◌+◌, ◌*◌, ◌↔◌, Some, IfOk, IsTrue};
+ghost use Rattle.std.specs.Prelude.{◌≡◌, ◌+◌, ◌*◌, ◌↔◌, ◌&&◌, nat_le, Some, IfOk, IsTrue, OnErr};
+ghost use Rattle.histar_layout.specs.Jobs.{is_three};
 ghost use Rattle.histar_layout.specs.ShownClass.{stat_of};
 ghost use Rattle.histar_layout.specs.ClassLabels.{ClassesAreShown, FindsClass, LabelsHaveOneClass};
 ghost use Rattle.histar_layout.specs.ClassLabels.{class_label, first_after_groups, jobs_of, likely_class, without_jobs};
@@ -11,8 +12,9 @@ use crate::owners::group_owner;
 use crate::shown::{ShownClass, shown_class};
 use crate::user_table::UserTable;
 use histar_flat::{Name, Stat};
+use histar_heap::Heap;
 use histar_label::{Category, Label, Level};
-use std::alloc::{AllocError, Global};
+use std::alloc::AllocError;
 use std::marker::Model;
 
 /// The categories of jobs, by rising numbers. Contracts see them as their list.
@@ -86,17 +88,18 @@ impl Class {
 /// it is `{r:3, w:0, 1}` with the user's two categories, readable for everyone and writable for a user if it
 /// is `{w:0, 1}`, open if it is `{1}`, a user's in jobs if it is `{r:3, 1}` with level 3 at each job's
 /// category, and a group's if it is `{r:3, w:0, 1}` with the group's two categories.
-pub fn class_of(
-    alloc: Global,
+pub fn class_of<H: Heap>(
+    heap: H,
     label: &Label,
     users: &UserTable,
 ) -> Result<Option<Class>, AllocError>
-    ensures { IfOk result (FindsClass users.now label.now) }
+    ensures ok { IfOk result (FindsClass users.now label.now) }
+    ensures memory { OnErr result H.Refused }
 {
-    let Some(class) = likely_class(alloc, label, users)? else {
+    let Some(class) = likely_class(heap, label, users)? else {
         return Ok(None);
     };
-    if has_label(alloc, &class, label, users)? {
+    if has_label(heap, &class, label, users)? {
         Ok(Some(class))
     } else {
         Ok(None)
@@ -104,12 +107,13 @@ pub fn class_of(
 }
 
 /// Returns the only class that a label can have: the one that it shows, with the jobs that it has.
-fn likely_class(
-    alloc: Global,
+fn likely_class<H: Heap>(
+    heap: H,
     label: &Label,
     users: &UserTable,
 ) -> Result<Option<Class>, AllocError>
-    ensures { IfOk result (λ class. class ≡ likely_class users.now label.now) }
+    ensures ok { IfOk result (λ class. class ≡ likely_class users.now label.now) }
+    ensures memory { OnErr result H.Refused }
 {
     let Some(shown) = shown_class(label, users) else {
         return Ok(None);
@@ -118,21 +122,33 @@ fn likely_class(
         ShownClass::Private(owner) => Class::Private(owner),
         ShownClass::Readable(owner) => Class::Readable(owner),
         ShownClass::Open => Class::Open,
-        ShownClass::Scratch(owner) => Class::Scratch(owner, jobs_of(alloc, label, users)?),
+        ShownClass::Scratch(owner) => Class::Scratch(owner, jobs_of(heap, label, users)?),
         ShownClass::Group(group) => Class::Group(group),
     };
     Ok(Some(class))
 }
 
 /// Returns the categories of jobs that are at 3 in a label.
-fn jobs_of(alloc: Global, label: &Label, users: &UserTable) -> Result<Chain, AllocError>
-    ensures { IfOk result (λ chain. chain ≡ jobs_of users.now label.now) }
+fn jobs_of<H: Heap>(heap: H, label: &Label, users: &UserTable) -> Result<Chain, AllocError>
+    ensures ok { IfOk result (λ chain. chain ≡ jobs_of users.now label.now) }
+    ensures memory { OnErr result H.Refused }
 {
     let first = first_after_groups(users);
-    let exceptions = label.exceptions().iter();
-    let of_jobs = exceptions.filter(|e| is_three(e.1) && first <= e.0.number());
-    let jobs = of_jobs.map(|e| e.0).collect(alloc)?;
+    let mut jobs = Vec::new(heap.alloc());
+    let exceptions = label.exceptions();
+    for &(category, level) in exceptions {
+        if is_of_job(first, category, level) {
+            heap.push(&mut jobs, category)?;
+        }
+    }
     Ok(Chain { jobs })
+}
+
+/// Checks whether a category at this level is that of a job, where the categories of jobs begin with this number.
+fn is_of_job(first: u64, category: Category, level: Level) -> bool
+    ensures { result ≡ (is_three level && nat_le first category) }
+{
+    is_three(level) && first <= category.number()
 }
 
 /// Returns the number of the first category after those of boot, nobody, the users and the groups.
@@ -143,53 +159,55 @@ fn first_after_groups(users: &UserTable) -> u64
 }
 
 /// Checks whether a label is that of a class.
-fn has_label(
-    alloc: Global,
+fn has_label<H: Heap>(
+    heap: H,
     class: &Class,
     label: &Label,
     users: &UserTable,
 ) -> Result<bool, AllocError>
-    ensures { IfOk result (λ has. IsTrue has ↔ (class_label users.now class.now ≡ Some label.now)) }
+    ensures ok { IfOk result (λ has. IsTrue has ↔ (class_label users.now class.now ≡ Some label.now)) }
+    ensures memory { OnErr result H.Refused }
 {
-    match class_label(alloc, class, users)? {
+    match class_label(heap, class, users)? {
         None => Ok(false),
         Some(due) => Ok(due == *label),
     }
 }
 
 /// Returns the label of a class. None where its owner or its group is not declared.
-pub fn class_label(
-    alloc: Global,
+pub fn class_label<H: Heap>(
+    heap: H,
     class: &Class,
     users: &UserTable,
 ) -> Result<Option<Label>, AllocError>
-    ensures { IfOk result (λ label. label ≡ class_label users.now class.now) }
+    ensures ok { IfOk result (λ label. label ≡ class_label users.now class.now) }
+    ensures memory { OnErr result H.Refused }
 {
     let label = match class {
-        Class::Open => Label::new(alloc, Level::L1),
+        Class::Open => Label::new(heap.alloc(), Level::L1),
         Class::Group(group) => {
             let Some(number) = users.group_number(*group) else {
                 return Ok(None);
             };
-            secret_of(alloc, group_owner(users.len(), number))?
+            secret_of(heap, group_owner(users.len(), number))?
         }
         Class::Private(owner) => {
             let Some(user) = users.number_of(*owner) else {
                 return Ok(None);
             };
-            secret_of(alloc, user)?
+            secret_of(heap, user)?
         }
         Class::Readable(owner) => {
             let Some(user) = users.number_of(*owner) else {
                 return Ok(None);
             };
-            label_of(alloc, Level::L1, &[(write_category(user), Level::L0)])?
+            label_of(heap, Level::L1, &[(write_category(user), Level::L0)])?
         }
         Class::Scratch(owner, jobs) => {
             let Some(user) = users.number_of(*owner) else {
                 return Ok(None);
             };
-            scratch_label(alloc, user, jobs.as_slice())?
+            scratch_label(heap, user, jobs.as_slice())?
         }
     };
     Ok(Some(label))

@@ -14,7 +14,8 @@ use crate::read_entry::read_entry;
 use crate::span::{count_entries, span_of};
 use histar_base::Bytes;
 use histar_flat::Name;
-use std::alloc::{AllocError, Global};
+use histar_heap::{Heap, MOST_ROOM};
+use std::alloc::AllocError;
 use std::marker::Model;
 
 /// The greatest number of entries of a directory.
@@ -72,18 +73,24 @@ impl Dir {
     }
 
     /// Inserts an entry, which replaces one of the same name.
-    pub fn insert(&mut self, alloc: Global, name: &Name, target: Target) -> Result<(), AllocError>
+    pub fn insert<H: Heap>(
+        &mut self,
+        heap: H,
+        name: &Name,
+        target: Target,
+    ) -> Result<(), AllocError>
         requires room { map.len self.old < most_entries }
         requires leads { LeadsSomewhere target }
         ensures ok { OnOk result (self.new ≡ map.insert self.old name.now target) }
         ensures err { OnErr result (self.new ≡ self.old) }
+        ensures memory { OnErr result H.Refused }
     {
         let old = self.bytes.as_slice();
         let span = span_of(old, name);
-        let mut bytes = Vec::with_capacity(alloc, old.len() + MOST_ENTRY_LEN)?;
-        bytes.extend_from_slice(&old[..span.start])?;
-        push_entry(&mut bytes, name, target)?;
-        bytes.extend_from_slice(&old[span.end..])?;
+        let mut bytes = heap.with_room((old.len() + MOST_ENTRY_LEN).min(MOST_ROOM))?;
+        heap.extend(&mut bytes, &old[..span.start])?;
+        push_entry(heap, &mut bytes, name, target)?;
+        heap.extend(&mut bytes, &old[span.end..])?;
         self.bytes = bytes;
         Ok(())
     }
@@ -112,14 +119,15 @@ impl Dir {
     }
 
     /// Returns the entries, by rising names.
-    pub fn entries(&self, alloc: Global) -> Result<Vec<(Name, Target)>, AllocError>
-        ensures { IfOk result (λ entries. entries.items ≡ map.entries self.now) }
+    pub fn entries<H: Heap>(&self, heap: H) -> Result<Vec<(Name, Target)>, AllocError>
+        ensures ok { IfOk result (λ entries. entries.items ≡ map.entries self.now) }
+        ensures memory { OnErr result H.Refused }
     {
-        let mut entries = Vec::with_capacity(alloc, MOST_ENTRIES)?;
+        let mut entries = heap.with_room(MOST_ENTRIES)?;
         let mut rest = self.bytes.as_slice();
         'entries: while let Some(found) = read_entry(rest) {
             let (name, target, after) = found;
-            entries.push((name, target))?;
+            heap.push(&mut entries, (name, target))?;
             rest = after;
         }
         Ok(entries)
@@ -146,17 +154,19 @@ impl Dir {
 }
 
 /// Reads a directory from a copy of the bytes of its segment. None where they are no directory.
-pub fn read_dir(alloc: Global, bytes: &[u8]) -> Result<Option<Dir>, AllocError>
-    ensures { IfOk result (ReadsDirectory bytes.now) }
+pub fn read_dir<H: Heap>(heap: H, bytes: &[u8]) -> Result<Option<Dir>, AllocError>
+    ensures ok { IfOk result (ReadsDirectory bytes.now) }
+    ensures memory { OnErr result H.Refused }
 {
-    Ok(Dir::from_bytes(Bytes::copy_of(alloc, bytes)?))
+    Ok(Dir::from_bytes(Bytes::copy_of(heap, bytes)?))
 }
 
 /// Returns a copy of the bytes of a directory's segment.
-pub fn write_dir(alloc: Global, dir: &Dir) -> Result<Bytes, AllocError>
-    ensures { IfOk result (λ bytes. IsDirectory bytes dir.now) }
+pub fn write_dir<H: Heap>(heap: H, dir: &Dir) -> Result<Bytes, AllocError>
+    ensures ok { IfOk result (λ bytes. IsDirectory bytes dir.now) }
+    ensures memory { OnErr result H.Refused }
 {
-    Bytes::copy_of(alloc, dir.bytes.as_slice())
+    Bytes::copy_of(heap, dir.bytes.as_slice())
 }
 
 /// Proves that bytes are one directory at most.

@@ -1,12 +1,13 @@
 //! The owner numbers, by which categories go: nobody is 0, then come the users, and then the groups, in the
 //! order in which they were declared.
-ghost use Rattle.std.specs.Prelude.{◌≡◌, ◌≤◌, length, IfOk};
+ghost use Rattle.std.specs.Prelude.{◌≡◌, ◌≤◌, length, IfOk, OnErr};
 ghost use Rattle.histar_flat.specs.Accounts.{most_groups, most_users};
 ghost use Rattle.histar_layout.specs.Categories.{group_owner, owner_of_group, owners_among, owners_of};
 
 use crate::user_table::UserTable;
 use histar_flat::{Group, Name};
-use std::alloc::{AllocError, Global};
+use histar_heap::Heap;
+use std::alloc::AllocError;
 
 /// The number of nobody, whose categories no thread owns.
 const NOBODY: u8 = 0;
@@ -31,20 +32,21 @@ pub fn owner_of_group(users: &UserTable, name: Name) -> u8
 }
 
 /// Returns the owner numbers whose categories a user owns: its own, and those of its groups.
-pub fn owners_of(
-    alloc: Global,
+pub fn owners_of<H: Heap>(
+    heap: H,
     users: &UserTable,
     number: u8,
     name: Name,
 ) -> Result<Vec<u8>, AllocError>
-    ensures { IfOk result (λ owners. owners.items ≡ owners_of users.now number name) }
+    ensures ok { IfOk result (λ owners. owners.items ≡ owners_of users.now number name) }
+    ensures memory { OnErr result H.Refused }
 {
-    owners_among(alloc, users.len(), users.groups(), number, name)
+    owners_among(heap, users.len(), users.groups(), number, name)
 }
 
 /// Returns the same for this many users and these groups.
-pub fn owners_among(
-    alloc: Global,
+pub fn owners_among<H: Heap>(
+    heap: H,
     users: usize,
     groups: &[Group],
     number: u8,
@@ -52,12 +54,13 @@ pub fn owners_among(
 ) -> Result<Vec<u8>, AllocError>
     requires users { users ≤ most_users }
     requires groups { length groups.now ≤ most_groups }
-    ensures { IfOk result (λ owners. owners.items ≡ owners_among users groups.now number name) }
+    ensures ok { IfOk result (λ owners. owners.items ≡ owners_among users groups.now number name) }
+    ensures memory { OnErr result H.Refused }
 {
-    let mut owners = Vec::from_slice(alloc, &[number])?;
+    let mut owners = heap.copy_of(&[number])?;
     for (k, group) in groups.iter().enumerate() {
         if group.has(name) {
-            owners.push(group_owner(users, k as u8 + 1))?;
+            heap.push(&mut owners, group_owner(users, k as u8 + 1))?;
         }
     }
     Ok(owners)

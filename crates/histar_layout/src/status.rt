@@ -1,5 +1,5 @@
 //! The bytes of process segments.
-ghost use Rattle.std.specs.Prelude.{◌≡◌, ◌++◌, ◌<◌, List, Some, None, IfOk, OnOk, MatchOption, option_map, is_some};
+ghost use Rattle.std.specs.Prelude.{◌≡◌, ◌++◌, ◌<◌, List, Some, None, IfOk, OnOk, MatchOption, option_map, is_some, OnErr};
 ghost use Rattle.histar_flat.specs.Words.{most_children};
 ghost use Rattle.histar_layout.specs.Reading.{Gives};
 ghost use Rattle.histar_layout.specs.Status.{ProcessStatus, IsChanged, child_bytes, child_in, children_in, head_in, head_of};
@@ -9,8 +9,9 @@ ghost use Rattle.histar_layout.specs.StatusParts.{AppendsOthers, HasRoomForChild
 
 use crate::read_entry::read_number;
 use histar_base::Bytes;
+use histar_heap::{Heap, MOST_ROOM};
 use histar_object::ObjId;
-use std::alloc::{AllocError, Global};
+use std::alloc::AllocError;
 
 /// A child of a process, as the process's segment lists it.
 #[derive(Clone, Copy, Debug, PartialEq, Eq)]
@@ -82,8 +83,9 @@ pub fn find_child(bytes: &[u8], number: u8) -> Result<Option<Child>, NotAStatus>
 }
 
 /// Returns the bytes of the segment of a process that has just started.
-pub fn first_status(alloc: Global, internal: ObjId, thread: ObjId) -> Result<Bytes, AllocError>
-    ensures { IfOk result (λ bytes. bytes ≡ status_bytes (started internal thread)) }
+pub fn first_status<H: Heap>(heap: H, internal: ObjId, thread: ObjId) -> Result<Bytes, AllocError>
+    ensures ok { IfOk result (λ bytes. bytes ≡ status_bytes (started internal thread)) }
+    ensures memory { OnErr result H.Refused }
 {
     let head = StatusHead {
         exited: None,
@@ -91,18 +93,19 @@ pub fn first_status(alloc: Global, internal: ObjId, thread: ObjId) -> Result<Byt
         internal,
         thread,
     };
-    let mut out = Vec::with_capacity(alloc, HEAD_LEN)?;
-    push_head(&mut out, head)?;
+    let mut out = heap.with_room(HEAD_LEN)?;
+    push_head(heap, &mut out, head)?;
     Ok(Bytes::from_vec(out))
 }
 
 /// Returns the bytes of a process segment after the process has exited with this number. Where the old ones
 /// are no process segment's, there are none.
-pub fn exit_status(alloc: Global, bytes: &[u8], number: u8) -> Result<Bytes, AllocError>
-    ensures { IfOk result (IsChanged (once_exited number) bytes.now) }
+pub fn exit_status<H: Heap>(heap: H, bytes: &[u8], number: u8) -> Result<Bytes, AllocError>
+    ensures ok { IfOk result (IsChanged (once_exited number) bytes.now) }
+    ensures memory { OnErr result H.Refused }
 {
     let Some((head, children)) = split_status(bytes) else {
-        return Ok(Bytes::new(alloc));
+        return Ok(Bytes::new(heap.alloc()));
     };
     let head = StatusHead {
         exited: Some(number),
@@ -110,37 +113,40 @@ pub fn exit_status(alloc: Global, bytes: &[u8], number: u8) -> Result<Bytes, All
         internal: ObjId::new(0),
         thread: ObjId::new(0),
     };
-    let mut out = Vec::with_capacity(alloc, bytes.len())?;
-    push_head(&mut out, head)?;
-    out.extend_from_slice(children)?;
+    let mut out = heap.with_room(bytes.len().min(MOST_ROOM))?;
+    push_head(heap, &mut out, head)?;
+    heap.extend(&mut out, children)?;
     Ok(Bytes::from_vec(out))
 }
 
 /// Returns the bytes of a process segment after one more child was born, with these objects. Where the old
 /// ones are no process segment's, there are none.
-pub fn add_child(
-    alloc: Global,
+pub fn add_child<H: Heap>(
+    heap: H,
     bytes: &[u8],
     container: ObjId,
     segment: ObjId,
 ) -> Result<Bytes, AllocError>
     requires { HasRoomForChild bytes.now }
-    ensures { IfOk result (IsChanged (with_child_listed container segment) bytes.now) }
+    ensures ok { IfOk result (IsChanged (with_child_listed container segment) bytes.now) }
+    ensures memory { OnErr result H.Refused }
 {
     let Some((head, children)) = split_status(bytes) else {
-        return Ok(Bytes::new(alloc));
+        return Ok(Bytes::new(heap.alloc()));
     };
     let number = head.born + 1;
-    let mut out = Vec::with_capacity(alloc, bytes.len() + CHILD_LEN)?;
+    let mut out = heap.with_room((bytes.len() + CHILD_LEN).min(MOST_ROOM))?;
     push_head(
+        heap,
         &mut out,
         StatusHead {
             born: number,
             ..head
         },
     )?;
-    out.extend_from_slice(children)?;
+    heap.extend(&mut out, children)?;
     push_child(
+        heap,
         &mut out,
         Child {
             number,
@@ -153,15 +159,16 @@ pub fn add_child(
 
 /// Returns the bytes of a process segment after the child of this number was killed. Where the old ones are
 /// no process segment's, there are none.
-pub fn remove_child(alloc: Global, bytes: &[u8], number: u8) -> Result<Bytes, AllocError>
-    ensures { IfOk result (IsChanged (without_child number) bytes.now) }
+pub fn remove_child<H: Heap>(heap: H, bytes: &[u8], number: u8) -> Result<Bytes, AllocError>
+    ensures ok { IfOk result (IsChanged (without_child number) bytes.now) }
+    ensures memory { OnErr result H.Refused }
 {
     let Some((head, children)) = split_status(bytes) else {
-        return Ok(Bytes::new(alloc));
+        return Ok(Bytes::new(heap.alloc()));
     };
-    let mut out = Vec::with_capacity(alloc, bytes.len())?;
-    push_head(&mut out, head)?;
-    push_others(&mut out, children, number)?;
+    let mut out = heap.with_room(bytes.len().min(MOST_ROOM))?;
+    push_head(heap, &mut out, head)?;
+    push_others(heap, &mut out, children, number)?;
     Ok(Bytes::from_vec(out))
 }
 
@@ -240,39 +247,47 @@ fn first_child(bytes: &[u8]) -> Option<Child>
 }
 
 // Appends the head of a process segment.
-fn push_head(out: &mut Vec<u8>, head: StatusHead) -> Result<(), AllocError>
-    ensures { OnOk result (out.new.items ≡ out.old.items ++ head_bytes head) }
+fn push_head<H: Heap>(heap: H, out: &mut Vec<u8>, head: StatusHead) -> Result<(), AllocError>
+    ensures ok { OnOk result (out.new.items ≡ out.old.items ++ head_bytes head) }
+    ensures memory { OnErr result H.Refused }
 {
     let (letter, number) = match head.exited {
         None => (b'r', 0),
         Some(number) => (b'x', number),
     };
-    out.push(letter)?;
-    out.push(number)?;
-    out.push(head.born)?;
-    out.extend_from_slice(&head.internal.number().to_be_bytes())?;
-    out.extend_from_slice(&head.thread.number().to_be_bytes())?;
+    heap.push(out, letter)?;
+    heap.push(out, number)?;
+    heap.push(out, head.born)?;
+    heap.extend(out, &head.internal.number().to_be_bytes())?;
+    heap.extend(out, &head.thread.number().to_be_bytes())?;
     Ok(())
 }
 
 // Appends a child.
-fn push_child(out: &mut Vec<u8>, child: Child) -> Result<(), AllocError>
-    ensures { OnOk result (out.new.items ≡ out.old.items ++ child_bytes child) }
+fn push_child<H: Heap>(heap: H, out: &mut Vec<u8>, child: Child) -> Result<(), AllocError>
+    ensures ok { OnOk result (out.new.items ≡ out.old.items ++ child_bytes child) }
+    ensures memory { OnErr result H.Refused }
 {
-    out.push(child.number)?;
-    out.extend_from_slice(&child.container.number().to_be_bytes())?;
-    out.extend_from_slice(&child.segment.number().to_be_bytes())?;
+    heap.push(out, child.number)?;
+    heap.extend(out, &child.container.number().to_be_bytes())?;
+    heap.extend(out, &child.segment.number().to_be_bytes())?;
     Ok(())
 }
 
 // Appends the children of other numbers, as they are in the bytes.
-fn push_others(out: &mut Vec<u8>, children: &[u8], number: u8) -> Result<(), AllocError>
-    ensures { OnOk result (AppendsOthers number children.now out.old.items out.new.items) }
+fn push_others<H: Heap>(
+    heap: H,
+    out: &mut Vec<u8>,
+    children: &[u8],
+    number: u8,
+) -> Result<(), AllocError>
+    ensures ok { OnOk result (AppendsOthers number children.now out.old.items out.new.items) }
+    ensures memory { OnErr result H.Refused }
 {
     let mut rest = children;
     'children: while let Some((child, after)) = rest.split_first_chunk::<CHILD_LEN>() {
         if child[0] != number {
-            out.extend_from_slice(child)?;
+            heap.extend(out, child)?;
         }
         rest = after;
     }

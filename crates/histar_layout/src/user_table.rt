@@ -1,12 +1,13 @@
 //! The users and the groups of a machine, without passwords.
-ghost use Rattle.std.specs.Prelude.{◌≡◌, ◌<◌, ◌≤◌, length, map, position, slice_get, Some, IfOk, IfSome};
+ghost use Rattle.std.specs.Prelude.{◌≡◌, ◌<◌, ◌≤◌, length, map, position, slice_get, Some, IfOk, IfSome, OnErr};
 ghost use Rattle.histar_base.specs.Paths.{same};
 ghost use Rattle.histar_flat.specs.Accounts.{IsSmall, group_number, most_groups, most_users, user_number};
 ghost use Rattle.histar_layout.specs.UserTable.{HaveOwnNames, called, without_passwords};
 
 use histar_flat::{Accounts, Group, Name, User};
+use histar_heap::Heap;
 use indexmap::IndexSet;
-use std::alloc::{AllocError, Global};
+use std::alloc::AllocError;
 use std::hash::{Hash, Hasher};
 use std::marker::Model;
 
@@ -76,13 +77,14 @@ impl Model for UserTable {
 
 impl UserTable {
     /// Makes the table of the declared users and groups.
-    pub fn of(alloc: Global, accounts: &Accounts) -> Result<UserTable, AllocError>
+    pub fn of<H: Heap>(heap: H, accounts: &Accounts) -> Result<UserTable, AllocError>
         requires { HaveOwnNames accounts.now.users }
-        ensures { IfOk result (λ table. table ≡ without_passwords accounts.now) }
+        ensures ok { IfOk result (λ table. table ≡ without_passwords accounts.now) }
+        ensures memory { OnErr result H.Refused }
     {
         Ok(UserTable {
-            names: names_of(alloc, accounts.users())?,
-            groups: copies_of(alloc, accounts.groups())?,
+            names: names_of(heap, accounts.users())?,
+            groups: copies_of(heap, accounts.groups())?,
         })
     }
 
@@ -133,25 +135,27 @@ impl UserTable {
 }
 
 /// Returns the names of users, in their order.
-fn names_of(alloc: Global, users: &[User]) -> Result<IndexSet<UserName>, AllocError>
+fn names_of<H: Heap>(heap: H, users: &[User]) -> Result<IndexSet<UserName>, AllocError>
     requires { HaveOwnNames users.now }
-    ensures { IfOk result (λ names. names.keys ≡ map (λ user. record { name = user.name }) users.now) }
+    ensures ok { IfOk result (λ names. names.keys ≡ map (λ user. record { name = user.name }) users.now) }
+    ensures memory { OnErr result H.Refused }
 {
-    let mut names = IndexSet::new(alloc);
+    let mut names = IndexSet::new(heap.alloc());
     for user in users {
-        names.insert(UserName { name: user.name })?;
+        heap.insert_full(&mut names, UserName { name: user.name })?;
     }
     Ok(names)
 }
 
 /// Copies groups.
-fn copies_of(alloc: Global, groups: &[Group]) -> Result<Vec<Group>, AllocError>
-    ensures { IfOk result (λ copies. copies.items ≡ groups.now) }
+fn copies_of<H: Heap>(heap: H, groups: &[Group]) -> Result<Vec<Group>, AllocError>
+    ensures ok { IfOk result (λ copies. copies.items ≡ groups.now) }
+    ensures memory { OnErr result H.Refused }
 {
-    let mut copies = Vec::new(alloc);
+    let mut copies = Vec::new(heap.alloc());
     for group in groups {
-        let members = Vec::from_slice(alloc, group.members())?;
-        copies.push(Group::new(group.name(), members))?;
+        let members = heap.copy_of(group.members())?;
+        heap.push(&mut copies, Group::new(group.name(), members))?;
     }
     Ok(copies)
 }

@@ -60,9 +60,10 @@ fn push_read(text: &mut Vec<u8>, me: &ProcName, path: &Path, bytes: &[u8]) -> Re
     ensures { OnOk result (text.new.items ≡ text.old.items
         ++ replied (me.now, Read path.now) (Data bytes.now)) }
 {
-    push_process(text, me)?;
+    let alloc = *text.allocator();
+    push_process(alloc, text, me)?;
     text.extend_from_slice(b" read ")?;
-    push_path(text, path)?;
+    push_path(alloc, text, path)?;
     text.extend_from_slice(b"\n")?;
     push_data(text, bytes)
 }
@@ -84,9 +85,10 @@ fn push_status(text: &mut Vec<u8>, me: &ProcName, other: &ProcName) -> Result<()
     ensures { OnOk result (text.new.items
         ≡ text.old.items ++ call_line (me.now, Status other.now)) }
 {
-    push_process(text, me)?;
+    let alloc = *text.allocator();
+    push_process(alloc, text, me)?;
     text.extend_from_slice(b" status ")?;
-    push_process(text, other)?;
+    push_process(alloc, text, other)?;
     text.extend_from_slice(b"\n")
 }
 
@@ -95,9 +97,10 @@ fn push_exit(text: &mut Vec<u8>, me: &ProcName) -> Result<(), AllocError>
     ensures { OnOk result (text.new.items
         ≡ text.old.items ++ replied (me.now, Exit 1) Done) }
 {
-    push_process(text, me)?;
+    let alloc = *text.allocator();
+    push_process(alloc, text, me)?;
     text.extend_from_slice(b" exit ")?;
-    push_number(text, 1)?;
+    push_number(alloc, text, 1)?;
     text.extend_from_slice(b"\n#= ok\n")
 }
 
@@ -133,7 +136,7 @@ pub fn push_login(text: &mut Vec<u8>, me: &ProcName, user: &User) -> Result<(), 
     ensures { OnOk result (text.new.items
         ≡ text.old.items ++ replied (login_line me.now user.now) Done) }
 {
-    push_process(text, me)?;
+    push_process(*text.allocator(), text, me)?;
     text.extend_from_slice(b" login ")?;
     text.extend_from_slice(user.name.as_bytes())?;
     text.extend_from_slice(b" ")?;
@@ -153,7 +156,7 @@ pub fn push_change(
     let Some(call) = change else {
         return Ok(());
     };
-    push_process(text, me)?;
+    push_process(*text.allocator(), text, me)?;
     text.extend_from_slice(b" ")?;
     push_call(text, &call)?;
     text.extend_from_slice(b"\n#= ok\n")
@@ -182,7 +185,7 @@ fn push_path_between(
         ≡ text.old.items ++ before.now ++ path_text path.now ++ after.now) }
 {
     text.extend_from_slice(before)?;
-    push_path(text, path)?;
+    push_path(*text.allocator(), text, path)?;
     text.extend_from_slice(after)
 }
 
@@ -246,7 +249,7 @@ fn push_more(text: &mut Vec<u8>, count: usize) -> Result<(), AllocError>
 pub fn push_who(text: &mut Vec<u8>, process: &ProcName, user: Name) -> Result<(), AllocError>
     ensures { OnOk result (text.new.items ≡ text.old.items ++ who_text (process.now, user)) }
 {
-    push_process(text, process)?;
+    push_process(*text.allocator(), text, process)?;
     text.extend_from_slice(b" ")?;
     text.extend_from_slice(user.as_bytes())
 }

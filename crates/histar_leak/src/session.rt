@@ -63,6 +63,8 @@ impl<'a> Command for Leaking<'a> {
 
     type Answer = ();
 
+    type Memory = Global;
+
     ghost Runs = { λ command. LeakOf command.at command.path.now };
 
     fn on_text<W: Sink>(self, alloc: Global, text: Vec<u8>, writer: &mut W) -> Result<(), Fault> {
@@ -153,6 +155,8 @@ impl Command for Titling {
     ghost use Rattle.std.proofs.Common.{rules};
 
     type Answer = ();
+
+    type Memory = Global;
 
     ghost Runs = { λ _. TitlesText };
 

@@ -122,7 +122,7 @@ fn push_file<S: LabelStore + Drop>(
         text.old.items text.new.items) }
 {
     let lines = path_lines(alloc, machine, snapshot, path)?;
-    push_path(text, path)?;
+    push_path(alloc, text, path)?;
     text.extend_from_slice(b"\n")?;
     push_titles(text, behind_first(lines.as_slice()))
 }

@@ -52,6 +52,8 @@ impl<'a> Command for Linting<'a> {
 
     type Answer = bool;
 
+    type Memory = Global;
+
     ghost Runs = { λ command. Lints command.file.now };
 
     fn on_text<W: Sink>(self, alloc: Global, text: Vec<u8>, writer: &mut W) -> Result<bool, Fault> {
@@ -116,7 +118,7 @@ pub fn take_line(alloc: Global, script: &mut Script, number: u32, line: &[u8]) -
     ensures err { IfErr result IsMemory }
 {
     match read_item(alloc, line)? {
-        Some(item) => script.add(number, item),
+        Some(item) => script.add(alloc, number, item),
         None => unreachable!(),
     }
 }

@@ -20,13 +20,14 @@ use crate::gates::gate_labels;
 use crate::table::user_table;
 use histar_base::Bytes;
 use histar_flat::{Accounts, User};
+use histar_heap::Heap;
 use histar_label::{Category, Label, LabelStore, Level};
 use histar_layout::{label_of, owners_among, read_category, write_category};
 use histar_object::{Entry, ObjId};
 use histar_programs::{Home, Place, Roots, Stopped};
 use histar_rules::ROOT;
 use histar_syscall::{Kernel, Refusal};
-use std::alloc::{AllocError, Global};
+use std::alloc::AllocError;
 
 /// The category that the boot thread alone owns.
 const BOOT: u64 = 1;
@@ -58,76 +59,81 @@ fn granted<A: Drop>(answer: Result<A, Refusal>) -> Result<A, Stopped>
 }
 
 /// Makes a category, which the boot thread then owns.
-fn make_category<S: LabelStore + Drop>(
-    alloc: Global,
+fn make_category<H: Heap, S: LabelStore + Drop>(
+    heap: H,
     kernel: &mut Kernel<S>,
 ) -> Result<Category, Stopped>
     requires { Allows kernel.old calls.MakeCategory }
-    ensures { Grants kernel.old kernel.new calls.MakeCategory result }
+    ensures grants { Grants kernel.old kernel.new calls.MakeCategory result }
+    ensures memory { OnErr result H.Refused }
 {
-    granted(kernel.make_category(alloc, boot_thread()))
+    granted(kernel.make_category(heap, boot_thread()))
 }
 
 /// Makes the two categories of a user, of a group, or of nobody.
-fn make_two_categories<S: LabelStore + Drop>(
-    alloc: Global,
+fn make_two_categories<H: Heap, S: LabelStore + Drop>(
+    heap: H,
     kernel: &mut Kernel<S>,
 ) -> Result<(), Stopped>
     requires { IsUnderWay (HasRoom 2 0) kernel.old }
     ensures ok { OnOk result (BootsOn kernel.old kernel.new IsAnywhere two_categories) }
     ensures err { OnErr result (BeginsOn kernel.old kernel.new IsAnywhere two_categories) }
+    ensures memory { OnErr result H.Refused }
 {
-    make_category(alloc, kernel)?;
-    make_category(alloc, kernel)?;
+    make_category(heap, kernel)?;
+    make_category(heap, kernel)?;
     Ok(())
 }
 
 /// Makes this many pairs of categories.
-fn make_categories<S: LabelStore + Drop>(
-    alloc: Global,
+fn make_categories<H: Heap, S: LabelStore + Drop>(
+    heap: H,
     kernel: &mut Kernel<S>,
     count: usize,
 ) -> Result<(), Stopped>
     requires { IsUnderWay (HasRoom (2 * count) 0) kernel.old }
     ensures ok { OnOk result (BootsOn kernel.old kernel.new IsAnywhere (categories_part count)) }
     ensures err { OnErr result (BeginsOn kernel.old kernel.new IsAnywhere (categories_part count)) }
+    ensures memory { OnErr result H.Refused }
 {
     for _ in 0..count {
-        make_two_categories(alloc, kernel)?;
+        make_two_categories(heap, kernel)?;
     }
     Ok(())
 }
 
 /// Makes a segment with a user's password.
-fn make_password<S: LabelStore + Drop>(
-    alloc: Global,
+fn make_password<H: Heap, S: LabelStore + Drop>(
+    heap: H,
     kernel: &mut Kernel<S>,
     number: u8,
     password: &[u8],
 ) -> Result<ObjId, Stopped>
     requires { Allows kernel.old (password_call number password.now) }
-    ensures { Grants kernel.old kernel.new (password_call number password.now) result }
+    ensures grants { Grants kernel.old kernel.new (password_call number password.now) result }
+    ensures memory { OnErr result H.Refused }
 {
     let (read, write) = (read_category(number), write_category(number));
-    let secret = label_of(alloc, Level::L1, &[(read, Level::L3), (write, Level::L0)])?;
-    let password = Bytes::copy_of(alloc, password)?;
-    granted(kernel.make_segment(alloc, boot_thread(), root_container(), secret, password))
+    let secret = label_of(heap, Level::L1, &[(read, Level::L3), (write, Level::L0)])?;
+    let password = Bytes::copy_of(heap, password)?;
+    granted(kernel.make_segment(heap, boot_thread(), root_container(), secret, password))
 }
 
 /// Makes the gate that gives the categories of a user and of its groups.
-fn make_login_gate<S: LabelStore + Drop>(
-    alloc: Global,
+fn make_login_gate<H: Heap, S: LabelStore + Drop>(
+    heap: H,
     kernel: &mut Kernel<S>,
     number: u8,
     owners: &[u8],
 ) -> Result<ObjId, Stopped>
     requires { Allows kernel.old (gate_call number owners.now) }
-    ensures { Grants kernel.old kernel.new (gate_call number owners.now) result }
+    ensures grants { Grants kernel.old kernel.new (gate_call number owners.now) result }
+    ensures memory { OnErr result H.Refused }
 {
-    let (given, clearance) = gate_labels(alloc, owners)?;
+    let (given, clearance) = gate_labels(heap, owners)?;
     let entry = Entry::Login(number);
     granted(kernel.make_gate(
-        alloc,
+        heap,
         boot_thread(),
         root_container(),
         given,
@@ -137,8 +143,8 @@ fn make_login_gate<S: LabelStore + Drop>(
 }
 
 /// Makes the password and the gate of a user.
-fn make_user<S: LabelStore + Drop>(
-    alloc: Global,
+fn make_user<H: Heap, S: LabelStore + Drop>(
+    heap: H,
     kernel: &mut Kernel<S>,
     accounts: &Accounts,
     number: u8,
@@ -148,79 +154,88 @@ fn make_user<S: LabelStore + Drop>(
     requires begins { IsUnderWay (IsBeforeUser accounts.now number) kernel.old }
     ensures ok { OnOk result (MakesUser kernel.old kernel.new accounts.now number user.now) }
     ensures err { OnErr result (BeginsUser kernel.old kernel.new accounts.now number user.now) }
+    ensures memory { OnErr result H.Refused }
 {
     let users = accounts.users();
     let groups = accounts.groups();
-    let owners = owners_among(alloc, users.len(), groups, number, user.name)?;
-    make_password(alloc, kernel, number, user.password.as_bytes())?;
-    make_login_gate(alloc, kernel, number, owners.as_slice())?;
+    let owners = owners_among(heap, users.len(), groups, number, user.name)?;
+    make_password(heap, kernel, number, user.password.as_bytes())?;
+    make_login_gate(heap, kernel, number, owners.as_slice())?;
     Ok(())
 }
 
 /// Makes the passwords and the gates of all users.
-fn make_users<S: LabelStore + Drop>(
-    alloc: Global,
+fn make_users<H: Heap, S: LabelStore + Drop>(
+    heap: H,
     kernel: &mut Kernel<S>,
     accounts: &Accounts,
 ) -> Result<(), Stopped>
     requires { IsUnderWay (IsBeforeUser accounts.now 1) kernel.old }
     ensures ok { OnOk result (MakesUsers kernel.old kernel.new accounts.now) }
     ensures err { OnErr result (BeginsUsers kernel.old kernel.new accounts.now) }
+    ensures memory { OnErr result H.Refused }
 {
     let users = accounts.users();
     for (i, user) in users.iter().enumerate() {
-        make_user(alloc, kernel, accounts, i as u8 + 1, user)?;
+        make_user(heap, kernel, accounts, i as u8 + 1, user)?;
     }
     Ok(())
 }
 
 /// Makes the user table, which no thread may write once the boot thread is gone.
-fn make_user_table<S: LabelStore + Drop>(
-    alloc: Global,
+fn make_user_table<H: Heap, S: LabelStore + Drop>(
+    heap: H,
     kernel: &mut Kernel<S>,
     accounts: &Accounts,
 ) -> Result<ObjId, Stopped>
     requires { IsUnderWay (IsBeforeDirectory accounts.now) kernel.old }
-    ensures { Grants kernel.old kernel.new (table_call accounts.now) result }
+    ensures grants { Grants kernel.old kernel.new (table_call accounts.now) result }
+    ensures memory { OnErr result H.Refused }
 {
-    let guarded = label_of(alloc, Level::L1, &[(Category::new(BOOT), Level::L0)])?;
-    let table = user_table(alloc, accounts)?;
-    granted(kernel.make_segment(alloc, boot_thread(), root_container(), guarded, table))
+    let guarded = label_of(heap, Level::L1, &[(Category::new(BOOT), Level::L0)])?;
+    let table = user_table(heap, accounts)?;
+    granted(kernel.make_segment(heap, boot_thread(), root_container(), guarded, table))
 }
 
 /// Returns the label of what the first user alone may write, and everyone may read.
-fn first_users_label(alloc: Global) -> Result<Label, AllocError>
-    ensures { IfOk result (λ label. label ≡ written_by (write_category 1)) }
+fn first_users_label<H: Heap>(heap: H) -> Result<Label, AllocError>
+    ensures ok { IfOk result (λ label. label ≡ written_by (write_category 1)) }
+    ensures memory { OnErr result H.Refused }
 {
-    label_of(alloc, Level::L1, &[(write_category(1), Level::L0)])
+    label_of(heap, Level::L1, &[(write_category(1), Level::L0)])
 }
 
 /// Makes the container of `/`.
-fn make_slash<S: LabelStore + Drop>(alloc: Global, kernel: &mut Kernel<S>) -> Result<ObjId, Stopped>
+fn make_slash<H: Heap, S: LabelStore + Drop>(
+    heap: H,
+    kernel: &mut Kernel<S>,
+) -> Result<ObjId, Stopped>
     requires { Allows kernel.old slash_call }
-    ensures { Grants kernel.old kernel.new slash_call result }
+    ensures grants { Grants kernel.old kernel.new slash_call result }
+    ensures memory { OnErr result H.Refused }
 {
-    let label = first_users_label(alloc)?;
-    granted(kernel.make_container(alloc, boot_thread(), root_container(), label))
+    let label = first_users_label(heap)?;
+    granted(kernel.make_container(heap, boot_thread(), root_container(), label))
 }
 
 /// Makes the directory segment of `/`, which has no entry yet.
-fn make_listing<S: LabelStore + Drop>(
-    alloc: Global,
+fn make_listing<H: Heap, S: LabelStore + Drop>(
+    heap: H,
     kernel: &mut Kernel<S>,
     slash: ObjId,
 ) -> Result<ObjId, Stopped>
     requires { Allows kernel.old (listing_call slash) }
-    ensures { Grants kernel.old kernel.new (listing_call slash) result }
+    ensures grants { Grants kernel.old kernel.new (listing_call slash) result }
+    ensures memory { OnErr result H.Refused }
 {
-    let label = first_users_label(alloc)?;
-    let empty = Bytes::new(alloc);
-    granted(kernel.make_segment(alloc, boot_thread(), slash, label, empty))
+    let label = first_users_label(heap)?;
+    let empty = Bytes::new(heap.alloc());
+    granted(kernel.make_segment(heap, boot_thread(), slash, label, empty))
 }
 
 /// Makes the user table, and `/` with its directory segment, which are the first user's to write.
-fn make_directory<S: LabelStore + Drop>(
-    alloc: Global,
+fn make_directory<H: Heap, S: LabelStore + Drop>(
+    heap: H,
     kernel: &mut Kernel<S>,
     accounts: &Accounts,
 ) -> Result<Place, Stopped>
@@ -229,74 +244,79 @@ fn make_directory<S: LabelStore + Drop>(
     ensures boots { OnOk result (MakesDirectory kernel.old kernel.new accounts.now) }
     ensures slash { IfOk result (IsFirstDirectory kernel.old accounts.now) }
     ensures err { OnErr result (BeginsDirectory kernel.old kernel.new accounts.now) }
+    ensures memory { OnErr result H.Refused }
 {
-    make_user_table(alloc, kernel, accounts)?;
-    let container = make_slash(alloc, kernel)?;
-    let listing = make_listing(alloc, kernel, container)?;
+    make_user_table(heap, kernel, accounts)?;
+    let container = make_slash(heap, kernel)?;
+    let listing = make_listing(heap, kernel, container)?;
     Ok(Place { container, listing })
 }
 
 /// Returns the bytes of the process segment of process 0: it runs, and no child was born.
-fn process_bytes(alloc: Global, internal: ObjId, thread: ObjId) -> Result<Bytes, AllocError>
-    ensures { IfOk result (λ b. b ≡ first_process_bytes internal thread) }
+fn process_bytes<H: Heap>(heap: H, internal: ObjId, thread: ObjId) -> Result<Bytes, AllocError>
+    ensures ok { IfOk result (λ b. b ≡ first_process_bytes internal thread) }
+    ensures memory { OnErr result H.Refused }
 {
-    let mut bytes = Vec::from_slice(alloc, b"r\0\0")?;
-    bytes.extend_from_slice(&internal.number().to_be_bytes())?;
-    bytes.extend_from_slice(&thread.number().to_be_bytes())?;
+    let mut bytes = heap.copy_of(b"r\0\0")?;
+    heap.extend(&mut bytes, &internal.number().to_be_bytes())?;
+    heap.extend(&mut bytes, &thread.number().to_be_bytes())?;
     Ok(Bytes::from_vec(bytes))
 }
 
 /// Makes the container of process 0.
-fn make_outer<S: LabelStore + Drop>(
-    alloc: Global,
+fn make_outer<H: Heap, S: LabelStore + Drop>(
+    heap: H,
     kernel: &mut Kernel<S>,
     write: Category,
 ) -> Result<ObjId, Stopped>
     requires { Allows kernel.old (outer_call write) }
-    ensures { Grants kernel.old kernel.new (outer_call write) result }
+    ensures grants { Grants kernel.old kernel.new (outer_call write) result }
+    ensures memory { OnErr result H.Refused }
 {
-    let label = label_of(alloc, Level::L1, &[(write, Level::L0)])?;
-    granted(kernel.make_container(alloc, boot_thread(), root_container(), label))
+    let label = label_of(heap, Level::L1, &[(write, Level::L0)])?;
+    granted(kernel.make_container(heap, boot_thread(), root_container(), label))
 }
 
 /// Makes the internal container of process 0.
-fn make_internal<S: LabelStore + Drop>(
-    alloc: Global,
+fn make_internal<H: Heap, S: LabelStore + Drop>(
+    heap: H,
     kernel: &mut Kernel<S>,
     outer: ObjId,
     read: Category,
     write: Category,
 ) -> Result<ObjId, Stopped>
     requires { Allows kernel.old (inner_call outer read write) }
-    ensures { Grants kernel.old kernel.new (inner_call outer read write) result }
+    ensures grants { Grants kernel.old kernel.new (inner_call outer read write) result }
+    ensures memory { OnErr result H.Refused }
 {
-    let secret = label_of(alloc, Level::L1, &[(read, Level::L3), (write, Level::L0)])?;
-    granted(kernel.make_container(alloc, boot_thread(), outer, secret))
+    let secret = label_of(heap, Level::L1, &[(read, Level::L3), (write, Level::L0)])?;
+    granted(kernel.make_container(heap, boot_thread(), outer, secret))
 }
 
 /// Makes the thread of process 0.
-fn make_first_thread<S: LabelStore + Drop>(
-    alloc: Global,
+fn make_first_thread<H: Heap, S: LabelStore + Drop>(
+    heap: H,
     kernel: &mut Kernel<S>,
     internal: ObjId,
     read: Category,
     write: Category,
 ) -> Result<ObjId, Stopped>
     requires { Allows kernel.old (thread_call internal read write) }
-    ensures { Grants kernel.old kernel.new (thread_call internal read write) result }
+    ensures grants { Grants kernel.old kernel.new (thread_call internal read write) result }
+    ensures memory { OnErr result H.Refused }
 {
     let own = label_of(
-        alloc,
+        heap,
         Level::L1,
         &[(read, Level::Star), (write, Level::Star)],
     )?;
-    let clearance = label_of(alloc, Level::L2, &[(read, Level::L3), (write, Level::L3)])?;
-    granted(kernel.make_thread(alloc, boot_thread(), internal, own, clearance))
+    let clearance = label_of(heap, Level::L2, &[(read, Level::L3), (write, Level::L3)])?;
+    granted(kernel.make_thread(heap, boot_thread(), internal, own, clearance))
 }
 
 /// Makes the process segment of process 0.
-fn make_status<S: LabelStore + Drop>(
-    alloc: Global,
+fn make_status<H: Heap, S: LabelStore + Drop>(
+    heap: H,
     kernel: &mut Kernel<S>,
     outer: ObjId,
     write: Category,
@@ -304,30 +324,32 @@ fn make_status<S: LabelStore + Drop>(
     thread: ObjId,
 ) -> Result<ObjId, Stopped>
     requires { Allows kernel.old (status_call outer write internal thread) }
-    ensures { Grants kernel.old kernel.new (status_call outer write internal thread) result }
+    ensures grants { Grants kernel.old kernel.new (status_call outer write internal thread) result }
+    ensures memory { OnErr result H.Refused }
 {
-    let guarded = label_of(alloc, Level::L1, &[(write, Level::L0)])?;
-    let bytes = process_bytes(alloc, internal, thread)?;
-    granted(kernel.make_segment(alloc, boot_thread(), outer, guarded, bytes))
+    let guarded = label_of(heap, Level::L1, &[(write, Level::L0)])?;
+    let bytes = process_bytes(heap, internal, thread)?;
+    granted(kernel.make_segment(heap, boot_thread(), outer, guarded, bytes))
 }
 
 /// Makes process 0: its two categories, its container, its internal container, its thread, and its
 /// process segment. Returns where the process is found.
-fn make_process<S: LabelStore + Drop>(
-    alloc: Global,
+fn make_process<H: Heap, S: LabelStore + Drop>(
+    heap: H,
     kernel: &mut Kernel<S>,
 ) -> Result<Home, Stopped>
     requires { IsUnderWay (HasRoom 2 4) kernel.old }
     ensures boots { OnOk result (MakesProcess kernel.old kernel.new) }
     ensures home { IfOk result (IsFirstHome kernel.old) }
     ensures err { OnErr result (BeginsProcess kernel.old kernel.new) }
+    ensures memory { OnErr result H.Refused }
 {
-    let read = make_category(alloc, kernel)?;
-    let write = make_category(alloc, kernel)?;
-    let outer = make_outer(alloc, kernel, write)?;
-    let internal = make_internal(alloc, kernel, outer, read, write)?;
-    let thread = make_first_thread(alloc, kernel, internal, read, write)?;
-    let segment = make_status(alloc, kernel, outer, write, internal, thread)?;
+    let read = make_category(heap, kernel)?;
+    let write = make_category(heap, kernel)?;
+    let outer = make_outer(heap, kernel, write)?;
+    let internal = make_internal(heap, kernel, outer, read, write)?;
+    let thread = make_first_thread(heap, kernel, internal, read, write)?;
+    let segment = make_status(heap, kernel, outer, write, internal, thread)?;
     Ok(Home {
         container: outer,
         segment,
@@ -335,22 +357,23 @@ fn make_process<S: LabelStore + Drop>(
 }
 
 /// Unlinks the boot thread.
-fn unlink_boot_thread<S: LabelStore + Drop>(
-    alloc: Global,
+fn unlink_boot_thread<H: Heap, S: LabelStore + Drop>(
+    heap: H,
     kernel: &mut Kernel<S>,
 ) -> Result<(), Stopped>
     requires { Allows kernel.old last_call }
-    ensures { Grants kernel.old kernel.new last_call result }
+    ensures grants { Grants kernel.old kernel.new last_call result }
+    ensures memory { OnErr result H.Refused }
 {
-    granted(kernel.unlink(alloc, boot_thread(), root_container(), boot_thread()))
+    granted(kernel.unlink(heap, boot_thread(), root_container(), boot_thread()))
 }
 
 /// Makes the raw calls of boot on the empty kernel: the boot thread makes two categories for nobody,
 /// for each user and for each group, the users' passwords and gates, the user table, `/`, and process
 /// 0, and unlinks itself. Returns where `/` and process 0 are found. Where it stops, each call that
 /// it made was granted.
-fn boot_on<S: LabelStore + Drop>(
-    alloc: Global,
+fn boot_on<H: Heap, S: LabelStore + Drop>(
+    heap: H,
     kernel: &mut Kernel<S>,
     accounts: &Accounts,
 ) -> Result<Roots, Stopped>
@@ -362,24 +385,24 @@ fn boot_on<S: LabelStore + Drop>(
     ensures state { OnOk result (state kernel.new ≡ start_state accounts.now) }
     ensures roots { IfOk result (λ roots. roots ≡ roots_of (length accounts.now.users)) }
     ensures err { OnErr result (HasBegunBoot accounts.now kernel.old kernel.new) }
+    ensures memory { OnErr result H.Refused }
 {
     make_categories(
-        alloc,
+        heap,
         kernel,
         1 + accounts.users().len() + accounts.groups().len(),
     )?;
-    make_users(alloc, kernel, accounts)?;
-    let slash = make_directory(alloc, kernel, accounts)?;
-    let home = make_process(alloc, kernel)?;
-    unlink_boot_thread(alloc, kernel)?;
+    make_users(heap, kernel, accounts)?;
+    let slash = make_directory(heap, kernel, accounts)?;
+    let home = make_process(heap, kernel)?;
+    unlink_boot_thread(heap, kernel)?;
     Ok(Roots { slash, home })
 }
 
-/// Boots a machine, and returns its kernel, and where `/` and process 0 are found. It stops where memory
-/// runs out; no clause says that it stops nowhere else, since the kernel is gone then. The first user
-/// writes `/`, so there is one.
-pub fn boot<S: LabelStore + Drop>(
-    alloc: Global,
+/// Boots a machine, and returns its kernel, and where `/` and process 0 are found. It stops only where memory
+/// runs out. The first user writes `/`, so there is one.
+pub fn boot<H: Heap, S: LabelStore + Drop>(
+    heap: H,
     store: S,
     accounts: &Accounts,
 ) -> Result<(Kernel<S>, Roots), Stopped>
@@ -387,8 +410,9 @@ pub fn boot<S: LabelStore + Drop>(
     ensures booted { IfOk result (λ r. IsBooted accounts.now r.0) }
     ensures state { IfOk result (λ r. state r.0 ≡ start_state accounts.now) }
     ensures roots { IfOk result (λ r. r.1 ≡ roots_of (length accounts.now.users)) }
+    ensures memory { OnErr result H.Refused }
 {
-    let mut kernel = Kernel::new(alloc, store)?;
-    let roots = boot_on(alloc, &mut kernel, accounts)?;
+    let mut kernel = Kernel::new(heap, store)?;
+    let roots = boot_on(heap, &mut kernel, accounts)?;
     Ok((kernel, roots))
 }

@@ -68,7 +68,7 @@ fn read_unix_line(
         return Err(Fault::BadScript(number));
     };
     let calls = is_call(&item);
-    script.add(number, item)?;
+    script.add(alloc, number, item)?;
     Ok(calls)
 }
 

@@ -13,12 +13,13 @@ use Rattle.histar_programs.proofs.Running.{says}
 
 module _ {A : Type 0} (t : ℕ) (decided : Result A Errno) (rest : A → Program) where
   -- the call goes on with what was decided
-  pub goes_on : (old new : KernelModel) (x : A) → Ok x ≡ decided → (result : Result Reply Stopped)
-      → Runs (rest x) old new t result → Runs (given decided rest) old new t result
-  goes_on old new x is result runs = subst (λ (d : Result A Errno). Runs (given d rest) old new t result) is runs
+  pub goes_on : {M : Type 0} → (old new : KernelModel) (x : A) → Ok x ≡ decided → (result : Result Reply Stopped)
+      → Runs M (rest x) old new t result → Runs M (given decided rest) old new t result
+  goes_on {M} old new x is result runs = subst (λ (d : Result A Errno). Runs M (given d rest) old new t result) is runs
 
   -- the call is refused by what was decided
-  pub is_refused : (k : KernelModel) (errno : Errno) → Err errno ≡ decided → Runs (given decided rest) k k t (settled (Err (Refused errno)))
-  is_refused k errno is =
-      subst (λ (d : Result A Errno). Runs (given d rest) k k t (settled (Err (Refused errno)))) is
+  pub is_refused : {M : Type 0} → (k : KernelModel) (errno : Errno) → Err errno ≡ decided
+      → Runs M (given decided rest) k k t (settled (Err (Refused errno)))
+  is_refused {M} k errno is =
+      subst (λ (d : Result A Errno). Runs M (given d rest) k k t (settled (Err (Refused errno)))) is
       (says t k (replies.Refused errno))

@@ -34,11 +34,11 @@ abbrev pub within : Name → Directory → Part FoundEntry
 within name directory rest = given (entry_at (target_named directory name)) (λ target. rest (entry_of directory name target))
 
 -- the entries that are written are the expected ones
-pub writes_due : (t : ℕ) (old new : KernelModel) (place : Place) (entries due : Entries) → entries ≡ due
-    → (result : Result (Unit {0}) CallError) → RunsPart (write_entries place entries) old new t result
-    → RunsPart (write_entries place due) old new t result
-writes_due t old new place entries due is result runs =
-    subst (λ (dir : Entries). RunsPart {A = Unit {0}} (write_entries place dir) old new t result) is runs
+pub writes_due : {M : Type 0} → (t : ℕ) (old new : KernelModel) (place : Place) (entries due : Entries) → entries ≡ due
+    → (result : Result (Unit {0}) CallError) → RunsPart M (write_entries place entries) old new t result
+    → RunsPart M (write_entries place due) old new t result
+writes_due {M} t old new place entries due is result runs =
+    subst (λ (dir : Entries). RunsPart {A = Unit {0}} M (write_entries place dir) old new t result) is runs
 
 module _ (t : ℕ) (old new : KernelModel) (entry : FoundEntry) where
   -- what comes after the object is unlinked
@@ -46,23 +46,24 @@ module _ (t : ℕ) (old new : KernelModel) (entry : FoundEntry) where
   gone _ rest = write_entries entry.place (map.remove entry.entries entry.name) rest
 
   -- the kernel was asked for the object to which the entry leads
-  pub unlinks : (object : ℕ) → object ≡ object_of entry.target → (result : Result (Unit {0}) CallError)
-      → RunsPart (ask (Unlink entry.place.container object)) old new t result
-      → RunsPart (ask (Unlink entry.place.container (object_of entry.target))) old new t result
-  unlinks object is result runs = subst (λ (o : ℕ). RunsPart {A = Unit {0}} (ask (Unlink entry.place.container o)) old new t result) is runs
+  pub unlinks : {M : Type 0} → (object : ℕ) → object ≡ object_of entry.target → (result : Result (Unit {0}) CallError)
+      → RunsPart M (ask (Unlink entry.place.container object)) old new t result
+      → RunsPart M (ask (Unlink entry.place.container (object_of entry.target))) old new t result
+  unlinks {M} object is result runs = subst (λ (o : ℕ). RunsPart {A = Unit {0}} M (ask (Unlink entry.place.container o)) old new t result) is runs
 
   -- the object was not unlinked
-  pub unlink_fails : (call_error : CallError)
-      → RunsPart (ask (Unlink entry.place.container (object_of entry.target))) old new t (Err call_error)
-      → RunsPart (take_away entry) old new t (Err call_error)
+  pub unlink_fails : {M : Type 0} → (call_error : CallError)
+      → RunsPart M (ask (Unlink entry.place.container (object_of entry.target))) old new t (Err call_error)
+      → RunsPart M (take_away entry) old new t (Err call_error)
   unfolding take_away
   unlink_fails call_error first = part_fails t (ask (Unlink entry.place.container (object_of entry.target))) old new gone call_error first
 
   -- the object was unlinked, and the directory is written
-  pub takes_away : (mid : KernelModel)
-      → RunsPart (ask (Unlink entry.place.container (object_of entry.target))) old mid t (Ok tt)
+  pub takes_away : {M : Type 0} → (mid : KernelModel)
+      → RunsPart M (ask (Unlink entry.place.container (object_of entry.target))) old mid t (Ok tt)
       → (result : Result (Unit {0}) CallError)
-      → RunsPart (write_entries entry.place (map.remove entry.entries entry.name)) mid new t result → RunsPart (take_away entry) old new t result
+      → RunsPart M (write_entries entry.place (map.remove entry.entries entry.name)) mid new t result
+      → RunsPart M (take_away entry) old new t result
   unfolding take_away
   takes_away mid first result second =
       then_part t (ask (Unlink entry.place.container (object_of entry.target))) old new gone mid tt first result second

@@ -1,16 +1,17 @@
 //! Entries of directories that were found.
-ghost use Rattle.std.specs.Prelude.{◌≡◌, Some, IfOk};
+ghost use Rattle.std.specs.Prelude.{◌≡◌, Some, IfOk, OnErr};
 ghost use Rattle.std.specs.FinMap as map;
 ghost use Rattle.histar_programs.specs.Programs.{RunsPart};
 ghost use Rattle.histar_moves.specs.Parts.{find_entry, must_be_file, must_be_directory, must_be_empty, must_be_free, take_away};
 
 use histar_flat::{Errno, Name};
+use histar_heap::Heap;
 use histar_label::LabelStore;
 use histar_layout::{Dir, Target};
 use histar_object::ObjId;
 use histar_programs::{CallError, Directory, Place, Roots, walk, write_entries};
 use histar_syscall::Kernel;
-use std::alloc::{AllocError, Global};
+use std::alloc::AllocError;
 
 /// An entry of a directory that was read.
 #[derive(Drop)]
@@ -57,10 +58,11 @@ impl FoundEntry {
     }
 
     /// Returns the entries with this one under another name.
-    pub fn renamed(self, alloc: Global, name: &Name) -> Result<Dir, AllocError>
+    pub fn renamed<H: Heap>(self, heap: H, name: &Name) -> Result<Dir, AllocError>
         requires { map.get self.entries self.name ≡ Some self.target }
-        ensures { IfOk result (λ entries. entries
+        ensures ok { IfOk result (λ entries. entries
             ≡ map.insert (map.remove self.entries self.name) name.now self.target) }
+        ensures memory { OnErr result H.Refused }
     {
         let FoundEntry {
             mut entries,
@@ -69,7 +71,7 @@ impl FoundEntry {
             ..
         } = self;
         entries.remove(&old);
-        entries.insert(alloc, name, target)?;
+        entries.insert(heap, name, target)?;
         Ok(entries)
     }
 }
@@ -87,20 +89,21 @@ pub fn must_be_empty(entries: &Dir) -> Result<(), Errno>
 
 /// Finds the entry of a path: EBUSY where the path is `/`, ENOENT where nothing is there, and the errno of
 /// the walk where that is refused.
-pub fn find_entry<S: LabelStore + Drop>(
-    alloc: Global,
+pub fn find_entry<H: Heap, S: LabelStore + Drop>(
+    heap: H,
     kernel: &mut Kernel<S>,
     roots: &Roots,
     thread: ObjId,
     path: &[Name],
 ) -> Result<FoundEntry, CallError>
-    ensures runs { RunsPart (find_entry roots.now path.now) kernel.old kernel.new thread result }
+    ensures runs { RunsPart H.Refused (find_entry roots.now path.now)
+        kernel.old kernel.new thread result }
     ensures there { IfOk result (λ entry. map.get entry.entries entry.name ≡ Some entry.target) }
 {
     let [name, parent @ ..] = path else {
         return Err(CallError::Refused(Errno::EBUSY));
     };
-    let directory = walk(alloc, kernel, roots, thread, parent)?;
+    let directory = walk(heap, kernel, roots, thread, parent)?;
     let target = directory.entry_at(name)?;
     let Directory { place, entries } = directory;
     Ok(FoundEntry {
@@ -113,13 +116,13 @@ pub fn find_entry<S: LabelStore + Drop>(
 
 /// Unlinks the object of an entry from its directory's container, with all below it, and writes the
 /// directory without the entry: EACCES where the kernel doesn't let the thread modify these.
-pub fn take_away<S: LabelStore + Drop>(
-    alloc: Global,
+pub fn take_away<H: Heap, S: LabelStore + Drop>(
+    heap: H,
     kernel: &mut Kernel<S>,
     thread: ObjId,
     entry: FoundEntry,
 ) -> Result<(), CallError>
-    ensures { RunsPart (take_away entry) kernel.old kernel.new thread result }
+    ensures { RunsPart H.Refused (take_away entry) kernel.old kernel.new thread result }
 {
     let FoundEntry {
         place,
@@ -127,7 +130,7 @@ pub fn take_away<S: LabelStore + Drop>(
         name,
         target,
     } = entry;
-    kernel.unlink(alloc, thread, place.container, target.object())?;
+    kernel.unlink(heap, thread, place.container, target.object())?;
     entries.remove(&name);
-    write_entries(alloc, kernel, thread, place, entries)
+    write_entries(heap, kernel, thread, place, entries)
 }

@@ -5,25 +5,25 @@ ghost use Rattle.histar_moves.specs.Rmtree.{rmtree_program};
 
 use crate::entry::{find_entry, take_away};
 use histar_flat::{Name, Reply};
+use histar_heap::Heap;
 use histar_label::LabelStore;
 use histar_programs::{CallError, Unix};
 use histar_syscall::Kernel;
-use std::alloc::Global;
 
 /// Removes a file, or a directory with all below it, whoever owns that. EBUSY for `/`, ENOENT or
 /// ENOTDIR where the way to it breaks off, ENOENT where nothing is there, EACCES where the kernel
 /// doesn't let the thread observe a directory on the way or modify the last one.
-pub fn rmtree<S: LabelStore + Drop>(
-    alloc: Global,
+pub fn rmtree<H: Heap, S: LabelStore + Drop>(
+    heap: H,
     kernel: &mut Kernel<S>,
     unix: &Unix,
     path: &[Name],
 ) -> Result<Reply, CallError>
-    ensures { Runs (rmtree_program unix.now.roots.now path.now) kernel.old kernel.new
+    ensures { Runs H.Refused (rmtree_program unix.now.roots.now path.now) kernel.old kernel.new
         unix.now.caller.now.thread (settled result) }
 {
     let thread = unix.caller.thread;
-    let entry = find_entry(alloc, kernel, unix.roots, thread, path)?;
-    take_away(alloc, kernel, thread, entry)?;
+    let entry = find_entry(heap, kernel, unix.roots, thread, path)?;
+    take_away(heap, kernel, thread, entry)?;
     Ok(Reply::Done)
 }

@@ -25,7 +25,7 @@ use Rattle.histar_programs.specs.Start.{roots_of, declared}
 use Rattle.histar_programs.specs.Caller.{if_runs, is_zero, status_at}
 use Rattle.histar_refinement.specs.Addresses.{same_step, home_address}
 use Rattle.histar_refinement.specs.Addresses.Step.{Inside, Runner}
-use Rattle.histar_refinement.specs.Categories.{CategoryName, CategoryName as names, IsUsed, among}
+use Rattle.histar_refinement.specs.Categories.{CategoryName, CategoryName as names, IsUsed, among, boot_category}
 use Rattle.histar_refinement.proofs.Expected.{home_object, inside_object, expected}
 use Rattle.histar_refinement.specs.Guards.{guard_label}
 use Rattle.histar_refinement.specs.Labels.{process_guard, inside_guard}
@@ -38,13 +38,14 @@ use Rattle.histar_refinement.proofs.Moving.{at_number}
 use Rattle.histar_refinement.proofs.Roots.{asked_home, asked_inside}
 use Rattle.histar_refinement.proofs.StatusFound.{numbered_home, numbered_runner}
 use Rattle.histar_refinement.proofs.Steps.{step_tests_equality}
-use Rattle.histar_names.specs.Births.{Births}
+use Rattle.histar_names.specs.Births.{Births, born_with, last_child}
 use Rattle.histar_names.specs.declared.purposes.Purpose.{Purpose}
 use Rattle.histar_names.specs.declared.purposes.Purpose.TheVariants.{Reads, Writes, ReadsProcess, WritesProcess, Job}
-use Rattle.histar_names.specs.Purposes.{owner_in, pair_purpose, boot_purpose, outer_label, inner_label, has_zero, has_three, job_by}
-use Rattle.histar_names.specs.Purposes.{purpose_born, purpose_by, purpose_up}
+use Rattle.histar_names.specs.Purposes.{owner_in, pair_purpose, first_purpose, boot_purpose, outer_label, inner_label, has_zero, has_three, job_by}
+use Rattle.histar_names.specs.Purposes.{purpose_by}
 use Rattle.histar_names.specs.Laws.{IsPurposeOf, PurposesAreRight}
 use Rattle.histar_names.proofs.Parts.{either_there, step_there, tested, both}
+use Rattle.histar_names.proofs.Remembering.{new_note}
 use Rattle.histar_refinement.proofs.Agreement.{agreement}
 
 -- ---- levels of what is guarded
@@ -95,7 +96,8 @@ module _ (accounts : Accounts) (s : State) (f : Flat) (l : ObjectsMatch accounts
 
   -- ---- the labels of the containers of processes
 
-  outer_there : (me : ProcName) (p : Process) → f.processes me ≡ Some p → outer_label s first me ≡ Some (guard_label l.category (process_guard me p))
+  pub outer_there : (me : ProcName) (p : Process) → f.processes me ≡ Some p
+      → outer_label s first me ≡ Some (guard_label l.category (process_guard me p))
   outer_there me p here =
       ap (option_and_then (λ (home : Where). label_there (s.objects home.container)))
       (home_is accounts s f l me ∙ ap (option_map (λ (q : Process). there_is me)) here)
@@ -126,7 +128,7 @@ module _ (accounts : Accounts) (s : State) (f : Flat) (l : ObjectsMatch accounts
   inner_absent : (me : ProcName) → f.processes me ≡ None → inner_label s first me ≡ None
   inner_absent me none = ap (option_and_then of_home) (home_is accounts s f l me ∙ ap (option_map (λ (q : Process). there_is me)) none)
 
-  inner_there : (me : ProcName) (p : Process) → f.processes me ≡ Some p → p.exited ≡ None
+  pub inner_there : (me : ProcName) (p : Process) → f.processes me ≡ Some p → p.exited ≡ None
       → inner_label s first me ≡ Some (guard_label l.category (inside_guard me p))
   inner_there me p here runs =
       let inside = (agreement l).tree.held Runner (Inside ∷ home_address me) (numbered_runner accounts s f l me p here runs) in
@@ -256,20 +258,18 @@ module _ (accounts : Accounts) (s : State) (f : Flat) (l : ObjectsMatch accounts
     ]
   ]
 
-  up_named : (c : ℕ) (me : ProcName) (purpose : Purpose) → purpose_up s first c me ≡ Some purpose → Named c purpose
-  up_named c [] purpose e = process_named c [] purpose e
-  up_named c (n ∷ above) purpose e = elim (either_there (purpose_by s first c (n ∷ above)) (purpose_up s first c above) purpose e) [
-    | inl here ↦ process_named c (n ∷ above) purpose here
-    | inr later ↦ up_named c above purpose later
-  ]
-
-  born_named : (c : ℕ) (births : Births) (purpose : Purpose) → purpose_born s first c births ≡ Some purpose → Named c purpose
-  born_named c births purpose e =
-      let birth = step_there (option_and_then (purpose_by s first c)) (slice_get births c) purpose e in
-      let child = step_there (purpose_by s first c) birth.0 purpose birth.2 in
-      process_named c child.0 purpose child.2
+  born_named : (c : ℕ) (child : Option ProcName) (purpose : Purpose) → born_with s first child c ≡ Some purpose → Named c purpose
+  born_named c child purpose e =
+      let born = step_there (purpose_by s first c) child purpose e in
+      process_named c born.0 purpose born.2
 
   -- ---- what boot made
+
+  -- a category that boot made, of which the purpose is right
+  abbrev Booted : ℕ → Purpose → Type 0
+  Booted c purpose =
+      (name : CategoryName) × (boot_category accounts name ≡ Some c) × IsUsed accounts f name
+      × IsPurposeOf accounts f name purpose
 
   same_count : declared (without_passwords accounts) ≡ length accounts.users + length accounts.groups
   same_count = ap (λ n. n + length accounts.groups) (length-map accounts.users without_password)
@@ -277,14 +277,13 @@ module _ (accounts : Accounts) (s : State) (f : Flat) (l : ObjectsMatch accounts
   abbrev most : ℕ
   most = length accounts.users + length accounts.groups
 
-  reads_named : (c i : ℕ) → c ≡ 2 + 2 * i → i ≤ most → Named c (Reads i)
+  reads_named : (c i : ℕ) → c ≡ 2 + 2 * i → i ≤ most → Booted c (Reads i)
   reads_named c i is le = by (nat_le i (length accounts.users)) refl
     where
-      by : (b : Bool) → nat_le i (length accounts.users) ≡ b → Named c (Reads i)
+      by : (b : Bool) → nat_le i (length accounts.users) ≡ b → Booted c (Reads i)
       by true small = (
         names.ReadsUser i,
-        l.as_made (names.ReadsUser i) c
-            (ap (λ b. cond b (Some (2 + 2 * i)) None) small ∙ ap Some (sym is)),
+        ap (λ b. cond b (Some (2 + 2 * i)) None) small ∙ ap Some (sym is),
         grind (arith, nat_tests, small),
         sym (ap (λ b. if b then names.ReadsUser i else names.ReadsGroup (i - length accounts.users)) small),
       )
@@ -296,20 +295,18 @@ module _ (accounts : Accounts) (s : State) (f : Flat) (l : ObjectsMatch accounts
           let test : (nat_le 1 k && nat_le k (length accounts.groups)) ≡ true = grind (arith, nat_tests, low, high) in
           let value : 2 + 2 * length accounts.users + 2 * k ≡ c = omega (arith, above, is) in (
             names.ReadsGroup k,
-            l.as_made (names.ReadsGroup k) c
-                (ap (λ b. cond b (Some (2 + 2 * length accounts.users + 2 * k)) None) test ∙ ap Some value),
+            ap (λ b. cond b (Some (2 + 2 * length accounts.users + 2 * k)) None) test ∙ ap Some value,
             (low, high),
             sym (ap (λ b. if b then names.ReadsUser i else names.ReadsGroup k) big),
           )
 
-  writes_named : (c i : ℕ) → c ≡ 3 + 2 * i → i ≤ most → Named c (Writes i)
+  writes_named : (c i : ℕ) → c ≡ 3 + 2 * i → i ≤ most → Booted c (Writes i)
   writes_named c i is le = by (nat_le i (length accounts.users)) refl
     where
-      by : (b : Bool) → nat_le i (length accounts.users) ≡ b → Named c (Writes i)
+      by : (b : Bool) → nat_le i (length accounts.users) ≡ b → Booted c (Writes i)
       by true small = (
         names.WritesUser i,
-        l.as_made (names.WritesUser i) c
-            (ap (λ b. cond b (Some (3 + 2 * i)) None) small ∙ ap Some (sym is)),
+        ap (λ b. cond b (Some (3 + 2 * i)) None) small ∙ ap Some (sym is),
         grind (arith, nat_tests, small),
         sym (ap (λ b. if b then names.WritesUser i else names.WritesGroup (i - length accounts.users)) small),
       )
@@ -321,19 +318,18 @@ module _ (accounts : Accounts) (s : State) (f : Flat) (l : ObjectsMatch accounts
           let test : (nat_le 1 k && nat_le k (length accounts.groups)) ≡ true = grind (arith, nat_tests, low, high) in
           let value : 3 + 2 * length accounts.users + 2 * k ≡ c = omega (arith, above, is) in (
             names.WritesGroup k,
-            l.as_made (names.WritesGroup k) c
-                (ap (λ b. cond b (Some (3 + 2 * length accounts.users + 2 * k)) None) test ∙ ap Some value),
+            ap (λ b. cond b (Some (3 + 2 * length accounts.users + 2 * k)) None) test ∙ ap Some value,
             (low, high),
             sym (ap (λ b. if b then names.WritesUser i else names.WritesGroup k) big),
           )
 
-  pair_named : (c : ℕ) (purpose : Purpose) → 2 ≤ c → c < 4 + 2 * most → pair_purpose c ≡ purpose → Named c purpose
-  pair_named c purpose low high e = subst (Named c) e (by ((c % 2) == 0) refl)
+  pair_named : (c : ℕ) (purpose : Purpose) → 2 ≤ c → c < 4 + 2 * most → pair_purpose c ≡ purpose → Booted c purpose
+  pair_named c purpose low high e = subst (Booted c) e (by ((c % 2) == 0) refl)
     where
       within : owner_in c ≤ most
       within = omega (arith, low, high)
 
-      by : (b : Bool) → ((c % 2) == 0) ≡ b → Named c (if b then Reads (owner_in c) else Writes (owner_in c))
+      by : (b : Bool) → ((c % 2) == 0) ≡ b → Booted c (if b then Reads (owner_in c) else Writes (owner_in c))
       by true even = reads_named c (owner_in c) (omega (arith, low, the_half)) within
         where
           the_half : c % 2 ≡ 0
@@ -343,29 +339,51 @@ module _ (accounts : Accounts) (s : State) (f : Flat) (l : ObjectsMatch accounts
           the_rest : c % 2 ≡ 1
           the_rest = let positive : 0 < c % 2 = grind (arith, nat_tests, odd) in omega (arith, positive)
 
-  boot_named : (c : ℕ) (purpose : Purpose) → boot_purpose (declared (without_passwords accounts)) c ≡ Some purpose → Named c purpose
-  boot_named c purpose e = elim (tested (c == 1) _ _ purpose e) [
-    | inl one ↦ subst (Named c) (same_Some _ _ one.1) (names.OfBoot, l.as_made names.OfBoot c (ap Some (sym (equal_one one.0))), tt, refl)
+  all_owners : (c n : ℕ) → c ≡ n + 2 * declared (without_passwords accounts)
+      → n + 2 * length accounts.users + 2 * length accounts.groups ≡ c
+  all_owners c n is = let same = same_count in omega (arith, is, same)
+
+  first_booted : (c : ℕ) (purpose : Purpose) → first_purpose (declared (without_passwords accounts)) c ≡ Some purpose → Booted c purpose
+  first_booted c purpose e = elim (tested (c == (4 + 2 * declared (without_passwords accounts))) _ _ purpose e) [
+    | inl reads ↦
+        subst (Booted c) (same_Some _ _ reads.1)
+        (names.ReadsProcess [], ap Some (all_owners c 4 (equal (4 + 2 * declared (without_passwords accounts)) reads.0)), l.first, refl)
+    | inr more ↦ elim (tested (c == (5 + 2 * declared (without_passwords accounts))) _ _ purpose more.1) [
+      | inl writes ↦
+          subst (Booted c) (same_Some _ _ writes.1)
+          (names.WritesProcess [], ap Some (all_owners c 5 (equal (5 + 2 * declared (without_passwords accounts)) writes.0)), l.first, refl)
+      | inr none ↦ absurd (none-some purpose none.1)
+    ]
+  ]
+    where
+      equal : (d : ℕ) → (c == d) ≡ true → c ≡ d
+      equal d is = grind (arith, nat_tests, is)
+
+  pub boot_booted : (c : ℕ) (purpose : Purpose) → boot_purpose (declared (without_passwords accounts)) c ≡ Some purpose → Booted c purpose
+  boot_booted c purpose e = elim (tested (c == 1) _ _ purpose e) [
+    | inl one ↦ subst (Booted c) (same_Some _ _ one.1) (names.OfBoot, ap Some (sym (equal_one one.0)), tt, refl)
     | inr more ↦ elim (tested (nat_le 2 c && nat_lt c (4 + 2 * declared (without_passwords accounts))) _ _ purpose more.1) [
       | inl pair ↦
           let bounds = both (nat_le 2 c) (nat_lt c (4 + 2 * declared (without_passwords accounts))) pair.0 in
           pair_named c purpose (grind (arith, nat_tests, bounds.0))
           (subst (λ n. c < 4 + 2 * n) same_count (grind (arith, nat_tests, bounds.1))) (same_Some _ _ pair.1)
-      | inr none ↦ absurd (none-some purpose none.1)
+      | inr rest ↦ first_booted c purpose rest.1
     ]
   ]
     where
       equal_one : (c == 1) ≡ true → c ≡ 1
       equal_one is = grind (arith, nat_tests, is)
 
+  boot_named : (c : ℕ) (purpose : Purpose) → boot_purpose (declared (without_passwords accounts)) c ≡ Some purpose → Named c purpose
+  boot_named c purpose e = let found = boot_booted c purpose e in (found.0, l.as_made found.0 c found.1, found.2, found.3)
+
 pub purposes_are_right : PurposesAreRight
-purposes_are_right accounts s f l clue births c purpose e = elim (either_there (boot_purpose (declared (without_passwords accounts)) c) _ purpose e) [
-  | inl boot ↦ boot_named accounts s f l c purpose boot
-  | inr more ↦ elim (either_there (purpose_born s (roots_of (length accounts.users)).home c births) _ purpose more) [
-    | inl born ↦ born_named accounts s f l c births purpose born
-    | inr rest ↦ elim (either_there (purpose_up s (roots_of (length accounts.users)).home c clue.caller) _ purpose rest) [
-      | inl own ↦ up_named accounts s f l c clue.caller purpose own
-      | inr named ↦ up_named accounts s f l c clue.named purpose named
+purposes_are_right accounts s f l me births c purpose is_new e =
+    elim (either_there (boot_purpose (declared (without_passwords accounts)) c) _ purpose e) [
+      | inl boot ↦ boot_named accounts s f l c purpose boot
+      | inr more ↦
+          let first = (roots_of (length accounts.users)).home in
+          let child = last_child s first me in
+          born_named accounts s f l c child purpose
+          (new_note (born_with s first child) births (s.next_category - length births) c purpose is_new more)
     ]
-  ]
-]

@@ -98,7 +98,7 @@ module _ (accounts : Accounts) (s : State) (f : Flat) (l : ObjectsMatch accounts
   -- ---- the objects at a path
 
   -- where an entry leads, both of its numbers are those of the path
-  abbrev IsAt : Path → Target → Type 0
+  abbrev pub IsAt : Path → Target → Type 0
   IsAt d (targets.File o) = l.naming.number (address_of d) ≡ Some o
   IsAt d (targets.Directory c g) =
       (l.naming.number (address_of d) ≡ Some c) × (l.naming.number (Listing ∷ address_of d) ≡ Some g)
@@ -114,7 +114,7 @@ module _ (accounts : Accounts) (s : State) (f : Flat) (l : ObjectsMatch accounts
       let led = led_to_file (l.naming.number (address_of q)) target leads in
       subst (IsAt q) led.1 led.2
 
-  target_is : (d : Path) (target : Target) → target_at s roots d ≡ Some target → IsAt d target
+  pub target_is : (d : Path) (target : Target) → target_at s roots d ≡ Some target → IsAt d target
   target_is [] target e =
       subst (IsAt []) (same_Some _ target e) (
         l.as_booted (Slash ∷ []) _ refl,

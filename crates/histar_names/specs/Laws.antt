@@ -1,25 +1,29 @@
 -- The names of objects and categories are right in a state that represents a flat state.
-use Rattle.std.specs.Prelude.{◌≡◌, ℕ, ◌-◌, ◌+◌, ◌*◌, ◌≤◌, ◌⊎◌, true, false, ◌∷◌, [], length, nat_le, Some, option_map, if◌then◌else◌}
-use Rattle.histar_flat.specs.Words.{ProcName}
+use Rattle.std.specs.Prelude.{◌≡◌, ℕ, ◌-◌, ◌+◌, ◌*◌, ◌≤◌, ◌⊎◌, true, false, ◌∷◌}
+use Rattle.std.specs.Prelude.{[], length, nat_le, is_some, List, Some, option_map, if◌then◌else◌}
+use Rattle.histar_flat.specs.Words.{Path, ProcName}
 use Rattle.histar_flat.specs.Accounts.{Accounts, has}
 use Rattle.histar_flat.specs.Classes.{Process}
-use Rattle.histar_flat.specs.FlatState.{Flat}
-use Rattle.histar_flat.specs.FlatCalls.{running}
+use Rattle.histar_flat.specs.declared.calls.UnixCall.{UnixCall}
+use Rattle.histar_flat.specs.Files.{get}
+use Rattle.histar_flat.specs.FlatState.{Flat, IsTree, is_dir_at}
+use Rattle.histar_flat.specs.FlatCalls.{flat_after, running}
 use Rattle.histar_object.specs.State.{State}
 use Rattle.histar_layout.specs.UserTable.{without_passwords}
 use Rattle.histar_programs.specs.Start.{roots_of}
-use Rattle.histar_refinement.specs.Addresses.{home_address, table_number}
-use Rattle.histar_refinement.specs.Addresses.Step.{Left, Status, Inside, Runner}
+use Rattle.histar_refinement.specs.Addresses.{address_of, home_address, table_number}
+use Rattle.histar_refinement.specs.Addresses.Step.{Left, Listing, Status, Inside, Runner}
 use Rattle.histar_refinement.specs.Categories.{CategoryName, CategoryName as names, IsUsed}
-use Rattle.histar_refinement.specs.Represents.{ObjectsMatch}
+use Rattle.histar_refinement.specs.Represents.{ObjectsMatch, Represents}
+use Rattle.histar_refinement.specs.KeptNames.{RepresentsStill}
 use Rattle.histar_refinement.specs.Laws.{StandsFor}
-use Rattle.histar_names.specs.Births.{Births}
+use Rattle.histar_names.specs.Births.{Births, births_after, purpose_of}
+use Rattle.histar_names.specs.KnownBirths.{NamesBirths, purpose_named}
 use Rattle.histar_names.specs.declared.clues.Clue.{Clue}
 use Rattle.histar_names.specs.declared.purposes.Purpose.{Purpose}
 use Rattle.histar_names.specs.declared.purposes.Purpose.TheVariants.{Boot, Reads, Writes, ReadsProcess, WritesProcess, Job}
 use Rattle.histar_names.specs.declared.location.Location.{Location}
 use Rattle.histar_names.specs.declared.location.Location.TheVariants.{Root, Password, Gate, Users, At, Part}
-use Rattle.histar_names.specs.Purposes.{purpose_of}
 use Rattle.histar_names.specs.Location.{location_of}
 use Rattle.histar_names.specs.Runners.{user_at}
 
@@ -49,12 +53,30 @@ IsPurposeOf accounts f name (ReadsProcess me) = name ≡ names.ReadsProcess me
 IsPurposeOf accounts f name (WritesProcess me) = name ≡ names.WritesProcess me
 IsPurposeOf accounts f name (Job me) = (job : ProcName) × (n : ℕ) × (above : ProcName) × (me ≡ n ∷ above) × (name ≡ names.OfJob job) × BeginsJob f job n above
 
--- Under each naming by which the state represents the flat state, a category with a purpose has a name that is used, and this purpose.
+-- Under each naming by which the state represents the flat state, a category that is new, and of which the next births note a purpose, has
+-- a name that is used, and this purpose; and so has one of boot.
 abbrev pub PurposesAreRight : Type 0
 PurposesAreRight =
-    (accounts : Accounts) (s : State) (f : Flat) (l : ObjectsMatch accounts s f) (clue : Clue) (births : Births) (c : ℕ) (purpose : Purpose)
-    → purpose_of (without_passwords accounts) (roots_of (length accounts.users)) s clue births c ≡ Some purpose
+    (accounts : Accounts) (s : State) (f : Flat) (l : ObjectsMatch accounts s f) (me : ProcName) (births : Births) (c : ℕ) (purpose : Purpose)
+    → length births ≤ c
+    → purpose_of (without_passwords accounts) (births_after s (roots_of (length accounts.users)) me births) c ≡ Some purpose
     → (name : CategoryName) × (l.category name ≡ c) × IsUsed accounts f name × IsPurposeOf accounts f name purpose
+
+-- Where what was noted is right, each category that is used is named as what it is for.
+abbrev pub CategoriesAreNamed : Type 0
+CategoriesAreNamed =
+    (births : Births) (accounts : Accounts) (s : State) (f : Flat) (known : NamesBirths births accounts s f) (name : CategoryName)
+    → IsUsed accounts f name
+    → purpose_of (without_passwords accounts) births (known.represents.matched.category name) ≡ Some (purpose_named accounts name)
+
+-- At the start what was noted is right, and where it is before a line, it is after it, under names that keep their numbers.
+abbrev pub BirthsAreKept : Type 0
+BirthsAreKept =
+    (births : Births) (accounts : Accounts) (s t : State) (f : Flat) → IsTree f → (known : NamesBirths births accounts s f)
+    → (me : ProcName) (call : UnixCall) → (still : RepresentsStill known.represents t (flat_after accounts f me call))
+    → s.next_category ≤ t.next_category
+    → (later : NamesBirths (births_after t (roots_of (length accounts.users)) me births) accounts t (flat_after accounts f me call))
+    × (later.represents ≡ still.represents)
 
 -- ---- objects
 
@@ -84,6 +106,35 @@ LocationsAreRight =
     (accounts : Accounts) (s : State) (f : Flat) (l : ObjectsMatch accounts s f) (clue : Clue) (q : ℕ) (location : Location)
     → location_of (without_passwords accounts) (roots_of (length accounts.users)) s clue q ≡ Some location
     → StandsAs accounts s f l q location
+
+-- the first of two names or paths is the second, or above it
+abbrev pub IsAtOrAbove : {A : Type 0} → List A → List A → Type 0
+IsAtOrAbove above [] = above ≡ []
+IsAtOrAbove above (n ∷ q) = (above ≡ n ∷ q) ⊎ IsAtOrAbove above q
+
+-- ---- what a line names
+
+module _ (accounts : Accounts) (s : State) (f : Flat) (l : ObjectsMatch accounts s f) where
+  -- the object is what is at the path, or the directory segment of a directory there
+  abbrev pub IsThere : Path → ℕ → Type 0
+  IsThere path q =
+      ((is_some (get f.files path) ≡ true) × (l.naming.number (address_of path) ≡ Some q))
+      ⊎ ((is_dir_at f path ≡ true) × (l.naming.number (Listing ∷ address_of path) ≡ Some q))
+
+  -- The object is there at the path of a line or above it; or it is a part of the process of the line, of the one that its call
+  -- names, or of one above either; or it is the root container.
+  abbrev pub IsOfLine : Clue → ℕ → Type 0
+  IsOfLine clue q =
+      (((path : Path) × IsAtOrAbove path clue.path × IsThere path q)
+      ⊎ ((me : ProcName) × (IsAtOrAbove me clue.caller ⊎ IsAtOrAbove me clue.named) × IsPartOf accounts s f l me q))
+      ⊎ (l.naming.number [] ≡ Some q)
+
+-- An object of what a line names has a location.
+abbrev pub LocationsAreComplete : Type 0
+LocationsAreComplete =
+    (accounts : Accounts) (s : State) (f : Flat) (represents : Represents accounts s f) (clue : Clue) (q : ℕ)
+    → IsOfLine accounts s f represents.matched clue q
+    → (location : Location) × (location_of (without_passwords accounts) (roots_of (length accounts.users)) s clue q ≡ Some location)
 
 -- ---- processes
 

@@ -1,7 +1,8 @@
 -- The definitions of this crate that contracts cite.
-pub mod Births
 pub mod Clues
 pub mod Purposes
+pub mod Births
+pub mod KnownBirths
 pub mod Location
 pub mod Runners
 pub mod NamedWords

@@ -6,11 +6,11 @@ use Rattle.histar_flat.specs.Words.{Path}
 use Rattle.histar_object.specs.State.{State}
 use Rattle.histar_programs.specs.declared.roots.Roots.{Roots}
 use Rattle.histar_raw_explain.specs.Texts.{Words, raw_words}
-use Rattle.histar_names.specs.Births.{Births}
+use Rattle.histar_names.specs.Births.{Births, purpose_of}
 use Rattle.histar_names.specs.declared.clues.Clue.{Clue}
 use Rattle.histar_names.specs.declared.purposes.Purpose.{Purpose}
 use Rattle.histar_names.specs.declared.location.Location.{Location}
-use Rattle.histar_names.specs.Purposes.{purpose_of, purpose_text}
+use Rattle.histar_names.specs.Purposes.{purpose_text}
 use Rattle.histar_names.specs.Location.{location_of, location_text}
 use Rattle.histar_names.specs.Runners.{runner_text, user_at}
 
@@ -34,7 +34,7 @@ abbrev pub words_at : Accounts → Roots → State → Clue → Births → Words
 words_at accounts roots s clue births = record {
   thread = λ t. process_text clue.caller ++ runner_text (user_at accounts s roots.home clue.caller);
   object = λ q. object_text accounts q (location_of accounts roots s clue q);
-  category = λ c. category_text accounts c (purpose_of accounts roots s clue births c);
-  listed = λ c. category_text accounts c (purpose_of accounts roots s clue births c);
+  category = λ c. category_text accounts c (purpose_of accounts births c);
+  listed = λ c. category_text accounts c (purpose_of accounts births c);
   made = made_text clue.path;
 }

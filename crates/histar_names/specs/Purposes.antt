@@ -1,6 +1,6 @@
--- What a category is for, by the numbers that boot gave and the labels of the containers of processes.
+-- What a category is for, by the numbers that boot gave and the labels of the containers of a process.
 use Rattle.std.specs.Prelude.{ℕ, ◌+◌, ◌*◌, ◌-◌, ◌/◌, ◌%◌, ◌==◌, Bool, false, ◌&&◌, nat_le, nat_lt, List, [], ◌∷◌, ◌++◌, length}
-use Rattle.std.specs.Prelude.{Option, None, Some, slice_get, codes, if◌then◌else◌}
+use Rattle.std.specs.Prelude.{Option, None, Some, codes, slice_get, if◌then◌else◌}
 use Rattle.histar_flat.specs.Words.{Name, ProcName}
 use Rattle.histar_flat.specs.Texts.{process_text}
 use Rattle.histar_flat.specs.Accounts.{Group, Accounts}
@@ -9,13 +9,10 @@ use Rattle.histar_object.specs.Objects.{label_there}
 use Rattle.histar_object.specs.State.{State}
 use Rattle.histar_layout.specs.Jobs.{is_three}
 use Rattle.histar_layout.specs.Reading.{◌>>=◌}
-use Rattle.histar_programs.specs.Start.{declared}
 use Rattle.histar_programs.specs.Caller.{home_at, if_runs, is_zero, status_at}
 use Rattle.histar_programs.specs.Kin.{user_name}
 use Rattle.histar_programs.specs.declared.roots.Home.{Home}
 use Rattle.histar_programs.specs.declared.roots.Roots.{Roots}
-use Rattle.histar_names.specs.Births.{Births}
-use Rattle.histar_names.specs.declared.clues.Clue.{Clue}
 use Rattle.histar_names.specs.declared.purposes.Purpose.{Purpose}
 use Rattle.histar_names.specs.declared.purposes.Purpose.TheVariants.{Boot, Reads, Writes, ReadsProcess, WritesProcess, Job}
 
@@ -24,7 +21,7 @@ abbrev pub or_else : {A : Type 0} → Option A → Option A → Option A
 or_else None y = y
 or_else (Some x) y = Some x
 
--- ---- what boot made: one for itself, and then two for nobody, for each user and for each group
+-- ---- what boot made: one for itself, then two for nobody, for each user and for each group, and two for process 0
 
 -- the owner of both categories of a pair: 0 is nobody, then come the users, and then the groups
 abbrev pub owner_in : ℕ → ℕ
@@ -34,9 +31,15 @@ owner_in c = (c - 2) / 2
 abbrev pub pair_purpose : ℕ → Purpose
 pair_purpose c = if (c % 2) == 0 then Reads (owner_in c) else Writes (owner_in c)
 
+-- what boot made a category for after those of nobody, of users and of groups
+abbrev pub first_purpose : ℕ → ℕ → Option Purpose
+first_purpose owners c =
+    if c == (4 + 2 * owners) then Some (ReadsProcess []) else (if c == (5 + 2 * owners) then Some (WritesProcess []) else None)
+
 -- what boot made a category for, with this many users and groups together
 abbrev pub boot_purpose : ℕ → ℕ → Option Purpose
-boot_purpose owners c = if c == 1 then Some Boot else (if nat_le 2 c && nat_lt c (4 + 2 * owners) then Some (pair_purpose c) else None)
+boot_purpose owners c =
+    if c == 1 then Some Boot else (if nat_le 2 c && nat_lt c (4 + 2 * owners) then Some (pair_purpose c) else first_purpose owners c)
 
 -- ---- the categories of a process
 
@@ -75,26 +78,6 @@ purpose_by s first c me =
     if has_zero (outer_label s first me) c then Some (WritesProcess me)
     else (if has_three (outer_label s first me) c then job_by s first c me
     else (if has_three (inner_label s first me) c then Some (ReadsProcess me) else None))
-
--- what a category is for, if it is one of a process's or of one above it
-abbrev pub purpose_up : State → Home → ℕ → ProcName → Option Purpose
-purpose_up s first c [] = purpose_by s first c []
-purpose_up s first c (n ∷ above) = or_else (purpose_by s first c (n ∷ above)) (purpose_up s first c above)
-
--- what a category is for, if it is one of the process's that it may be of
-abbrev pub purpose_born : State → Home → ℕ → Births → Option Purpose
-purpose_born s first c births = do
-  birth ← slice_get births c
-  child ← birth
-  purpose_by s first c child
-
--- What a category is for: boot's are known by their numbers, and others are looked for at the process that was born with the
--- category, and then at the processes in a line and those above them.
-abbrev pub purpose_of : Accounts → Roots → State → Clue → Births → ℕ → Option Purpose
-purpose_of accounts roots s clue births c =
-    or_else (boot_purpose (declared accounts) c)
-    (or_else (purpose_born s roots.home c births)
-    (or_else (purpose_up s roots.home c clue.caller) (purpose_up s roots.home c clue.named)))
 
 -- ---- its text
 

@@ -17,3 +17,4 @@ mod runners;
 pub use births::note_births;
 pub use clues::{Clue, clue_of};
 pub use names::Names;
+pub use purposes::Purpose;

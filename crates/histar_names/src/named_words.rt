@@ -61,7 +61,7 @@ fn push_of(text: &mut Vec<u8>, word: &[u8], process: &ProcName) -> Result<(), Al
     ensures { OnOk result (text.new.items ≡ text.old.items ++ (word.now ++ process_text process.now)) }
 {
     text.extend_from_slice(word)?;
-    push_process(text, process)
+    push_process(*text.allocator(), text, process)
 }
 
 /// Adds what a category is for.
@@ -103,7 +103,7 @@ fn push_location(
         Location::Password(user) => push_owned(text, b"the password of ", users, *user),
         Location::Gate(user) => push_owned(text, b"the gate of ", users, *user),
         Location::Users => text.extend_from_slice(b"the user table"),
-        Location::At(path) => push_path(text, path),
+        Location::At(path) => push_path(*text.allocator(), text, path),
         Location::Part(process) => push_of(text, b"process ", process),
     }
 }
@@ -126,7 +126,7 @@ impl<'k, S: LabelStore + Drop> Wording for Names<'k, S> {
     ghost words = { λ n. words_at n.users.now n.roots.now (state n.kernel.now) n.clue.now n.births.now };
 
     fn push_thread(&self, text: &mut Vec<u8>, _thread: ObjId) -> Result<(), AllocError> {
-        push_process(text, &self.clue.caller)?;
+        push_process(*text.allocator(), text, &self.clue.caller)?;
         push_runner(text, user_at(self, &self.clue.caller))
     }
 
@@ -149,6 +149,6 @@ impl<'k, S: LabelStore + Drop> Wording for Names<'k, S> {
         if self.clue.path.names().is_empty() {
             return ByNumber.push_made(text, kind);
         }
-        push_path(text, &self.clue.path)
+        push_path(*text.allocator(), text, &self.clue.path)
     }
 }

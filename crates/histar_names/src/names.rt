@@ -1,7 +1,7 @@
 //! What names are made from.
 
 use crate::clues::Clue;
-use histar_flat::ProcName;
+use crate::purposes::Purpose;
 use histar_label::LabelStore;
 use histar_layout::UserTable;
 use histar_programs::Roots;
@@ -18,6 +18,6 @@ pub struct Names<'k, S: LabelStore + Drop> {
     pub users: &'k UserTable,
     /// The processes and the path in the line.
     pub clue: &'k Clue,
-    /// For each category, by its number, a process that it may be of.
-    pub births: &'k [Option<ProcName>],
+    /// For each category, by its number, what it was made for.
+    pub births: &'k [Option<Purpose>],
 }

@@ -5,9 +5,11 @@ ghost use Rattle.histar_flat.specs.Words.{most_numbers};
 ghost use Rattle.histar_flat.specs.Accounts.{most_groups, most_users};
 ghost use Rattle.histar_programs.specs.Start.{declared};
 ghost use Rattle.histar_syscall.specs.KernelModel.{state};
-ghost use Rattle.histar_names.specs.Purposes.{boot_purpose, has_three, has_zero, inner_label, job_by, outer_label};
-ghost use Rattle.histar_names.specs.Purposes.{pair_purpose, purpose_born, purpose_by, purpose_of, purpose_up};
+ghost use Rattle.histar_names.specs.Births.{purpose_of};
+ghost use Rattle.histar_names.specs.Purposes.{boot_purpose, first_purpose, has_three, has_zero, inner_label, job_by};
+ghost use Rattle.histar_names.specs.Purposes.{outer_label, pair_purpose, purpose_by};
 
+use crate::births::noted;
 use crate::homes::name_of;
 use crate::names::Names;
 use histar_flat::ProcName;
@@ -18,7 +20,7 @@ use histar_syscall::Kernel;
 
 /// What a category is for.
 #[derive(Clone, Copy)]
-pub(crate) enum Purpose {
+pub enum Purpose {
     /// It was made before boot, and nobody owns it.
     Boot,
     /// To read what is a user's or a group's: 0 is nobody, then come the users, and then the groups.
@@ -42,10 +44,24 @@ fn boot_purpose(owners: usize, category: Category) -> Option<Purpose>
     if number == 1 {
         return Some(Purpose::Boot);
     }
-    if number < 2 || number - 2 >= 2 + 2 * owners {
-        return None;
+    if number >= 2 && number - 2 < 2 + 2 * owners {
+        return Some(pair_purpose(number));
     }
-    Some(pair_purpose(number))
+    first_purpose(owners, number)
+}
+
+/// Returns what boot made a category for after those of nobody, of users and of groups.
+fn first_purpose(owners: usize, number: usize) -> Option<Purpose>
+    requires { owners ≤ most_users + most_groups }
+    ensures { result ≡ first_purpose owners number }
+{
+    if number == 4 + 2 * owners {
+        Some(Purpose::ReadsProcess(ProcName::zero()))
+    } else if number == 5 + 2 * owners {
+        Some(Purpose::WritesProcess(ProcName::zero()))
+    } else {
+        None
+    }
 }
 
 /// Returns what the first or the second category of a pair is for.
@@ -130,7 +146,7 @@ fn job_by<S: LabelStore + Drop>(
 }
 
 /// Returns what a category is for, if it is a category of this process.
-fn purpose_by<S: LabelStore + Drop>(
+pub(crate) fn purpose_by<S: LabelStore + Drop>(
     kernel: &Kernel<S>,
     roots: &Roots,
     category: Category,
@@ -151,40 +167,6 @@ fn purpose_by<S: LabelStore + Drop>(
     }
 }
 
-/// Returns what a category is for, if it is a category of this process or of one above it.
-fn purpose_up<S: LabelStore + Drop>(
-    kernel: &Kernel<S>,
-    roots: &Roots,
-    category: Category,
-    numbers: &[u8],
-) -> Option<Purpose>
-    requires { length numbers.now ≤ most_numbers }
-    ensures { result ≡ purpose_up (state kernel.now) roots.now.home category numbers.now }
-{
-    let purpose = purpose_by(kernel, roots, category, numbers);
-    let [_, above @ ..] = numbers else {
-        return purpose;
-    };
-    match purpose {
-        Some(purpose) => Some(purpose),
-        None => purpose_up(kernel, roots, category, above),
-    }
-}
-
-/// Returns what a category is for, if it is a category of the process that it may be of.
-fn purpose_born<S: LabelStore + Drop>(
-    kernel: &Kernel<S>,
-    roots: &Roots,
-    category: Category,
-    births: &[Option<ProcName>],
-) -> Option<Purpose>
-    ensures { result ≡ purpose_born (state kernel.now) roots.now.home category births.now }
-{
-    let birth = *births.get(category.number() as usize)?;
-    let child = birth?;
-    purpose_by(kernel, roots, category, child.numbers())
-}
-
 /// Returns how many users and groups there are together.
 fn owners(users: &UserTable) -> usize
     ensures count { result ≡ declared users.now }
@@ -198,18 +180,10 @@ pub(crate) fn purpose_of<S: LabelStore + Drop>(
     names: &Names<S>,
     category: Category,
 ) -> Option<Purpose>
-    ensures { result ≡ purpose_of names.now.users.now names.now.roots.now (state names.now.kernel.now)
-        names.now.clue.now names.now.births.now category }
+    ensures { result ≡ purpose_of names.now.users.now names.now.births.now category }
 {
-    let (kernel, roots, clue) = (names.kernel, names.roots, names.clue);
-    if let Some(purpose) = boot_purpose(owners(names.users), category) {
-        return Some(purpose);
+    match boot_purpose(owners(names.users), category) {
+        Some(purpose) => Some(purpose),
+        None => noted(names.births, category),
     }
-    if let Some(purpose) = purpose_born(kernel, roots, category, names.births) {
-        return Some(purpose);
-    }
-    if let Some(purpose) = purpose_up(kernel, roots, category, clue.caller.numbers()) {
-        return Some(purpose);
-    }
-    purpose_up(kernel, roots, category, clue.named.numbers())
 }

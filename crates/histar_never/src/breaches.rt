@@ -69,7 +69,7 @@ fn push_process_and_user(
     ensures { OnOk result (text.new.items
         ≡ text.old.items ++ process_text process.now ++ codes " (" ++ user.now ++ codes ")") }
 {
-    push_process(text, process)?;
+    push_process(*text.allocator(), text, process)?;
     text.extend_from_slice(b" (")?;
     text.extend_from_slice(user.as_bytes())?;
     text.extend_from_slice(b")")
@@ -89,7 +89,7 @@ pub fn breach_text(alloc: Global, breach: &LateBreach) -> Result<Bytes, AllocErr
 {
     let mut text = Vec::new(alloc);
     text.extend_from_slice(b"after line ")?;
-    push_number(&mut text, breach.line)?;
+    push_number(alloc, &mut text, breach.line)?;
     text.extend_from_slice(b": ")?;
     push_holder(&mut text, &breach.breach.holder)?;
     text.extend_from_slice(b" has ")?;

@@ -54,14 +54,14 @@ booted_under_way accounts m entries shows run running = record {
 
 module _ (m mid : MachineModel) (a : RepliedCall) (runs : m.is_stopped ≡ false) where
   -- a machine that answers a line runs on
-  by_caller : (o : Option Caller) → AnswersFound o m mid a.call.line a.call.process a.call.call (Ok a.reply) → mid.is_stopped ≡ false
+  by_caller : (o : Option Caller) → AnswersFound (Unit {0}) o m mid a.call.line a.call.process a.call.call (Ok a.reply) → mid.is_stopped ≡ false
   by_caller None answered = ap (λ (x : MachineModel). x.is_stopped) answered.1 ∙ runs
   by_caller (Some caller) answered = answered.stops
 
   runs_on : AnswersLine m mid a.call.line a.call.process a.call.call (Ok a.reply) → mid.is_stopped ≡ false
   runs_on answered = by m.is_stopped answered
     where
-      by : (b : Bool) → AnswersIf b m mid a.call.line a.call.process a.call.call (Ok a.reply) → mid.is_stopped ≡ false
+      by : (b : Bool) → AnswersIf (Unit {0}) b m mid a.call.line a.call.process a.call.call (Ok a.reply) → mid.is_stopped ≡ false
       by true h = absurd (false≢true h.0)
       by false h = by_caller (caller_at (state m.kernel) m.roots.home a.call.process) h
 

@@ -212,8 +212,7 @@ module _ (accounts : Accounts) (v : ℕ) where
   module _ (m mid clean : MachineModel) (f : Flat) (a : RepliedCall) (alike : AreAlikeMachines accounts v m clean f)
       (inside : IsInsideCaller (state m.kernel) v m.roots.home a.call.process) where
     by_caller : (o : Option Caller) → caller_at (state m.kernel) m.roots.home a.call.process ≡ o
-        → AnswersFound o m mid a.call.line a.call.process a.call.call (Ok a.reply) → Unseen m mid clean f
-    unfolding Runs
+        → AnswersFound (Unit {0}) o m mid a.call.line a.call.process a.call.call (Ok a.reply) → Unseen m mid clean f
     by_caller None at answered =
         subst (λ (x : MachineModel). Unseen m x clean f) (sym answered.1)
         (record { after = clean; alike = alike; names = same_names; seals = λ d sealed. sealed; threads = λ t tainted. tainted })
@@ -222,7 +221,7 @@ module _ (accounts : Accounts) (v : ℕ) where
         inside_run m.roots m.users caller.thread a.reply f (program_of m.users m.roots a.call.process caller a.call.call)
         (on_line a.call.line m.kernel) mid.kernel clean
         (record { alike = alike.alike; closed = alike.closed; shows = alike.shows; roots = alike.roots; users = alike.users; runs = alike.runs })
-        (inside caller at) answered.made in
+        (inside caller at) answered.made.done in
         record {
           after = made.after;
           alike = record {
@@ -242,6 +241,6 @@ module _ (accounts : Accounts) (v : ℕ) where
     pub inside_step : AnswersLine m mid a.call.line a.call.process a.call.call (Ok a.reply) → Unseen m mid clean f
     inside_step answered = by m.is_stopped answered
       where
-        by : (b : Bool) → AnswersIf b m mid a.call.line a.call.process a.call.call (Ok a.reply) → Unseen m mid clean f
+        by : (b : Bool) → AnswersIf (Unit {0}) b m mid a.call.line a.call.process a.call.call (Ok a.reply) → Unseen m mid clean f
         by true h = absurd (false≢true h.0)
         by false h = by_caller (caller_at (state m.kernel) m.roots.home a.call.process) refl h

@@ -5,3 +5,4 @@ pub mod StoryLemmas
 pub mod SessionLemmas
 pub mod PageLemmas
 pub mod ViewLemmas
+pub mod Nests

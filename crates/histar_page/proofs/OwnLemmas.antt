@@ -1,44 +1,14 @@
 -- Lines of one number, taken from the front of others.
-use Rattle.std.proofs.Common.{◌≡◌, ℕ, ◌+◌, List, [], ◌∷◌, ◌++◌, length, map, take, drop, refl, sym, ap, ◌∙◌, Bool, true, false, cond, zero, suc}
-use Rattle.std.proofs.Common.{zero-add, ap₂, arith}
+use Rattle.std.proofs.Common.{◌≡◌, ℕ, ◌+◌, List, [], ◌∷◌, ◌++◌, map, take, drop, refl}
+use Rattle.std.proofs.Common.{sym, ap, ap₂, ◌∙◌, Bool, true, false, cond, zero, suc, arith}
 use Rattle.std.specs.Prelude.{codes, if◌then◌else◌}
-use Rattle.std.specs.List.{list_all, prefix_len, take_while}
+use Rattle.std.specs.List.{list_all, prefix_len}
 use Rattle.std.proofs.lemmas.Bool.{and_parts}
-use Rattle.std.proofs.lemmas.List.{drop-drop, drop-map, map-append, take-append-drop, take-map}
-use Rattle.std.proofs.lemmas.List.Sums.{take_while-cons}
-use Rattle.std.proofs.Math.Seq.{drop-nil, take-add}
-use Rattle.histar_script.specs.Lines.{split_word}
+use Rattle.std.proofs.lemmas.List.{drop-drop, drop-map, take-map}
+use Rattle.std.proofs.Math.Seq.{drop-nil}
+use Rattle.histar_page.specs.Laws.{other_item}
 use Rattle.histar_page.specs.Lines.{is_own, mark_number}
-use Rattle.histar_page.specs.Order.{Follow, left_over, past_own, reply_numbers, session_numbers, taken_own}
-use Rattle.histar_page.specs.Session.{other_item}
-
--- all that is taken while a test passes passes the test
-pub own_pass : {X : Type 0} (p : X → Bool) (xs : List X) → list_all p (take_while p xs) ≡ true
-own_pass p [] = refl
-own_pass {X} p (x ∷ xs) =
-    let by_test : (b : Bool) → p x ≡ b → list_all p (cond b (x ∷ take_while p xs) []) ≡ true =
-    λ b. elim b as (λ b. p x ≡ b → list_all p (cond b (x ∷ take_while p xs) []) ≡ true) [ true ↦ λ e. rw e (own_pass p xs) | false ↦ λ e. refl ] in
-    ap (list_all p) (take_while-cons p x xs) ∙ by_test (p x) refl
-
--- a part after what was taken begins where that ends, also element by element
-pub taken_texts : {A B : Type 0} (f : A → B) (xs : List A) (from n k : ℕ) → k ≡ n
-    → take (from + k) (map f xs) ≡ take from (map f xs) ++ map f (take n (drop from xs))
-taken_texts f xs from n k same =
-    ap (λ k. take (from + k) (map f xs)) same ∙ take-add from n (map f xs)
-    ∙ ap (λ l. take from (map f xs) ++ l) (ap (take n) (drop-map f from xs) ∙ take-map f n (drop from xs))
-
--- a list is what comes before a place and what comes after it, also element by element
-pub rest_whole : {A B : Type 0} (f : A → B) (lines later : List A) (k : ℕ) → later ≡ drop k lines → map f lines ≡ take k (map f lines) ++ map f later
-rest_whole f lines later k behind =
-    sym (take-append-drop k (map f lines)) ∙ ap (λ l. take k (map f lines) ++ l) (drop-map f k lines ∙ ap (map f) (sym behind))
-
--- what was taken from the front and what comes after it are the whole list
-pub boot_whole : {A B : Type 0} (f : A → B) (lines own later : List A)
-    → take (0 + length own) (map f lines) ≡ take 0 (map f lines) ++ map f own → later ≡ drop (length own) lines
-    → map f own ++ map f later ≡ map f lines
-boot_whole f lines own later taken behind =
-    let front : take (length own) (map f lines) ≡ map f own = ap (λ k. take k (map f lines)) (sym (zero-add (length own))) ∙ taken in
-    ap (λ l. l ++ map f later) (sym front) ∙ sym (rest_whole f lines later (length own) behind)
+use Rattle.histar_page.specs.Order.{Follow, past_own, reply_numbers, taken_own}
 
 -- the lines of a number at the front are as many as pass its test in a row
 pub taken_is : (number : List ℕ) (lines : List (List ℕ)) → taken_own number lines ≡ take (prefix_len (is_own number) lines) lines
@@ -88,19 +58,41 @@ past_texts f number lines from n is =
 pub behind_texts : {A : Type 0} (f : A → List ℕ) (lines later : List A) (k : ℕ) → later ≡ drop k lines → map f later ≡ drop k (map f lines)
 behind_texts f lines later k behind = ap (map f) behind ∙ sym (drop-map f k lines)
 
--- one more number takes its own lines of what the others left
-left_more : (numbers : List (List ℕ)) (number : List ℕ) (lines : List (List ℕ))
-    → left_over (numbers ++ number ∷ []) lines ≡ past_own number (left_over numbers lines)
-left_more [] number lines = refl
-left_more (n ∷ numbers) number lines = left_more numbers number (past_own n lines)
+-- the lines that a number takes have it
+pub taken_pass : (number : List ℕ) (lines : List (List ℕ)) → list_all (is_own number) (taken_own number lines) ≡ true
+taken_pass number [] = refl
+taken_pass number (line ∷ lines) = by (is_own number line) refl (taken_pass number lines)
+  where
+    by : (b : Bool) → is_own number line ≡ b → list_all (is_own number) (taken_own number lines) ≡ true
+        → list_all (is_own number) (if b then line ∷ taken_own number lines else []) ≡ true
+    by true is e = rw is e
+    by false is e = refl
 
--- one more reply takes its own lines
-pub left_step : (done lines : List (List ℕ)) (line : List ℕ) {all before later : List (List ℕ)} {word : List ℕ}
-    → all ≡ done ++ line ∷ [] → word ≡ (split_word line).0
-    → later ≡ past_own word before → before ≡ left_over (reply_numbers done) lines → later ≡ left_over (reply_numbers all) lines
-left_step done lines line more is past h =
-    past ∙ (λ i. past_own (is i) (h i)) ∙ sym (left_more (reply_numbers done) (split_word line).0 lines)
-    ∙ ap (λ numbers. left_over numbers lines) (sym (ap reply_numbers more ∙ map-append (λ (l : List ℕ). (split_word l).0) done (line ∷ [])))
+-- the lines that a number takes and those that it leaves are all lines
+pub own_whole : (number : List ℕ) (lines : List (List ℕ)) → taken_own number lines ++ past_own number lines ≡ lines
+own_whole number [] = refl
+own_whole number (line ∷ lines) = by (is_own number line) (own_whole number lines)
+  where
+    by : (b : Bool) → taken_own number lines ++ past_own number lines ≡ lines
+        → (if b then line ∷ taken_own number lines else []) ++ (if b then past_own number lines else line ∷ lines) ≡ line ∷ lines
+    by true e = ap (λ l. line ∷ l) e
+    by false e = refl
+
+-- ---- what no reply takes
+
+-- the lines that are left after each number in turn has taken its own from the front
+abbrev pub left_over : List (List ℕ) → List (List ℕ) → List (List ℕ)
+left_over [] lines = lines
+left_over (number ∷ numbers) lines = left_over numbers (past_own number lines)
+
+-- the numbers of the raw calls and explanations that no reply takes
+abbrev pub other_numbers : List (List ℕ) → List (List ℕ) → List (List ℕ) → List (List ℕ)
+other_numbers replies raw_calls explanations =
+    map mark_number (left_over (reply_numbers replies) raw_calls) ++ map mark_number (left_over (reply_numbers replies) explanations)
+
+-- 0 for boot, and then those of the raw calls and explanations that neither boot nor a reply takes
+abbrev pub session_numbers : List (List ℕ) → List (List ℕ) → List (List ℕ) → List (List ℕ)
+session_numbers replies raw_calls explanations = codes "0" ∷ other_numbers replies (past_own (codes "0") raw_calls) explanations
 
 -- if a number's own lines are passed over from any place on, an end of the rest is left
 past_some : (number : List ℕ) (own rest : List (List ℕ)) (k : ℕ) → list_all (is_own number) own ≡ true

@@ -1,44 +1,50 @@
 -- A session's items, one call after another.
-use Rattle.std.proofs.Common.{◌≡◌, ℕ, List, [], ◌∷◌, ◌++◌, refl, sym, ap, ap₂, ◌∙◌, true, false, append_assoc, append-nil, map, subst}
+use Rattle.std.proofs.Common.{◌≡◌, ℕ, List, [], ◌∷◌, ◌++◌, refl, sym, ap}
+use Rattle.std.proofs.Common.{ap₂, ◌∙◌, true, false, append_assoc, append-nil, drop, map, subst}
 use Rattle.std.specs.Prelude.{Bool, codes, filter, if◌then◌else◌}
 use Rattle.std.specs.List.{flat_map, list_all}
 use Rattle.std.proofs.lemmas.Bool.{and_parts}
 use Rattle.std.proofs.lemmas.Slice.Eq.{bytes_eq-Decides}
 use Rattle.std.proofs.lemmas.List.{map-append}
+use Rattle.histar_script.specs.Lines.{split_word}
 use Rattle.histar_page.specs.declared.kind.Kind.{Kind}
 use Rattle.histar_page.specs.declared.kind.Kind.TheVariants.{RawCall, DeniedCall, HiddenBytes}
+use Rattle.histar_page.specs.declared.markup.Markup.{Markup}
+use Rattle.histar_page.specs.declared.markup.Markup.TheVariants.{BeginBare, BeginCall, EndBare, EndCall, EndSession}
 use Rattle.histar_page.specs.Items.{Item}
+use Rattle.histar_page.specs.Items.Item.{Fixed, Shown}
+use Rattle.histar_page.specs.Laws.{AreOwn, SessionsAreShown, has_kind, is_other_kind, is_raw_kind, is_why_kind, of_kinds, other_item}
 use Rattle.histar_page.specs.Lines.{is_denied, is_explanation, is_own, is_raw_call, is_reason, is_reply, mark_number}
-use Rattle.histar_page.specs.Session.{AddsSession, AreOwn, IsSession, at_bytes, boot_items, hides_bytes, is_number_kind, is_other_kind, is_raw_kind}
-use Rattle.histar_page.specs.Session.{is_why_kind, kernel_items, of_kinds, other_call_items, other_item, other_why_items, raw_item}
-use Rattle.histar_page.specs.Session.{raw_kind, why_item}
-use Rattle.histar_page.specs.Story.{is_story_kind, story_from}
-use Rattle.histar_page.specs.Order.{session_numbers}
-use Rattle.histar_page.proofs.OwnLemmas.{boot_alone}
-use Rattle.histar_page.proofs.StoryLemmas.{IsPlain, IsStory, never, of-append}
+use Rattle.histar_page.specs.Order.{Marked, later_marked, own_marked, past_own, taken_own}
+use Rattle.histar_page.specs.Session.{at_bytes, boot_items, calls_items, framed_items, hides_bytes, kernel_items, other_call_items, other_why_items}
+use Rattle.histar_page.specs.Session.{raw_item, raw_kind, turn_items, turns_from, why_item}
+use Rattle.histar_page.specs.Story.{is_story_kind, line_number, lines_between, note_items, story_from, call_items, story_items}
+use Rattle.histar_page.proofs.OwnLemmas.{boot_alone, other_numbers, own_whole, session_numbers, taken_pass}
+use Rattle.histar_page.proofs.StoryLemmas.{IsBehind, IsPart, never, notes_are, of-append, turn_with}
 
 -- ---- kinds
 
 -- the item of a raw call, by whether its bytes are hidden
 abbrev raw_by : List ℕ → Bool → Item
-raw_by line hidden = if hidden then (HiddenBytes, (at_bytes line).0) else (raw_kind line, line)
+raw_by line hidden = if hidden then Shown HiddenBytes (at_bytes line).0 else Shown (raw_kind line) line
 
--- a property of all kinds of raw calls holds of the kind of each raw call
-by_raw : (P : Kind → Type 0) → P HiddenBytes → P DeniedCall → P RawCall → (line : List ℕ) → P (raw_item line).0
-by_raw P hidden denied made line =
-    elim (hides_bytes line) as (λ b. P (raw_by line b).0) [
+-- whether a raw call is of these kinds, if all kinds of raw calls are or none is
+raw_test : (test : Kind → Bool) (b : Bool) → test HiddenBytes ≡ b → test DeniedCall ≡ b → test RawCall ≡ b → (line : List ℕ)
+    → has_kind test (raw_item line) ≡ b
+raw_test test b hidden denied made line =
+    elim (hides_bytes line) as (λ h. has_kind test (raw_by line h) ≡ b) [
       | true ↦ hidden
-      | false ↦ elim (is_denied line) as (λ b. P (if b then DeniedCall else RawCall)) [ true ↦ denied | false ↦ made ]
+      | false ↦ elim (is_denied line) as (λ d. test (if d then DeniedCall else RawCall) ≡ b) [ true ↦ denied | false ↦ made ]
     ]
 
 -- no item is of these kinds
-of_none : (test : Kind → Bool) (f : List ℕ → Item) → ((line : List ℕ) → test (f line).0 ≡ false)
+of_none : (test : Kind → Bool) (f : List ℕ → Item) → ((line : List ℕ) → has_kind test (f line) ≡ false)
     → (lines : List (List ℕ)) → of_kinds test (map f lines) ≡ []
 of_none test f fails [] = refl
 of_none test f fails (line ∷ lines) = rw (fails line) (of_none test f fails lines)
 
 -- each item is of these kinds
-of_all : (test : Kind → Bool) (f : List ℕ → Item) → ((line : List ℕ) → test (f line).0 ≡ true) → (lines : List (List ℕ))
+of_all : (test : Kind → Bool) (f : List ℕ → Item) → ((line : List ℕ) → has_kind test (f line) ≡ true) → (lines : List (List ℕ))
     → of_kinds test (map f lines) ≡ map f lines
 of_all test f passes [] = refl
 of_all test f passes (line ∷ lines) = rw (passes line) (ap (λ l. f line ∷ l) (of_all test f passes lines))
@@ -46,57 +52,48 @@ of_all test f passes (line ∷ lines) = rw (passes line) (ap (λ l. f line ∷ l
 -- the items of raw calls have none of these kinds, if no kind of raw calls is one
 raw_none : (test : Kind → Bool) → test HiddenBytes ≡ false → test DeniedCall ≡ false → test RawCall ≡ false → (lines : List (List ℕ))
     → of_kinds test (map raw_item lines) ≡ []
-raw_none test hidden denied made lines = of_none test raw_item (by_raw (λ k. test k ≡ false) hidden denied made) lines
+raw_none test hidden denied made lines = of_none test raw_item (raw_test test false hidden denied made) lines
 
--- ---- the raw calls and explanations after a call
+-- raw calls are of the kinds of raw calls
+raw_all : (lines : List (List ℕ)) → of_kinds is_raw_kind (map raw_item lines) ≡ map raw_item lines
+raw_all lines = of_all is_raw_kind raw_item (raw_test is_raw_kind true refl refl refl) lines
 
--- the items after a call have none of these kinds but those of raw calls
-behind_raw : (raw_calls explanations : List (List ℕ))
-    → of_kinds is_raw_kind (map raw_item raw_calls ++ map why_item explanations) ≡ map raw_item raw_calls
-behind_raw raw_calls explanations =
-    of-append is_raw_kind (map raw_item raw_calls) (map why_item explanations)
-    ∙ ap₂ (λ (a b : List Item). a ++ b)
-    (of_all is_raw_kind raw_item (by_raw (λ k. is_raw_kind k ≡ true) refl refl refl) raw_calls)
-    (of_none is_raw_kind why_item (λ line. refl) explanations)
-    ∙ append-nil (map raw_item raw_calls)
+-- a fixed text at the end is of no kind
+closed : (test : Kind → Bool) (xs : List Item) (markup : Markup) → of_kinds test (xs ++ Fixed markup ∷ []) ≡ of_kinds test xs
+closed test xs markup = of-append test xs (Fixed markup ∷ []) ∙ append-nil (of_kinds test xs)
 
-behind_why : (raw_calls explanations : List (List ℕ))
-    → of_kinds is_why_kind (map raw_item raw_calls ++ map why_item explanations) ≡ map why_item explanations
-behind_why raw_calls explanations =
-    of-append is_why_kind (map raw_item raw_calls) (map why_item explanations)
-    ∙ ap₂ (λ (a b : List Item). a ++ b) (raw_none is_why_kind refl refl refl raw_calls) (of_all is_why_kind why_item (λ line. refl) explanations)
-
-behind_story : (raw_calls explanations : List (List ℕ)) → of_kinds is_story_kind (map raw_item raw_calls ++ map why_item explanations) ≡ []
-behind_story raw_calls explanations =
-    of-append is_story_kind (map raw_item raw_calls) (map why_item explanations)
-    ∙ ap₂ (λ (a b : List Item). a ++ b) (raw_none is_story_kind refl refl refl raw_calls) (of_none is_story_kind why_item (λ line. refl) explanations)
-
-behind_others : (raw_calls explanations : List (List ℕ)) → of_kinds is_other_kind (map raw_item raw_calls ++ map why_item explanations) ≡ []
-behind_others raw_calls explanations =
-    of-append is_other_kind (map raw_item raw_calls) (map why_item explanations)
-    ∙ ap₂ (λ (a b : List Item). a ++ b) (raw_none is_other_kind refl refl refl raw_calls) (of_none is_other_kind why_item (λ line. refl) explanations)
+-- one list comes after another
+joined : (test : Kind → Bool) (xs ys : List Item) {a b : List Item} → of_kinds test xs ≡ a → of_kinds test ys ≡ b
+    → of_kinds test (xs ++ ys) ≡ a ++ b
+joined test xs ys x y = of-append test xs ys ∙ ap₂ (λ (a b : List Item). a ++ b) x y
 
 -- ---- numbers
 
--- items after their own numbers stay so after any others
+-- items after their own numbers stay so before any others
 own-append : (number : List ℕ) (xs ys : List Item) → AreOwn number xs → ((n : List ℕ) → AreOwn n ys) → AreOwn number (xs ++ ys)
 own-append number [] ys h all = all number
-own-append number (x ∷ xs) ys h all = (h.0, own-append (if is_number_kind x.0 then x.1 else number) xs ys h.1 all)
+own-append number (Fixed markup ∷ xs) ys h all = own-append number xs ys h all
+own-append number (Shown kind text ∷ xs) ys h all = (h.0, own-append _ xs ys h.1 all)
 
 -- a line that passes the test of a number has it
 has_number : (number line : List ℕ) → is_own number line ≡ true → mark_number line ≡ number
 has_number number line h = (bytes_eq-Decides (mark_number line) number).0 h
 
--- the text of a raw call has the number of its line
-raw_number : (line : List ℕ) → mark_number (raw_item line).1 ≡ mark_number line
-raw_number line = by (hides_bytes line) refl
+-- a raw call that has a number is after it, and so is what follows it
+own_one : (number line : List ℕ) (more : List Item) → mark_number line ≡ number → AreOwn number more
+    → AreOwn number (raw_item line ∷ more)
+own_one number line more is rest = by (hides_bytes line) refl
   where
-    by : (b : Bool) → hides_bytes line ≡ b → mark_number (raw_by line b).1 ≡ mark_number line
+    by : (b : Bool) → hides_bytes line ≡ b → AreOwn number (raw_by line b ∷ more)
     by true e =
-        let parts = and_parts (is_own (codes "0") line) _ e in
-        has_number (codes "0") (at_bytes line).0 (and_parts (is_own (codes "0") (at_bytes line).0) _ parts.1).0
-        ∙ sym (has_number (codes "0") line parts.0)
-    by false e = refl
+        let parts = and_parts (is_own (codes "0") line) _ e in (
+          λ raw. has_number (codes "0") (at_bytes line).0 (and_parts (is_own (codes "0") (at_bytes line).0) _ parts.1).0
+              ∙ sym (has_number (codes "0") line parts.0) ∙ is,
+          rest,
+        )
+    by false e =
+        elim (is_denied line) as (λ d. AreOwn number (Shown (if d then DeniedCall else RawCall) line ∷ more))
+        [ true ↦ (λ raw. is, rest) | false ↦ (λ raw. is, rest) ]
 
 -- raw calls that have a number are after it, and so is what follows them
 own_raw : (number : List ℕ) (lines : List (List ℕ)) (more : List Item) → list_all (is_own number) lines ≡ true → AreOwn number more
@@ -104,204 +101,193 @@ own_raw : (number : List ℕ) (lines : List (List ℕ)) (more : List Item) → l
 own_raw number [] more h rest = rest
 own_raw number (line ∷ lines) more h rest =
     let parts = and_parts (is_own number line) (list_all (is_own number) lines) h in
-    let later = own_raw number lines more parts.1 rest in
-    (λ is. raw_number line ∙ has_number number line parts.0, rw (by_raw (λ k. is_number_kind k ≡ false) refl refl refl line) later)
+    own_one number line (map raw_item lines ++ more) (has_number number line parts.0) (own_raw number lines more parts.1 rest)
 
--- explanations that have a number are after it
-own_why : (number : List ℕ) (lines : List (List ℕ)) → list_all (is_own number) lines ≡ true → AreOwn number (map why_item lines)
-own_why number [] h = tt
-own_why number (line ∷ lines) h =
+-- explanations that have a number are after it, and so is what follows them
+own_why : (number : List ℕ) (lines : List (List ℕ)) (more : List Item) → list_all (is_own number) lines ≡ true → AreOwn number more
+    → AreOwn number (map why_item lines ++ more)
+own_why number [] more h rest = rest
+own_why number (line ∷ lines) more h rest =
     let parts = and_parts (is_own number line) (list_all (is_own number) lines) h in
-    (λ is. has_number number line parts.0, own_why number lines parts.1)
+    (λ why. has_number number line parts.0, own_why number lines more parts.1 rest)
 
--- raw calls are after their own numbers
-own_other_calls : (lines : List (List ℕ)) (number : List ℕ) → AreOwn number (flat_map other_call_items lines)
-own_other_calls [] number = tt
-own_other_calls (line ∷ lines) number =
-    (never, (λ is. raw_number line, rw (by_raw (λ k. is_number_kind k ≡ false) refl refl refl line) (own_other_calls lines (mark_number line))))
+-- ---- the raw calls and explanations behind a call
 
--- explanations are after their own numbers
-own_other_why : (lines : List (List ℕ)) (number : List ℕ) → AreOwn number (flat_map other_why_items lines)
-own_other_why [] number = tt
-own_other_why (line ∷ lines) number = (never, (λ is. refl, own_other_why lines (mark_number line)))
+-- the items of these kinds behind a call
+two : (test : Kind → Bool) (raw_calls explanations : List (List ℕ)) {a b : List Item} → of_kinds test (map raw_item raw_calls) ≡ a
+    → of_kinds test (map why_item explanations) ≡ b → of_kinds test (kernel_items raw_calls explanations) ≡ a ++ b
+two test raw_calls explanations x y =
+    let calls = map raw_item raw_calls in
+    let whys = map why_item explanations in
+    closed test (calls ++ whys) EndCall ∙ joined test calls whys x y
+
+-- the raw calls and explanations of a number are behind its call
+kernel_behind : (number : List ℕ) (raw_calls explanations : List (List ℕ)) → list_all (is_own number) raw_calls ≡ true
+    → list_all (is_own number) explanations ≡ true → IsBehind number raw_calls explanations (kernel_items raw_calls explanations)
+kernel_behind number raw_calls explanations raw why =
+    let whys = map why_item explanations in
+    let ending : List Item = Fixed EndCall ∷ [] in
+    record {
+      story = two is_story_kind raw_calls explanations (raw_none is_story_kind refl refl refl raw_calls)
+          (of_none is_story_kind why_item (λ line. refl) explanations);
+      raw = two is_raw_kind raw_calls explanations (raw_all raw_calls) (of_none is_raw_kind why_item (λ line. refl) explanations)
+          ∙ append-nil (map raw_item raw_calls);
+      why = two is_why_kind raw_calls explanations (raw_none is_why_kind refl refl refl raw_calls)
+          (of_all is_why_kind why_item (λ line. refl) explanations);
+      others = two is_other_kind raw_calls explanations (raw_none is_other_kind refl refl refl raw_calls)
+          (of_none is_other_kind why_item (λ line. refl) explanations);
+      own = let P : List Item → Type 0 = AreOwn number in
+          subst P (sym (append_assoc (map raw_item raw_calls) whys ending))
+          (own_raw number raw_calls (whys ++ ending) raw (own_why number explanations ending why tt));
+    }
+
+-- a turn is its story, with the raw calls and explanations of its number
+turn_part : (script : List (List ℕ)) (before reply : List ℕ) (reasons raw_calls explanations : List (List ℕ))
+    → list_all (is_own (split_word reply).0) raw_calls ≡ true → list_all (is_own (split_word reply).0) explanations ≡ true
+    → IsPart (story_items script before reply reasons) raw_calls explanations []
+    (flat_map (note_items before) (lines_between script before reply) ++ framed_items (call_items script reply reasons) raw_calls explanations)
+turn_part script before reply reasons [] [] raw why =
+    turn_with script before reply reasons BeginBare {behind = Fixed EndBare ∷ []}
+    (record { story = refl; raw = refl; why = refl; others = refl; own = tt })
+turn_part script before reply reasons [] (line ∷ explanations) raw why =
+    turn_with script before reply reasons BeginCall (kernel_behind (split_word reply).0 [] (line ∷ explanations) raw why)
+turn_part script before reply reasons (line ∷ raw_calls) explanations raw why =
+    turn_with script before reply reasons BeginCall (kernel_behind (split_word reply).0 (line ∷ raw_calls) explanations raw why)
 
 -- ---- lines without a reply
 
-other_story : (lines : List (List ℕ)) → of_kinds is_story_kind (flat_map other_call_items lines) ≡ []
-other_story [] = refl
-other_story (line ∷ lines) = rw (by_raw (λ k. is_story_kind k ≡ false) refl refl refl line) (other_story lines)
-
-other_raw : (lines : List (List ℕ)) → of_kinds is_raw_kind (flat_map other_call_items lines) ≡ map raw_item lines
-other_raw [] = refl
-other_raw (line ∷ lines) = rw (by_raw (λ k. is_raw_kind k ≡ true) refl refl refl line) (ap (λ l. raw_item line ∷ l) (other_raw lines))
-
-other_none : (lines : List (List ℕ)) → of_kinds is_why_kind (flat_map other_call_items lines) ≡ []
-other_none [] = refl
-other_none (line ∷ lines) = rw (by_raw (λ k. is_why_kind k ≡ false) refl refl refl line) (other_none lines)
-
-why_story : (lines : List (List ℕ)) → of_kinds is_story_kind (flat_map other_why_items lines) ≡ []
-why_story [] = refl
-why_story (line ∷ lines) = why_story lines
-
-why_raw : (lines : List (List ℕ)) → of_kinds is_raw_kind (flat_map other_why_items lines) ≡ []
-why_raw [] = refl
-why_raw (line ∷ lines) = why_raw lines
-
-why_all : (lines : List (List ℕ)) → of_kinds is_why_kind (flat_map other_why_items lines) ≡ map why_item lines
-why_all [] = refl
-why_all (line ∷ lines) = ap (λ l. why_item line ∷ l) (why_all lines)
-
-calls_numbers : (lines : List (List ℕ)) → of_kinds is_other_kind (flat_map other_call_items lines) ≡ map other_item (map mark_number lines)
-calls_numbers [] = refl
-calls_numbers (line ∷ lines) =
-    rw (by_raw (λ k. is_other_kind k ≡ false) refl refl refl line) (ap (λ l. other_item (mark_number line) ∷ l) (calls_numbers lines))
-
-whys_numbers : (lines : List (List ℕ)) → of_kinds is_other_kind (flat_map other_why_items lines) ≡ map other_item (map mark_number lines)
-whys_numbers [] = refl
-whys_numbers (line ∷ lines) = ap (λ l. other_item (mark_number line) ∷ l) (whys_numbers lines)
-
-boot_number : (boot : List (List ℕ)) → of_kinds is_other_kind (boot_items boot) ≡ other_item (codes "0") ∷ []
-boot_number boot = ap (λ l. other_item (codes "0") ∷ l) (raw_none is_other_kind refl refl refl boot)
-
--- ---- what is added
-
--- one list was added after another
-joined : (test : Kind → Bool) (xs ys a b : List Item) → of_kinds test xs ≡ a → of_kinds test ys ≡ b → of_kinds test (xs ++ ys) ≡ a ++ b
-joined test xs ys a b x y = of-append test xs ys ∙ ap₂ (λ (a b : List Item). a ++ b) x y
-
--- nothing was added
-pub adds_none : (old : List Item) → AddsSession [] [] [] [] old old
-adds_none old =
+-- raw calls without a reply are no story, and are after their own numbers
+calls_part : (lines : List (List ℕ)) → IsPart [] lines [] (map mark_number lines) (flat_map other_call_items lines)
+calls_part [] = record { story = refl; raw = refl; why = refl; own = λ number. tt; others = refl }
+calls_part (line ∷ lines) =
+    let later = calls_part lines in
     record {
-      added = [];
-      is_added = sym (append-nil old);
-      story = refl;
-      raw = refl;
-      why = refl;
-      own = λ number. tt;
-      others = refl;
+      story = rw (raw_test is_story_kind false refl refl refl line) later.story;
+      raw = rw (raw_test is_raw_kind true refl refl refl line) (ap (λ l. raw_item line ∷ l) later.raw);
+      why = rw (raw_test is_why_kind false refl refl refl line) later.why;
+      own = λ number.
+          (never, own_one (mark_number line) line (Fixed EndCall ∷ flat_map other_call_items lines) refl (later.own (mark_number line)));
+      others = rw (raw_test is_other_kind false refl refl refl line) (ap (λ l. other_item (mark_number line) ∷ l) later.others);
     }
 
--- a turn was added, with these raw calls and explanations
-pub adds_turn : {shown turn old mid new : List Item} {raw why numbers : List (List ℕ)} {word : List ℕ} (raw_calls explanations : List (List ℕ))
-    → IsStory word turn → AddsSession shown raw why numbers old mid → new ≡ mid ++ turn ++ kernel_items raw_calls explanations
-    → list_all (is_own word) raw_calls ≡ true → list_all (is_own word) explanations ≡ true
-    → AddsSession (shown ++ turn) (raw ++ raw_calls) (why ++ explanations) numbers old new
-adds_turn {shown} {turn} {old} {raw = raw} {why} {numbers} {word} raw_calls explanations is h e own_calls own_explanations =
-    let kernel = kernel_items raw_calls explanations in
-    let more = turn ++ kernel in
+-- explanations without a reply are the same
+whys_part : (lines : List (List ℕ)) → IsPart [] [] lines (map mark_number lines) (flat_map other_why_items lines)
+whys_part [] = record { story = refl; raw = refl; why = refl; own = λ number. tt; others = refl }
+whys_part (line ∷ lines) =
+    let later = whys_part lines in
     record {
-      added = h.added ++ more;
-      is_added = e ∙ append_assoc _ turn kernel ∙ ap (λ l. l ++ more) h.is_added ∙ append_assoc old h.added more;
-      story =
-          joined is_story_kind h.added more _ _ h.story (joined is_story_kind turn kernel _ _ is.story (behind_story raw_calls explanations))
-          ∙ ap (λ l. shown ++ l) (append-nil turn);
-      raw =
-          joined is_raw_kind h.added more _ _ h.raw (joined is_raw_kind turn kernel _ _ is.raw (behind_raw raw_calls explanations))
-          ∙ sym (map-append raw_item raw raw_calls);
-      why =
-          joined is_why_kind h.added more _ _ h.why (joined is_why_kind turn kernel _ _ is.why (behind_why raw_calls explanations))
-          ∙ sym (map-append why_item why explanations);
-      own =
-          λ number. own-append number h.added more (h.own number)
-          (λ n. is.own n kernel (own_raw word raw_calls (map why_item explanations) own_calls (own_why word explanations own_explanations)));
-      others =
-          joined is_other_kind h.added more _ _ h.others (joined is_other_kind turn kernel _ _ is.others (behind_others raw_calls explanations))
-          ∙ append-nil (map other_item numbers);
+      story = later.story;
+      raw = later.raw;
+      why = ap (λ l. why_item line ∷ l) later.why;
+      own = λ number. (never, (λ why. refl, later.own (mark_number line)));
+      others = ap (λ l. other_item (mark_number line) ∷ l) later.others;
     }
 
--- comments were added
-pub adds_notes : {shown notes old mid new : List Item} {raw why numbers : List (List ℕ)} → IsPlain notes
-    → AddsSession shown raw why numbers old mid → new ≡ mid ++ notes → AddsSession (shown ++ notes) raw why numbers old new
-adds_notes {shown} {notes} {old} {raw = raw} {why} {numbers} is h e =
+-- ---- one part after another
+
+-- the raw calls of boot are no story, and are after the number 0
+boot_part : (boot : List (List ℕ)) → list_all (is_own (codes "0")) boot ≡ true → IsPart [] boot [] (codes "0" ∷ []) (boot_items boot)
+boot_part boot is =
+    let calls = map raw_item boot in
     record {
-      added = h.added ++ notes;
-      is_added = e ∙ ap (λ l. l ++ notes) h.is_added ∙ append_assoc old h.added notes;
-      story = joined is_story_kind h.added notes _ _ h.story is.story;
-      raw = joined is_raw_kind h.added notes _ _ h.raw is.raw ∙ append-nil _;
-      why = joined is_why_kind h.added notes _ _ h.why is.why ∙ append-nil _;
-      own = λ number. own-append number h.added notes (h.own number) is.own;
-      others = joined is_other_kind h.added notes _ _ h.others is.others ∙ append-nil _;
+      story = closed is_story_kind calls EndCall ∙ raw_none is_story_kind refl refl refl boot;
+      raw = closed is_raw_kind calls EndCall ∙ raw_all boot;
+      why = closed is_why_kind calls EndCall ∙ raw_none is_why_kind refl refl refl boot;
+      own = λ number. (never, own_raw (codes "0") boot (Fixed EndCall ∷ []) is tt);
+      others = ap (λ l. other_item (codes "0") ∷ l) (closed is_other_kind calls EndCall ∙ raw_none is_other_kind refl refl refl boot);
     }
 
--- raw calls without a reply were added
-pub adds_calls : {shown old mid new : List Item} {raw why numbers : List (List ℕ)} (raw_calls : List (List ℕ))
-    → AddsSession shown raw why numbers old mid → new ≡ mid ++ flat_map other_call_items raw_calls
-    → AddsSession shown (raw ++ raw_calls) why (numbers ++ map mark_number raw_calls) old new
-adds_calls {shown} {old} {raw = raw} {why} {numbers} raw_calls h e =
-    let others = flat_map other_call_items raw_calls in
+-- two parts are one
+parts : {first second xs ys : List Item} {raw why numbers raws whys others : List (List ℕ)} → IsPart first raw why numbers xs
+    → IsPart second raws whys others ys → IsPart (first ++ second) (raw ++ raws) (why ++ whys) (numbers ++ others) (xs ++ ys)
+parts {xs = xs} {ys} {raw} {why} {numbers} {raws} {whys} {others} a b =
     record {
-      added = h.added ++ others;
-      is_added = e ∙ ap (λ l. l ++ others) h.is_added ∙ append_assoc old h.added others;
-      story = joined is_story_kind h.added others _ _ h.story (other_story raw_calls) ∙ append-nil _;
-      raw = joined is_raw_kind h.added others _ _ h.raw (other_raw raw_calls) ∙ sym (map-append raw_item raw raw_calls);
-      why = joined is_why_kind h.added others _ _ h.why (other_none raw_calls) ∙ append-nil _;
-      own = λ number. own-append number h.added others (h.own number) (own_other_calls raw_calls);
-      others =
-          joined is_other_kind h.added others _ _ h.others (calls_numbers raw_calls)
-          ∙ sym (map-append other_item numbers (map mark_number raw_calls));
+      story = joined is_story_kind xs ys a.story b.story;
+      raw = joined is_raw_kind xs ys a.raw b.raw ∙ sym (map-append raw_item raw raws);
+      why = joined is_why_kind xs ys a.why b.why ∙ sym (map-append why_item why whys);
+      own = λ number. own-append number xs ys (a.own number) b.own;
+      others = joined is_other_kind xs ys a.others b.others ∙ sym (map-append other_item numbers others);
     }
 
--- explanations without a reply were added
-pub adds_whys : {shown old mid new : List Item} {raw why numbers : List (List ℕ)} (explanations : List (List ℕ))
-    → AddsSession shown raw why numbers old mid → new ≡ mid ++ flat_map other_why_items explanations
-    → AddsSession shown raw (why ++ explanations) (numbers ++ map mark_number explanations) old new
-adds_whys {shown} {old} {raw = raw} {why} {numbers} explanations h e =
-    let others = flat_map other_why_items explanations in
-    record {
-      added = h.added ++ others;
-      is_added = e ∙ ap (λ l. l ++ others) h.is_added ∙ append_assoc old h.added others;
-      story = joined is_story_kind h.added others _ _ h.story (why_story explanations) ∙ append-nil _;
-      raw = joined is_raw_kind h.added others _ _ h.raw (why_raw explanations) ∙ append-nil _;
-      why = joined is_why_kind h.added others _ _ h.why (why_all explanations) ∙ sym (map-append why_item why explanations);
-      own = λ number. own-append number h.added others (h.own number) (own_other_why explanations);
-      others =
-          joined is_other_kind h.added others _ _ h.others (whys_numbers explanations)
-          ∙ sym (map-append other_item numbers (map mark_number explanations));
-    }
+-- a part is one of equal lists
+part_as : {shown all items : List Item} {raw why numbers raws whys others : List (List ℕ)} → all ≡ shown → raws ≡ raw → whys ≡ why
+    → others ≡ numbers → IsPart shown raw why numbers items → IsPart all raws whys others items
+part_as is_all are_raws are_whys are_others h = rw (is_all, are_raws, are_whys, are_others) h
 
--- what was added after the raw calls of boot
-pub adds_boot : {shown old mid new : List Item} {raw why numbers : List (List ℕ)} (boot : List (List ℕ))
-    → mid ≡ old ++ boot_items boot → list_all (is_own (codes "0")) boot ≡ true → AddsSession shown raw why numbers mid new
-    → AddsSession shown (boot ++ raw) why (codes "0" ∷ numbers) old new
-adds_boot {shown} {old} {raw = raw} {why} {numbers} boot e is_boot h =
-    let items = boot_items boot in
-    record {
-      added = items ++ h.added;
-      is_added = h.is_added ∙ ap (λ l. l ++ h.added) e ∙ append_assoc old items h.added;
-      story = joined is_story_kind items h.added _ _ (raw_none is_story_kind refl refl refl boot) h.story;
-      raw =
-          joined is_raw_kind items h.added _ _
-          (of_all is_raw_kind raw_item (by_raw (λ k. is_raw_kind k ≡ true) refl refl refl) boot) h.raw
-          ∙ sym (map-append raw_item boot raw);
-      why = joined is_why_kind items h.added _ _ (raw_none is_why_kind refl refl refl boot) h.why;
-      own = λ number. own-append number items h.added
-          (never, subst_nil (codes "0") boot is_boot) h.own;
-      others = joined is_other_kind items h.added _ _ (boot_number boot) h.others;
-    }
-  where
-    subst_nil : (number : List ℕ) (lines : List (List ℕ)) → list_all (is_own number) lines ≡ true → AreOwn number (map raw_item lines)
-    subst_nil number lines is = let P : List Item → Type 0 = AreOwn number in rw (← append-nil (map raw_item lines)) (own_raw number lines [] is tt)
+-- the turns of replies are their story, with all raw calls and explanations
+turns_part : (script : List (List ℕ)) (before : List ℕ) (replies : List (List ℕ)) (marked : Marked)
+    → IsPart (story_from script before replies marked.reasons) marked.raw_calls marked.explanations
+    (other_numbers replies marked.raw_calls marked.explanations) (turns_from script before replies marked)
+turns_part script before [] marked =
+    let notes = flat_map (note_items before) (drop (line_number before) script) in
+    part_as (sym (append-nil (notes ++ []) ∙ append-nil notes)) (sym (append-nil marked.raw_calls)) refl refl
+    (parts (parts (notes_are before (drop (line_number before) script)) (calls_part marked.raw_calls)) (whys_part marked.explanations))
+turns_part script before (reply ∷ replies) marked =
+    let word = (split_word reply).0 in
+    part_as refl (sym (own_whole word marked.raw_calls)) (sym (own_whole word marked.explanations)) refl
+    (parts
+    (turn_part script before reply (taken_own word marked.reasons) (taken_own word marked.raw_calls) (taken_own word marked.explanations)
+    (taken_pass word marked.raw_calls) (taken_pass word marked.explanations))
+    (turns_part script reply replies (later_marked word marked)))
 
--- the same was added for equal lists
-pub adds_as : {shown all old new : List Item} {raw why numbers raws whys others : List (List ℕ)} → all ≡ shown → raws ≡ raw → whys ≡ why
-    → others ≡ numbers → AddsSession shown raw why numbers old new → AddsSession all raws whys others old new
-adds_as is_all are_raws are_whys are_others h = rw (is_all, are_raws, are_whys, are_others) h
+-- a session is its story, with all raw calls and explanations, and the numbers of those that no reply takes
+session_part : (script replies : List (List ℕ)) (marked : Marked)
+    → IsPart (story_from script [] replies marked.reasons) marked.raw_calls marked.explanations
+    (session_numbers replies marked.raw_calls marked.explanations) (calls_items script replies marked)
+session_part script replies marked =
+    let zero = codes "0" in
+    let raw = marked.raw_calls in
+    let later = record marked { raw_calls = past_own zero raw } in
+    let others = other_numbers replies (past_own zero raw) marked.explanations in
+    let ending : IsPart [] [] [] [] (Fixed EndSession ∷ []) = record { story = refl; raw = refl; why = refl; own = λ number. tt; others = refl } in
+    part_as (sym (append-nil (story_from script [] replies marked.reasons)))
+    (sym (append-nil (taken_own zero raw ++ past_own zero raw) ∙ own_whole zero raw))
+    (sym (append-nil marked.explanations)) (ap (λ (l : List (List ℕ)). zero ∷ l) (sym (append-nil others)))
+    (parts (parts (boot_part (taken_own zero raw) (taken_pass zero raw)) (turns_part script [] replies later)) ending)
 
--- a session that was added to an empty list
-pub session_is : {script replies reasons raw why lines output log : List (List ℕ)} {old new : List Item}
-    → script ≡ lines → replies ≡ filter is_reply output → reasons ≡ filter is_reason log → raw ≡ filter is_raw_call output
-    → why ≡ filter is_explanation output → old ≡ []
-    → AddsSession (story_from script [] replies reasons) raw why (session_numbers replies raw why) old new → IsSession lines output log new
-session_is is_script are_replies are_reasons are_raw are_why is_empty h =
-    let all = h.is_added ∙ ap (λ l. l ++ h.added) is_empty in
+-- each session is one of its script, its output and its reasons
+pub sessions_shown : SessionsAreShown
+sessions_shown script output reasons =
+    let is = session_part script (filter is_reply output) (record {
+      reasons = filter is_reason reasons;
+      raw_calls = filter is_raw_call output;
+      explanations = filter is_explanation output;
+    }) in
     record {
-      story =
-          ap (of_kinds is_story_kind) all ∙ h.story ∙ (λ i. story_from (is_script i) [] (are_replies i) (are_reasons i));
-      raw_calls = ap (of_kinds is_raw_kind) all ∙ h.raw ∙ ap (map raw_item) are_raw;
-      explanations = ap (of_kinds is_why_kind) all ∙ h.why ∙ ap (map why_item) are_why;
-      own = let P : List Item → Type 0 = AreOwn [] in subst P (sym all) (h.own []);
+      story = is.story;
+      raw_calls = is.raw;
+      explanations = is.why;
+      own = is.own [];
       with_calls = λ follows.
-          ap (of_kinds is_other_kind) all ∙ h.others ∙ (λ i. map other_item (session_numbers (are_replies i) (are_raw i) (are_why i)))
-          ∙ boot_alone _ _ _ follows.raw_calls follows.explanations;
+          is.others ∙ boot_alone (filter is_reply output) (filter is_raw_call output) (filter is_explanation output)
+          follows.raw_calls follows.explanations;
     }
+
+-- ---- the turns as they are written
+
+-- what is written with one more turn, and the turns from there, are what was written and the turns from before
+pub turns_next : (script : List (List ℕ)) (before : List ℕ) (marked : Marked) (old : List Item) {reply word : List ℕ}
+    {rest later : List (List ℕ)} {own left : Marked} {new whole : List Item} → rest ≡ reply ∷ later → word ≡ (split_word reply).0
+    → own ≡ own_marked word marked → left ≡ later_marked word marked → new ≡ old ++ turn_items script before reply own
+    → old ++ turns_from script before rest marked ≡ whole → new ++ turns_from script reply later left ≡ whole
+turns_next script before marked old {reply} {later = later} is_rest is_word own_is is_left is_new h =
+    let word = (split_word reply).0 in
+    let turn : Marked → List Item = λ own. old ++ turn_items script before reply own in
+    (λ i. (is_new ∙ ap turn (own_is ∙ ap (λ w. own_marked w marked) is_word)) i
+    ++ turns_from script reply later ((is_left ∙ ap (λ w. later_marked w marked) is_word) i))
+    ∙ append_assoc old (turn_items script before reply (own_marked word marked)) (turns_from script reply later (later_marked word marked))
+    ∙ ap (λ r. old ++ turns_from script before r marked) (sym is_rest) ∙ h
+
+-- what is written when no reply is left, with the comments and the lines that no reply takes, is all
+pub turns_end : (script : List (List ℕ)) (before : List ℕ) (marked : Marked) (old : List Item) {rest notes raw why : List (List ℕ)}
+    {noted called new whole : List Item} → rest ≡ [] → notes ≡ drop (line_number before) script → raw ≡ marked.raw_calls
+    → why ≡ marked.explanations → noted ≡ old ++ flat_map (note_items before) notes → called ≡ noted ++ flat_map other_call_items raw
+    → new ≡ called ++ flat_map other_why_items why → old ++ turns_from script before rest marked ≡ whole → new ≡ whole
+turns_end script before marked old {notes = notes} {raw} {why} is_rest is_notes is_raw is_why is_noted is_called is_new h =
+    let items = flat_map (note_items before) notes in
+    let calls = flat_map other_call_items raw in
+    let whys = flat_map other_why_items why in
+    is_new ∙ ap (λ (l : List Item). l ++ whys) (is_called ∙ ap (λ (l : List Item). l ++ calls) is_noted)
+    ∙ ap (λ (l : List Item). l ++ whys) (append_assoc old items calls) ∙ append_assoc old (items ++ calls) whys
+    ∙ (λ i. old ++ (flat_map (note_items before) (is_notes i) ++ flat_map other_call_items (is_raw i) ++ flat_map other_why_items (is_why i)))
+    ∙ ap (λ r. old ++ turns_from script before r marked) (sym is_rest) ∙ h

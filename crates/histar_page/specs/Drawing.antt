@@ -9,7 +9,9 @@ use Rattle.histar_page.specs.declared.kind.Kind.{Kind}
 use Rattle.histar_page.specs.declared.kind.Kind.TheVariants.{DrawnHeight, ProcessBand, FileBand, ReadEdge, WriteEdge, BothEdge, EdgeEnd, EdgeProcess}
 use Rattle.histar_page.specs.declared.kind.Kind.TheVariants.{EdgeFile, ProcessNode, FileNode, NodeName}
 use Rattle.histar_page.specs.declared.places.TheConstants.{MOST_DRAWN_FILES, MOST_DRAWN_PROCESSES}
+use Rattle.histar_page.specs.declared.markup.Markup.TheVariants.{Arrows, BeginDrawing, BeginLabels, End, EndDrawing, NotDrawn}
 use Rattle.histar_page.specs.Items.{Item}
+use Rattle.histar_page.specs.Items.Item.{Fixed, Shown}
 use Rattle.histar_page.specs.Lines.{after_word, call_on, is_reply, words_of}
 use Rattle.histar_page.specs.Places.{drawn_height, file_top, half_height, process_top}
 
@@ -62,8 +64,8 @@ edge_kind false false = None
 abbrev pub edge : Option Kind → List ℕ → ℕ → ℕ → List ℕ → List Item
 edge None path j i cell = []
 edge (Some kind) path j i cell =
-    (kind, decimal (process_top i + half_height)) ∷ (EdgeEnd, decimal (file_top j + half_height))
-    ∷ (EdgeProcess, process_of cell) ∷ (EdgeFile, path) ∷ []
+    Shown kind (decimal (process_top i + half_height)) ∷ Shown EdgeEnd (decimal (file_top j + half_height))
+    ∷ Shown EdgeProcess (process_of cell) ∷ Shown EdgeFile path ∷ []
 
 -- the edge of a cell: its process may read if the cell has `r`, and write if it has `w`
 abbrev pub cell_edge : List ℕ → ℕ → ℕ → List ℕ → List Item
@@ -84,12 +86,12 @@ table_edges j (line ∷ lines) = row_edges (line_path line) j 0 (line_cells line
 -- the nodes of processes, the first of which is the i-th
 abbrev pub process_nodes : ℕ → List (List ℕ) → List Item
 process_nodes i [] = []
-process_nodes i (cell ∷ cells) = (ProcessNode, decimal (process_top i)) ∷ (NodeName, process_of cell) ∷ process_nodes (i + 1) cells
+process_nodes i (cell ∷ cells) = Shown ProcessNode (decimal (process_top i)) ∷ Shown NodeName (process_of cell) ∷ process_nodes (i + 1) cells
 
 -- the nodes of files, the first of which is the j-th
 abbrev pub file_nodes : ℕ → List (List ℕ) → List Item
 file_nodes j [] = []
-file_nodes j (line ∷ lines) = (FileNode, decimal (file_top j)) ∷ (NodeName, line_path line) ∷ file_nodes (j + 1) lines
+file_nodes j (line ∷ lines) = Shown FileNode (decimal (file_top j)) ∷ Shown NodeName (line_path line) ∷ file_nodes (j + 1) lines
 
 -- ---- jobs
 
@@ -121,7 +123,7 @@ jobs_of script output = flat_map (job_on script) (filter is_reply output)
 abbrev pub process_bands : List ℕ → ℕ → List (List ℕ) → List Item
 process_bands job i [] = []
 process_bands job i (cell ∷ cells) =
-    (let band : List Item = if is_within job (process_of cell) then (ProcessBand, decimal (process_top i)) ∷ [] else [] in band)
+    (let band : List Item = if is_within job (process_of cell) then Shown ProcessBand (decimal (process_top i)) ∷ [] else [] in band)
     ++ process_bands job (i + 1) cells
 
 -- a cell is of a process of the job that may write
@@ -132,7 +134,7 @@ changes_by job cell = is_within job (process_of cell) && has_letter 119 cell
 abbrev pub file_bands : List ℕ → ℕ → List (List ℕ) → List Item
 file_bands job j [] = []
 file_bands job j (line ∷ lines) =
-    (let band : List Item = if list_any (changes_by job) (line_cells line) then (FileBand, decimal (file_top j)) ∷ [] else [] in band)
+    (let band : List Item = if list_any (changes_by job) (line_cells line) then Shown FileBand (decimal (file_top j)) ∷ [] else [] in band)
     ++ file_bands job (j + 1) lines
 
 -- the bands of a job, around processes that have these cells, and around the files of these lines
@@ -141,16 +143,20 @@ bands_of cells lines job = process_bands job 0 cells ++ file_bands job 0 lines
 
 -- ---- the drawing
 
--- an edge for each cell with `r` or `w`; and each process and each path
+-- an edge for each cell with `r` or `w`; each process and each path; and the end of the page
 abbrev pub graph_items : List (List ℕ) → List (List ℕ) → List Item
-graph_items cells lines = table_edges 0 lines ++ process_nodes 0 cells ++ file_nodes 0 lines
+graph_items cells lines = table_edges 0 lines ++ process_nodes 0 cells ++ file_nodes 0 lines ++ Fixed EndDrawing ∷ Fixed End ∷ []
 
--- its height; the bands of each job; an edge for each cell with `r` or `w`; and each process and each path
+-- a drawing: its height, the arrows, the bands of each job, and the graph
 abbrev pub drawn_items : List (List ℕ) → List (List ℕ) → List Item
 drawn_items jobs lines =
-    (DrawnHeight, decimal (drawn_height (length (first_cells lines)) (length lines))) ∷ []
-    ++ flat_map (bands_of (first_cells lines) lines) jobs ++ table_edges 0 lines ++ process_nodes 0 (first_cells lines) ++ file_nodes 0 lines
+    Fixed BeginLabels ∷ Fixed BeginDrawing ∷ Shown DrawnHeight (decimal (drawn_height (length (first_cells lines)) (length lines)))
+    ∷ Fixed Arrows ∷ flat_map (bands_of (first_cells lines) lines) jobs ++ graph_items (first_cells lines) lines
 
--- the drawing of a session with this script, this output and this table; one that is too large is not drawn
+-- the sentence in place of a drawing, and the end of the page
+abbrev pub undrawn_items : List Item
+undrawn_items = Fixed BeginLabels ∷ Fixed NotDrawn ∷ Fixed End ∷ []
+
+-- the part of a page that shows the drawing of a session with this script, this output and this table; one that is too large is not drawn
 abbrev pub drawing_items : List (List ℕ) → List (List ℕ) → List (List ℕ) → List Item
-drawing_items script output lines = if is_drawn lines then drawn_items (jobs_of script output) lines else []
+drawing_items script output lines = if is_drawn lines then drawn_items (jobs_of script output) lines else undrawn_items

@@ -3,7 +3,9 @@ use Rattle.std.specs.Prelude.{ℕ, Bool, List, [], ◌∷◌, ◌++◌, ◌&&◌
 use Rattle.std.specs.Str.{bytes_eq}
 use Rattle.histar_script.specs.Lines.{split_word}
 use Rattle.histar_page.specs.declared.kind.Kind.TheVariants.{Title, MainTitle, FileName, Calls, Refusals, Denials, Version}
+use Rattle.histar_page.specs.declared.markup.Markup.TheVariants.{Begin, Style, EndHead}
 use Rattle.histar_page.specs.Items.{Item}
+use Rattle.histar_page.specs.Items.Item.{Fixed, Shown}
 use Rattle.histar_page.specs.Lines.{after_word, is_denied, is_raw_call, is_refused, is_reply}
 
 -- a line of a script is a comment that is a heading
@@ -19,12 +21,13 @@ title_of name (line ∷ lines) = if is_heading line then after_word (after_word 
 abbrev pub count_items : List (List ℕ) → List Item
 count_items output =
     let replies = filter is_reply output in
-    (Calls, decimal (length replies))
-    ∷ (Refusals, decimal (length (filter is_refused replies)))
-    ∷ (Denials, decimal (length (filter is_denied (filter is_raw_call output))))
+    Shown Calls (decimal (length replies))
+    ∷ Shown Refusals (decimal (length (filter is_refused replies)))
+    ∷ Shown Denials (decimal (length (filter is_denied (filter is_raw_call output))))
     ∷ []
 
--- the title, twice; the name; what was counted; and the version
+-- the head of a page: the title, the style, the title once more, the name, what was counted, and the version
 abbrev pub head_items : List ℕ → List ℕ → List ℕ → List (List ℕ) → List Item
 head_items title name version output =
-    (Title, title) ∷ (MainTitle, title) ∷ (FileName, name) ∷ count_items output ++ (Version, version) ∷ []
+    Fixed Begin ∷ Shown Title title ∷ Fixed Style ∷ Shown MainTitle title ∷ Shown FileName name ∷ count_items output
+    ++ Shown Version version ∷ Fixed EndHead ∷ []

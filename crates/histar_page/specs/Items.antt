@@ -1,21 +1,22 @@
--- What a page shows, without its markup.
-use Rattle.std.specs.Prelude.{ℕ, List, [], ◌∷◌, decimal}
-use Rattle.std.specs.List.{flat_map}
+-- What stands on a page, one item after another.
+use Rattle.std.specs.Prelude.{ℕ, List, [], ◌∷◌, decimal, map}
 use Rattle.histar_page.specs.declared.kind.Kind.{Kind}
+use Rattle.histar_page.specs.declared.markup.Markup.{Markup}
 use Rattle.histar_page.specs.declared.piece.Piece.{Piece}
-use Rattle.histar_page.specs.declared.piece.Piece.TheVariants.{Fixed, Shown, Counted, Letter}
+use Rattle.histar_page.specs.declared.piece.Piece.TheVariants as pieces
 
--- a text with its kind
-abbrev pub Item : Type 0
-Item = Kind × List ℕ
+-- an item of a page: a fixed text, or a text of a kind
+pub data Item : Type 0 where
+  Fixed : Markup → Item
+  Shown : Kind → List ℕ → Item
 
--- what a piece shows, if it is no markup
-abbrev pub item_of : Piece → List Item
-item_of (Fixed markup) = []
-item_of (Shown kind text) = (kind, text.now) ∷ []
-item_of (Counted kind number) = (kind, decimal number) ∷ []
-item_of (Letter kind letter) = (kind, letter ∷ []) ∷ []
+-- the item that a piece is
+abbrev pub item_of : Piece → Item
+item_of (pieces.Fixed markup) = Fixed markup
+item_of (pieces.Shown kind text) = Shown kind text.now
+item_of (pieces.Counted kind number) = Shown kind (decimal number)
+item_of (pieces.Letter kind letter) = Shown kind (letter ∷ [])
 
--- what pieces show
+-- the items that pieces are
 abbrev pub items_of : List Piece → List Item
-items_of pieces = flat_map item_of pieces
+items_of pieces = map item_of pieces

@@ -1,19 +1,22 @@
 -- The definitions of this crate that contracts cite.
 pub mod Texts
-pub mod Rendering
 pub mod Items
+pub mod Rendering
 pub mod Lines
 pub mod LineKinds
 pub mod Order
+pub mod MarkedLines
 pub mod Head
 pub mod Who
 pub mod Story
 pub mod Session
 pub mod Files
-pub mod Secrets
 pub mod Titles
+pub mod Secrets
 pub mod Flows
 pub mod Views
 pub mod Places
 pub mod Drawing
 pub mod Page
+pub mod Nesting
+pub mod Laws

@@ -2,7 +2,7 @@
 use Rattle.std.specs.Prelude.{◌≡◌, ℕ, true, List, [], ◌∷◌, ◌++◌, codes, filter, map, if◌then◌else◌}
 use Rattle.std.specs.List.{list_all}
 use Rattle.histar_script.specs.Lines.{split_word}
-use Rattle.histar_page.specs.Lines.{is_explanation, is_own, is_raw_call, is_reply, mark_number}
+use Rattle.histar_page.specs.Lines.{is_explanation, is_own, is_raw_call, is_reply}
 
 -- the numbers that replies begin with
 abbrev pub reply_numbers : List (List ℕ) → List (List ℕ)
@@ -19,7 +19,13 @@ pub record FollowsReplies (output : List (List ℕ)) : Type 0 where
   pub raw_calls : Follow (codes "0" ∷ reply_numbers (filter is_reply output)) (filter is_raw_call output)
   pub explanations : Follow (reply_numbers (filter is_reply output)) (filter is_explanation output)
 
--- ---- what is left
+-- ---- the lines that belong to one reply
+
+-- the lines that begin with a mark: reasons of refusals, raw calls and explanations
+pub record Marked : Type 0 where
+  pub reasons : List (List ℕ)
+  pub raw_calls : List (List ℕ)
+  pub explanations : List (List ℕ)
 
 -- the lines at the front that have this number
 abbrev pub taken_own : List ℕ → List (List ℕ) → List (List ℕ)
@@ -31,16 +37,18 @@ abbrev pub past_own : List ℕ → List (List ℕ) → List (List ℕ)
 past_own number [] = []
 past_own number (line ∷ lines) = if is_own number line then past_own number lines else line ∷ lines
 
--- the lines that are left after each number in turn has taken its own from the front
-abbrev pub left_over : List (List ℕ) → List (List ℕ) → List (List ℕ)
-left_over [] lines = lines
-left_over (number ∷ numbers) lines = left_over numbers (past_own number lines)
+-- those of each kind at the front that have this number
+abbrev pub own_marked : List ℕ → Marked → Marked
+own_marked number marked = record {
+  reasons = taken_own number marked.reasons;
+  raw_calls = taken_own number marked.raw_calls;
+  explanations = taken_own number marked.explanations;
+}
 
--- the numbers of the raw calls and explanations that no reply takes
-abbrev pub other_numbers : List (List ℕ) → List (List ℕ) → List (List ℕ) → List (List ℕ)
-other_numbers replies raw_calls explanations =
-    map mark_number (left_over (reply_numbers replies) raw_calls) ++ map mark_number (left_over (reply_numbers replies) explanations)
-
--- 0 for boot, and then those of the raw calls and explanations that neither boot nor a reply takes
-abbrev pub session_numbers : List (List ℕ) → List (List ℕ) → List (List ℕ) → List (List ℕ)
-session_numbers replies raw_calls explanations = codes "0" ∷ other_numbers replies (past_own (codes "0") raw_calls) explanations
+-- those of each kind without the ones at the front that have this number
+abbrev pub later_marked : List ℕ → Marked → Marked
+later_marked number marked = record {
+  reasons = past_own number marked.reasons;
+  raw_calls = past_own number marked.raw_calls;
+  explanations = past_own number marked.explanations;
+}

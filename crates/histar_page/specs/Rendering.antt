@@ -1,5 +1,5 @@
--- The HTML of the pieces of a page.
-use Rattle.std.specs.Prelude.{ℕ, List, [], ◌∷◌, ◌++◌, codes, decimal}
+-- The HTML of the items of a page.
+use Rattle.std.specs.Prelude.{ℕ, List, ◌++◌, codes}
 use Rattle.std.specs.List.{flat_map}
 use Rattle.histar_html.specs.Escape.{escaped}
 use Rattle.histar_page.specs.declared.markup.TheConstants.{STYLE}
@@ -19,8 +19,8 @@ use Rattle.histar_page.specs.declared.markup.Markup.TheVariants.{BeginBehind, En
 use Rattle.histar_page.specs.declared.markup.Markup.TheVariants.{EndColumns, BeginRow, EndCell, EndRow, EndFiles, BeginSecrets, NoSecrets, OnSecrets}
 use Rattle.histar_page.specs.declared.markup.Markup.TheVariants.{BeginSecret, EndSecret, EndSecrets, BeginLabels, NotDrawn, BeginDrawing, Arrows}
 use Rattle.histar_page.specs.declared.markup.Markup.TheVariants.{OnTitles, NoTitles, BeginFlows, OnFlows, EndFlows, EndDrawing, End}
-use Rattle.histar_page.specs.declared.piece.Piece.{Piece}
-use Rattle.histar_page.specs.declared.piece.Piece.TheVariants.{Fixed, Shown, Counted, Letter}
+use Rattle.histar_page.specs.Items.{Item}
+use Rattle.histar_page.specs.Items.Item.{Fixed, Shown}
 
 -- the markup before a text of a kind
 abbrev pub opening : Kind → List ℕ
@@ -183,13 +183,11 @@ markup_text End = codes "</main>\n</body>\n</html>\n"
 abbrev pub shown_text : Kind → List ℕ → List ℕ
 shown_text kind text = opening kind ++ escaped text ++ closing kind
 
--- the HTML of a piece
-abbrev pub piece_text : Piece → List ℕ
-piece_text (Fixed markup) = markup_text markup
-piece_text (Shown kind text) = shown_text kind text.now
-piece_text (Counted kind number) = shown_text kind (decimal number)
-piece_text (Letter kind letter) = shown_text kind (letter ∷ [])
+-- the HTML of an item
+abbrev pub item_text : Item → List ℕ
+item_text (Fixed markup) = markup_text markup
+item_text (Shown kind text) = shown_text kind text
 
--- the HTML of pieces
-abbrev pub rendered : List Piece → List ℕ
-rendered pieces = flat_map piece_text pieces
+-- the HTML of items
+abbrev pub rendered : List Item → List ℕ
+rendered items = flat_map item_text items

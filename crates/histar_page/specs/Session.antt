@@ -1,13 +1,17 @@
--- The session on a page: its story, and after each call its raw calls and why some were denied.
-use Rattle.std.specs.Prelude.{◌≡◌, ℕ, ◌&&◌, ◌||◌, not, Bool, true, false, List, [], ◌∷◌, ◌++◌, codes, filter, is_some, map, Option}
-use Rattle.std.specs.Prelude.{if◌then◌else◌}
+-- The session on a page: its calls between the comments of its script, and behind each call its raw calls and why some were denied.
+use Rattle.std.specs.Prelude.{ℕ, ◌&&◌, not, Bool, List, [], ◌∷◌, ◌++◌, codes, drop, filter, is_some, map, Option, if◌then◌else◌}
+use Rattle.std.specs.List.{flat_map}
 use Rattle.histar_flat.specs.Words.{split_at_first}
+use Rattle.histar_script.specs.Lines.{split_word}
 use Rattle.histar_page.specs.declared.kind.Kind.{Kind}
-use Rattle.histar_page.specs.declared.kind.Kind.TheVariants.{LineNumber, OtherLine, RawCall, DeniedCall, HiddenBytes, Explanation}
+use Rattle.histar_page.specs.declared.kind.Kind.TheVariants.{OtherLine, RawCall, DeniedCall, HiddenBytes, Explanation}
+use Rattle.histar_page.specs.declared.markup.Markup.TheVariants.{BeginBare, BeginBehind, BeginBoot, BeginCall, BeginOther, BeginSession, EndBare}
+use Rattle.histar_page.specs.declared.markup.Markup.TheVariants.{EndCall, EndSession}
 use Rattle.histar_page.specs.Items.{Item}
+use Rattle.histar_page.specs.Items.Item.{Fixed, Shown}
 use Rattle.histar_page.specs.Lines.{is_denied, is_explanation, is_own, is_raw_call, is_reason, is_reply, mark_number}
-use Rattle.histar_page.specs.Order.{FollowsReplies}
-use Rattle.histar_page.specs.Story.{is_story_kind, story_from}
+use Rattle.histar_page.specs.Order.{Marked, own_marked, later_marked, past_own, taken_own}
+use Rattle.histar_page.specs.Story.{line_number, lines_between, note_items, call_items}
 
 -- ---- the items of one line
 
@@ -26,86 +30,65 @@ hides_bytes line =
 
 -- a raw call; of one of boot what is before its bytes
 abbrev pub raw_item : List ℕ → Item
-raw_item line = if hides_bytes line then (HiddenBytes, (at_bytes line).0) else (raw_kind line, line)
+raw_item line = if hides_bytes line then Shown HiddenBytes (at_bytes line).0 else Shown (raw_kind line) line
 
 -- an explanation
 abbrev pub why_item : List ℕ → Item
-why_item line = (Explanation, line)
+why_item line = Shown Explanation line
 
--- ---- the items of an output
+-- ---- a call
 
--- the kind is that of a raw call
-abbrev pub is_raw_kind : Kind → Bool
-is_raw_kind RawCall = true
-is_raw_kind DeniedCall = true
-is_raw_kind HiddenBytes = true
-is_raw_kind kind = false
-
--- the kind is that of an explanation
-abbrev pub is_why_kind : Kind → Bool
-is_why_kind Explanation = true
-is_why_kind kind = false
-
--- the kind is that of the number of a line
-abbrev pub is_number_kind : Kind → Bool
-is_number_kind LineNumber = true
-is_number_kind OtherLine = true
-is_number_kind kind = false
-
--- the kind is that of a number that is shown without a call
-abbrev pub is_other_kind : Kind → Bool
-is_other_kind OtherLine = true
-is_other_kind kind = false
-
--- a number that is shown without a call
-abbrev pub other_item : List ℕ → Item
-other_item number = (OtherLine, number)
-
--- the items of these kinds
-abbrev pub of_kinds : (Kind → Bool) → List Item → List Item
-of_kinds test items = filter (λ item. test item.0) items
-
--- Each raw call and each explanation is after the number of its line, with no other number between.
-abbrev pub AreOwn : List ℕ → List Item → Type 0
-AreOwn number [] = Unit {0}
-AreOwn number (item ∷ items) =
-    ((is_raw_kind item.0 || is_why_kind item.0) ≡ true → mark_number item.1 ≡ number)
-    × AreOwn (if is_number_kind item.0 then item.1 else number) items
-
--- The story is the one of the script, the output and the reasons. The raw calls and explanations are those of the output: each line is shown once, in its
--- order, and after the number of its line. If they are in the order of the replies, that number is the one of its call, since only the 0 of boot
--- is then shown without a call.
-pub record IsSession (script output reasons : List (List ℕ)) (items : List Item) : Type 0 where
-  pub story : of_kinds is_story_kind items ≡ story_from script [] (filter is_reply output) (filter is_reason reasons)
-  pub raw_calls : of_kinds is_raw_kind items ≡ map raw_item (filter is_raw_call output)
-  pub explanations : of_kinds is_why_kind items ≡ map why_item (filter is_explanation output)
-  pub own : AreOwn [] items
-  pub with_calls : FollowsReplies output → of_kinds is_other_kind items ≡ other_item (codes "0") ∷ []
-
--- ---- the parts
-
--- these raw calls and explanations
+-- these raw calls and explanations, which a reader has to open
 abbrev pub kernel_items : List (List ℕ) → List (List ℕ) → List Item
-kernel_items raw_calls explanations = map raw_item raw_calls ++ map why_item explanations
+kernel_items raw_calls explanations = Fixed BeginBehind ∷ map raw_item raw_calls ++ map why_item explanations ++ Fixed EndCall ∷ []
 
--- the raw calls of boot, after the number 0
+-- these items of a call with the raw calls and explanations behind it; one without any has no frame
+abbrev pub framed_items : List Item → List (List ℕ) → List (List ℕ) → List Item
+framed_items call [] [] = Fixed BeginBare ∷ call ++ Fixed EndBare ∷ []
+framed_items call raw_calls explanations = Fixed BeginCall ∷ call ++ kernel_items raw_calls explanations
+
+-- the comments after the reply before this one; then the call with its reply, and the lines that belong to it
+abbrev pub turn_items : List (List ℕ) → List ℕ → List ℕ → Marked → List Item
+turn_items script before reply own =
+    flat_map (note_items before) (lines_between script before reply)
+    ++ framed_items (call_items script reply own.reasons) own.raw_calls own.explanations
+
+-- ---- the session
+
+-- the heading of a session, and the raw calls of boot, after the number 0
 abbrev pub boot_items : List (List ℕ) → List Item
-boot_items raw_calls = (OtherLine, codes "0") ∷ map raw_item raw_calls
+boot_items raw_calls =
+    Fixed BeginSession ∷ Fixed BeginBoot ∷ Shown OtherLine (codes "0") ∷ Fixed BeginBehind ∷ map raw_item raw_calls ++ Fixed EndCall ∷ []
 
--- a raw call after its own number
+-- a raw call that belongs to no reply, after its own number
 abbrev pub other_call_items : List ℕ → List Item
-other_call_items line = (OtherLine, mark_number line) ∷ raw_item line ∷ []
+other_call_items line = Fixed BeginOther ∷ Shown OtherLine (mark_number line) ∷ Fixed BeginBehind ∷ raw_item line ∷ Fixed EndCall ∷ []
 
--- an explanation after its own number
+-- an explanation that belongs to no reply, after its own number
 abbrev pub other_why_items : List ℕ → List Item
-other_why_items line = (OtherLine, mark_number line) ∷ why_item line ∷ []
+other_why_items line = Fixed BeginOther ∷ Shown OtherLine (mark_number line) ∷ Fixed BeginBehind ∷ why_item line ∷ Fixed EndCall ∷ []
 
--- Items were added that are this story with these raw calls and explanations, where these numbers are shown without a call.
-pub record AddsSession (shown : List Item) (raw_calls explanations numbers : List (List ℕ)) (old new : List Item) : Type 0 where
-  pub added : List Item
-  pub is_added : new ≡ old ++ added
-  pub story : of_kinds is_story_kind added ≡ shown
-  pub raw : of_kinds is_raw_kind added ≡ map raw_item raw_calls
-  pub why : of_kinds is_why_kind added ≡ map why_item explanations
-  pub own : (number : List ℕ) → AreOwn number added
-  pub others : of_kinds is_other_kind added ≡ map other_item numbers
+-- The session from a reply on: the turn of each reply with the lines that belong to it, in their order; and at the end the comments after the
+-- last call, and the raw calls and explanations that belong to no reply.
+abbrev pub turns_from : List (List ℕ) → List ℕ → List (List ℕ) → Marked → List Item
+turns_from script before [] marked =
+    flat_map (note_items before) (drop (line_number before) script)
+    ++ flat_map other_call_items marked.raw_calls ++ flat_map other_why_items marked.explanations
+turns_from script before (reply ∷ replies) marked =
+    turn_items script before reply (own_marked (split_word reply).0 marked)
+    ++ turns_from script reply replies (later_marked (split_word reply).0 marked)
+
+-- the session of these replies: the raw calls of boot, and then the calls
+abbrev pub calls_items : List (List ℕ) → List (List ℕ) → Marked → List Item
+calls_items script replies marked =
+    boot_items (taken_own (codes "0") marked.raw_calls)
+    ++ turns_from script [] replies (record marked { raw_calls = past_own (codes "0") marked.raw_calls }) ++ Fixed EndSession ∷ []
+
+-- the part of a page that shows a session, by the lines of its script, of its output and of its reasons
+abbrev pub session_items : List (List ℕ) → List (List ℕ) → List (List ℕ) → List Item
+session_items script output reasons =
+    calls_items script (filter is_reply output) (record {
+      reasons = filter is_reason reasons;
+      raw_calls = filter is_raw_call output;
+      explanations = filter is_explanation output;
+    })

@@ -7,6 +7,7 @@ use Rattle.histar_page.specs.declared.kind.Kind.{Kind}
 use Rattle.histar_page.specs.declared.kind.Kind.TheVariants.{LineNumber, Call, LoginBy, LoginAs, Reply, Refusal, Reason, Prose, Heading}
 use Rattle.histar_page.specs.declared.kind.Kind.TheVariants.{Mark, ClaimMet, ClaimMissed}
 use Rattle.histar_page.specs.Items.{Item}
+use Rattle.histar_page.specs.Items.Item.{Shown}
 use Rattle.histar_page.specs.Lines.{after_word, call_on, front_number, has_mark, is_refused}
 use Rattle.histar_page.specs.Order.{past_own, taken_own}
 
@@ -19,8 +20,8 @@ is_login call = bytes_eq (split_word (after_word call)).0 (codes "login")
 -- the text of a call; of a login only its process and its user, for the password is hidden
 abbrev pub shown_call : List ℕ → List Item
 shown_call call =
-    if is_login call then (LoginBy, (split_word call).0) ∷ (LoginAs, (split_word (after_word (after_word call))).0) ∷ []
-    else (Call, call) ∷ []
+    if is_login call then Shown LoginBy (split_word call).0 ∷ Shown LoginAs (split_word (after_word (after_word call))).0 ∷ []
+    else Shown Call call ∷ []
 
 -- a refusal is marked
 abbrev pub reply_kind : List ℕ → Kind
@@ -28,11 +29,12 @@ reply_kind line = if is_refused line then Refusal else Reply
 
 -- the items of a reply: the number of its line, the call on that line, and the reply
 abbrev pub answer_items : List (List ℕ) → List ℕ → List Item
-answer_items script line = (LineNumber, (split_word line).0) ∷ shown_call (call_on script line) ++ (reply_kind line, after_word line) ∷ []
+answer_items script line =
+    Shown LineNumber (split_word line).0 ∷ shown_call (call_on script line) ++ Shown (reply_kind line) (after_word line) ∷ []
 
 -- why a call was refused: the line after its mark and its number
 abbrev pub reason_item : List ℕ → Item
-reason_item line = (Reason, after_word line)
+reason_item line = Shown Reason (after_word line)
 
 -- ---- a comment
 
@@ -44,14 +46,14 @@ claim_kind reply expected = if bytes_eq expected (after_word reply) then ClaimMe
 abbrev pub prose_items : List ℕ → List Item
 prose_items [] = []
 prose_items (b ∷ bs) =
-    if bytes_eq (split_word (b ∷ bs)).0 (codes "#") then (Heading, after_word (b ∷ bs)) ∷ [] else (Prose, b ∷ bs) ∷ []
+    if bytes_eq (split_word (b ∷ bs)).0 (codes "#") then Shown Heading (after_word (b ∷ bs)) ∷ [] else Shown Prose (b ∷ bs) ∷ []
 
 -- a line of the script after this reply that is no call: a comment is shown, an expected reply is compared, and else nothing is shown
 abbrev pub note_items : List ℕ → List ℕ → List Item
 note_items reply line =
-    if bytes_eq (split_word line).0 (codes "#=") then (claim_kind reply (after_word line), after_word line) ∷ []
+    if bytes_eq (split_word line).0 (codes "#=") then Shown (claim_kind reply (after_word line)) (after_word line) ∷ []
     else if bytes_eq (split_word line).0 (codes "#") then prose_items (after_word line)
-    else if has_mark 35 line then (Mark, line) ∷ []
+    else if has_mark 35 line then Shown Mark line ∷ []
     else []
 
 -- ---- the story
@@ -69,15 +71,15 @@ abbrev pub call_items : List (List ℕ) → List ℕ → List (List ℕ) → Lis
 call_items script reply reasons = answer_items script reply ++ map reason_item reasons
 
 -- the comments after the reply before this one; then the call, its reply, and these reasons
-abbrev pub turn_items : List (List ℕ) → List ℕ → List ℕ → List (List ℕ) → List Item
-turn_items script before reply reasons =
+abbrev pub story_items : List (List ℕ) → List ℕ → List ℕ → List (List ℕ) → List Item
+story_items script before reply reasons =
     flat_map (note_items before) (lines_between script before reply) ++ call_items script reply reasons
 
 -- The story from a reply on: the comments up to the next call, that call, and so on; and at the end the comments after the last call.
 abbrev pub story_from : List (List ℕ) → List ℕ → List (List ℕ) → List (List ℕ) → List Item
 story_from script before [] reasons = flat_map (note_items before) (drop (line_number before) script)
 story_from script before (reply ∷ replies) reasons =
-    turn_items script before reply (taken_own (split_word reply).0 reasons)
+    story_items script before reply (taken_own (split_word reply).0 reasons)
     ++ story_from script reply replies (past_own (split_word reply).0 reasons)
 
 -- the kind is one of the story

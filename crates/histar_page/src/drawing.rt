@@ -4,8 +4,10 @@ ghost use Rattle.std.specs.List.{list_all};
 ghost use Rattle.histar_script.specs.Lines.{lines_of};
 ghost use Rattle.histar_page.specs.Texts.{texts};
 ghost use Rattle.histar_page.specs.Items.{items_of};
+ghost use Rattle.histar_page.specs.Items.Item.{Fixed, Shown};
+ghost use Rattle.histar_page.specs.declared.markup.Markup.TheVariants.{Arrows, BeginDrawing, BeginLabels};
 ghost use Rattle.histar_page.specs.Drawing.{drawing_items, drawn_items, file_nodes, first_cells, is_drawn, is_narrow};
-ghost use Rattle.histar_page.specs.Drawing.{graph_items, process_nodes, row_cells};
+ghost use Rattle.histar_page.specs.Drawing.{graph_items, process_nodes, row_cells, undrawn_items};
 ghost use Rattle.histar_page.specs.Files.{runners_of};
 ghost use Rattle.histar_page.specs.Lines.{without_first};
 ghost use Rattle.histar_page.specs.declared.kind.Kind.TheVariants.{DrawnHeight, NodeName};
@@ -44,7 +46,7 @@ pub(crate) fn drawing_pieces<'a>(
 
 /// Returns the pieces of a session that is too large to be drawn.
 fn undrawn_pieces<'a>(alloc: Global) -> Result<Vec<Piece<'a>>, AllocError>
-    ensures { IfOk result (λ pieces. items_of pieces.items ≡ []) }
+    ensures { IfOk result (λ pieces. items_of pieces.items ≡ undrawn_items) }
 {
     let mut pieces = begun(alloc, Markup::BeginLabels, Markup::NotDrawn)?;
     fix(&mut pieces, Markup::End)?;
@@ -104,8 +106,8 @@ fn drawn_pieces<'a>(
 
 /// Returns the pieces before what a drawing of this height shows.
 fn begun_drawing<'a>(alloc: Global, height: u64) -> Result<Vec<Piece<'a>>, AllocError>
-    ensures { IfOk result (λ pieces.
-        items_of pieces.items ≡ (DrawnHeight, decimal height) ∷ []) }
+    ensures { IfOk result (λ pieces. items_of pieces.items ≡ Fixed BeginLabels
+        ∷ Fixed BeginDrawing ∷ Shown DrawnHeight (decimal height) ∷ Fixed Arrows ∷ []) }
 {
     Vec::from_slice(
         alloc,
@@ -198,7 +200,7 @@ fn push_node<'a>(
     name: &'a [u8],
 ) -> Result<(), AllocError>
     ensures { OnOk result (items_of pieces.new.items
-        ≡ items_of pieces.old.items ++ (kind, decimal top) ∷ (NodeName, name.now) ∷ []) }
+        ≡ items_of pieces.old.items ++ Shown kind (decimal top) ∷ Shown NodeName name.now ∷ []) }
 {
     add(
         pieces,

@@ -1,9 +1,11 @@
 //! The files on a page, with the rights of processes.
-ghost use Rattle.std.specs.Prelude.{◌≡◌, ◌++◌, IfOk, OnOk, map};
+ghost use Rattle.std.specs.Prelude.{◌≡◌, ◌++◌, ◌∷◌, [], IfOk, OnOk, map};
 ghost use Rattle.std.specs.List.{flat_map};
 ghost use Rattle.histar_script.specs.Lines.{lines_of};
 ghost use Rattle.histar_page.specs.Texts.{texts};
 ghost use Rattle.histar_page.specs.Items.{items_of};
+ghost use Rattle.histar_page.specs.Items.Item.{Fixed};
+ghost use Rattle.histar_page.specs.declared.markup.Markup.TheVariants.{BeginFiles, EndCell, EndFiles, EndUsers};
 ghost use Rattle.histar_page.specs.Files.{cell_items, cells_items, column_items, column_kind, files_items, first_flag};
 ghost use Rattle.histar_page.specs.Files.{is_job_cell, job_columns, later_flags, line_items, process_kind, right_item, right_kind};
 ghost use Rattle.histar_page.specs.Files.{row_items, runners_of, table_items, user_item};
@@ -46,8 +48,8 @@ pub(crate) fn files_pieces<'a>(
 
 /// Returns the pieces of the users above the columns, as the first line of the secrets has them.
 fn user_pieces<'a>(alloc: Global, secrets: &'a [u8]) -> Result<Vec<Piece<'a>>, AllocError>
-    ensures { IfOk result (λ pieces.
-        items_of pieces.items ≡ map user_item (runners_of (lines_of secrets.entry.now))) }
+    ensures { IfOk result (λ pieces. items_of pieces.items ≡ Fixed BeginFiles
+        ∷ map user_item (runners_of (lines_of secrets.entry.now)) ++ Fixed EndUsers ∷ []) }
 {
     let lines = lines_in(alloc, secrets)?;
     let words = first_words(alloc, lines.as_slice())?;
@@ -150,8 +152,8 @@ fn push_rows<'a>(
     flags: &[bool],
     lines: &[&'a [u8]],
 ) -> Result<(), AllocError>
-    ensures { OnOk result (items_of pieces.new.items
-        ≡ items_of pieces.old.items ++ flat_map (line_items flags.now) (texts lines.now)) }
+    ensures { OnOk result (items_of pieces.new.items ≡ items_of pieces.old.items
+        ++ flat_map (line_items flags.now) (texts lines.now) ++ Fixed EndFiles ∷ []) }
 {
     let mut rest = lines;
     'lines: while let [line, more @ ..] = rest {
@@ -247,7 +249,7 @@ fn process_kind(in_job: bool) -> Kind
 /// Adds the letters of rights, and the end of their cell.
 fn push_rights(pieces: &mut Vec<Piece>, rights: &[u8]) -> Result<(), AllocError>
     ensures { OnOk result (items_of pieces.new.items
-        ≡ items_of pieces.old.items ++ map right_item rights.now) }
+        ≡ items_of pieces.old.items ++ map right_item rights.now ++ Fixed EndCell ∷ []) }
 {
     let mut rest = rights;
     'rights: while let [letter, more @ ..] = rest {

@@ -1,9 +1,11 @@
 //! The flows on a page: to whom each process can pass on what it learns.
-ghost use Rattle.std.specs.Prelude.{◌≡◌, ◌++◌, IfOk, OnOk};
+ghost use Rattle.std.specs.Prelude.{◌≡◌, ◌++◌, ◌∷◌, [], map, IfOk, OnOk};
 ghost use Rattle.histar_script.specs.Lines.{lines_of};
 ghost use Rattle.histar_page.specs.Texts.{texts};
 ghost use Rattle.histar_page.specs.Items.{items_of};
-ghost use Rattle.histar_page.specs.Flows.{flows_items};
+ghost use Rattle.histar_page.specs.Items.Item.{Fixed};
+ghost use Rattle.histar_page.specs.declared.markup.Markup.TheVariants.{EndFlows};
+ghost use Rattle.histar_page.specs.Flows.{flow_item, flows_items};
 
 use crate::kind::Kind;
 use crate::lines::lines_in;
@@ -24,7 +26,7 @@ pub(crate) fn flows_pieces<'a>(alloc: Global, flows: &'a [u8]) -> Result<Vec<Pie
 /// Adds the lines of the flows, and their end.
 fn push_flows<'a>(pieces: &mut Vec<Piece<'a>>, lines: &[&'a [u8]]) -> Result<(), AllocError>
     ensures { OnOk result (items_of pieces.new.items
-        ≡ items_of pieces.old.items ++ flows_items (texts lines.now)) }
+        ≡ items_of pieces.old.items ++ map flow_item (texts lines.now) ++ Fixed EndFlows ∷ []) }
 {
     let mut rest = lines;
     'lines: while let [line, more @ ..] = rest {

@@ -26,6 +26,7 @@ mod who;
 
 pub use kind::Kind;
 pub use markup::Markup;
-pub use page::{Texts, page_text};
+pub use page::{Texts, page_text, pages_nest};
 pub use piece::Piece;
 pub use places::{MOST_DRAWN_FILES, MOST_DRAWN_PROCESSES, nodes_are_apart};
+pub use session::sessions_are_shown;

@@ -2,7 +2,8 @@
 ghost use Rattle.std.specs.Prelude.{◌≡◌, ◌++◌, true, IfOk, is_ok, OnOk};
 ghost use Rattle.histar_page.specs.Items.{items_of};
 ghost use Rattle.histar_page.specs.Rendering.{rendered};
-ghost use Rattle.histar_page.specs.Page.{AddsItems, IsPage, files_shown, head_shown, rights_shown, sources_of};
+ghost use Rattle.histar_page.specs.Laws.{PagesNest};
+ghost use Rattle.histar_page.specs.Page.{files_shown, head_shown, page_of, rights_shown, sources_of};
 
 use crate::drawing::drawing_pieces;
 use crate::files::files_pieces;
@@ -43,7 +44,7 @@ pub struct Texts<'a> {
 ///
 /// A part is freed as soon as it is written.
 pub fn page_text(alloc: Global, texts: &Texts) -> Result<Vec<u8>, AllocError>
-    ensures { IfOk result (λ page. IsPage (sources_of texts.now) page.items) }
+    ensures { IfOk result (λ page. page.items ≡ page_of (sources_of texts.now)) }
 {
     let mut page = Vec::new(alloc);
     render_head(alloc, &mut page, texts)?;
@@ -57,8 +58,8 @@ pub fn page_text(alloc: Global, texts: &Texts) -> Result<Vec<u8>, AllocError>
 
 /// Adds the head, and the users and groups.
 fn render_head(alloc: Global, page: &mut Vec<u8>, texts: &Texts) -> Result<(), AllocError>
-    ensures { OnOk result (AddsItems page.old.items page.new.items
-        (head_shown (sources_of texts.now))) }
+    ensures { OnOk result (page.new.items
+        ≡ page.old.items ++ rendered (head_shown (sources_of texts.now))) }
 {
     let title = title_of(alloc, texts.name, texts.script)?;
     render_part(
@@ -70,8 +71,8 @@ fn render_head(alloc: Global, page: &mut Vec<u8>, texts: &Texts) -> Result<(), A
 
 /// Adds the parts that show rights: the files, the secrets with their titles, the flows and the drawing.
 fn render_rights(alloc: Global, page: &mut Vec<u8>, texts: &Texts) -> Result<(), AllocError>
-    ensures { OnOk result (AddsItems page.old.items page.new.items
-        (rights_shown (sources_of texts.now))) }
+    ensures { OnOk result (page.new.items
+        ≡ page.old.items ++ rendered (rights_shown (sources_of texts.now))) }
 {
     render_part(page, files_of(alloc, texts))?;
     render_part(page, secrets_pieces(alloc, texts.secrets, texts.titles))?;
@@ -85,7 +86,7 @@ fn render_rights(alloc: Global, page: &mut Vec<u8>, texts: &Texts) -> Result<(),
 /// Adds the HTML of a part, if there was memory for its pieces.
 fn render_part(page: &mut Vec<u8>, part: Result<Vec<Piece>, AllocError>) -> Result<(), AllocError>
     ensures { OnOk result ((is_ok part.entry ≡ true) × IfOk part.entry (λ pieces.
-        page.new.items ≡ page.old.items ++ rendered pieces.items)) }
+        page.new.items ≡ page.old.items ++ rendered (items_of pieces.items))) }
 {
     let pieces = part?;
     render(page, pieces.as_slice())
@@ -98,3 +99,9 @@ fn files_of<'a>(alloc: Global, texts: &Texts<'a>) -> Result<Vec<Piece<'a>>, Allo
     let jobs = jobs_of(alloc, texts.script, texts.output)?;
     files_pieces(alloc, jobs.as_slice(), texts.secrets, texts.table)
 }
+
+/// Shows that the tags of a page nest: a reader of any page is in no element before it and after it, and each element is
+/// ended in its turn. The law is the contract of a function that does nothing.
+pub fn pages_nest()
+    ensures { PagesNest }
+{}

@@ -1,7 +1,8 @@
 //! The pieces of a page.
 ghost use Rattle.std.specs.Prelude.{◌≡◌, ◌++◌, ◌∷◌, [], decimal, IfOk, OnOk};
-ghost use Rattle.histar_page.specs.Items.{items_of};
-ghost use Rattle.histar_page.specs.Rendering.{piece_text, rendered, shown_text};
+ghost use Rattle.histar_page.specs.Items.{item_of, items_of};
+ghost use Rattle.histar_page.specs.Items.Item.{Fixed, Shown};
+ghost use Rattle.histar_page.specs.Rendering.{item_text, rendered, shown_text};
 
 use crate::kind::Kind;
 use crate::markup::Markup;
@@ -24,7 +25,8 @@ pub(crate) fn begun<'a>(
     first: Markup,
     second: Markup,
 ) -> Result<Vec<Piece<'a>>, AllocError>
-    ensures { IfOk result (λ pieces. items_of pieces.items ≡ []) }
+    ensures { IfOk result (λ pieces.
+        items_of pieces.items ≡ Fixed first ∷ Fixed second ∷ []) }
 {
     Vec::from_slice(alloc, &[Piece::Fixed(first), Piece::Fixed(second)])
 }
@@ -39,7 +41,8 @@ pub(crate) fn add<'a>(pieces: &mut Vec<Piece<'a>>, more: &[Piece<'a>]) -> Result
 
 /// Adds a fixed text.
 pub(crate) fn fix(pieces: &mut Vec<Piece>, markup: Markup) -> Result<(), AllocError>
-    ensures { OnOk result (items_of pieces.new.items ≡ items_of pieces.old.items) }
+    ensures { OnOk result (items_of pieces.new.items
+        ≡ items_of pieces.old.items ++ Fixed markup ∷ []) }
 {
     pieces.extend_from_slice(&[Piece::Fixed(markup)])
 }
@@ -51,7 +54,7 @@ pub(crate) fn show<'a>(
     text: &'a [u8],
 ) -> Result<(), AllocError>
     ensures { OnOk result (items_of pieces.new.items
-        ≡ items_of pieces.old.items ++ (kind, text.now) ∷ []) }
+        ≡ items_of pieces.old.items ++ Shown kind text.now ∷ []) }
 {
     pieces.extend_from_slice(&[Piece::Shown(kind, text)])
 }
@@ -59,7 +62,7 @@ pub(crate) fn show<'a>(
 /// Adds a number of this kind.
 pub(crate) fn count(pieces: &mut Vec<Piece>, kind: Kind, number: u64) -> Result<(), AllocError>
     ensures { OnOk result (items_of pieces.new.items
-        ≡ items_of pieces.old.items ++ (kind, decimal number) ∷ []) }
+        ≡ items_of pieces.old.items ++ Shown kind (decimal number) ∷ []) }
 {
     pieces.extend_from_slice(&[Piece::Counted(kind, number)])
 }
@@ -67,14 +70,14 @@ pub(crate) fn count(pieces: &mut Vec<Piece>, kind: Kind, number: u64) -> Result<
 /// Adds a letter of this kind.
 pub(crate) fn spell(pieces: &mut Vec<Piece>, kind: Kind, letter: u8) -> Result<(), AllocError>
     ensures { OnOk result (items_of pieces.new.items
-        ≡ items_of pieces.old.items ++ (kind, letter ∷ []) ∷ []) }
+        ≡ items_of pieces.old.items ++ Shown kind (letter ∷ []) ∷ []) }
 {
     pieces.extend_from_slice(&[Piece::Letter(kind, letter)])
 }
 
 /// Adds the HTML of these pieces to a page.
 pub(crate) fn render(page: &mut Vec<u8>, pieces: &[Piece]) -> Result<(), AllocError>
-    ensures { OnOk result (page.new.items ≡ page.old.items ++ rendered pieces.now) }
+    ensures { OnOk result (page.new.items ≡ page.old.items ++ rendered (items_of pieces.now)) }
 {
     let mut rest = pieces;
     'pieces: while let [piece, more @ ..] = rest {
@@ -86,7 +89,7 @@ pub(crate) fn render(page: &mut Vec<u8>, pieces: &[Piece]) -> Result<(), AllocEr
 
 /// Adds the HTML of a piece.
 fn render_piece(page: &mut Vec<u8>, piece: &Piece) -> Result<(), AllocError>
-    ensures { OnOk result (page.new.items ≡ page.old.items ++ piece_text piece.now) }
+    ensures { OnOk result (page.new.items ≡ page.old.items ++ item_text (item_of piece.now)) }
 {
     match piece {
         Piece::Fixed(markup) => page.extend_from_slice(markup.text()),

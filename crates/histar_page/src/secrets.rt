@@ -6,8 +6,7 @@ ghost use Rattle.histar_script.specs.Lines.{lines_of};
 ghost use Rattle.histar_page.specs.Texts.{texts};
 ghost use Rattle.histar_page.specs.Items.{items_of};
 ghost use Rattle.histar_page.specs.Lines.{words_of};
-ghost use Rattle.histar_page.specs.Secrets.{member_kind, secret_items, secret_line_items, secrets_items};
-ghost use Rattle.histar_page.specs.Titles.{titles_items};
+ghost use Rattle.histar_page.specs.Secrets.{member_kind, note_on, note_on_titles, secret_items, secret_line_items, secrets_items};
 
 use crate::kind::Kind;
 use crate::lines::{lines_in, without_first, words_in};
@@ -31,7 +30,7 @@ pub(crate) fn secrets_pieces<'a>(
     titles: &'a [u8],
 ) -> Result<Vec<Piece<'a>>, AllocError>
     ensures { IfOk result (λ pieces. items_of pieces.items
-        ≡ secrets_items (lines_of secrets.entry.now) ++ titles_items (lines_of titles.entry.now)) }
+        ≡ secrets_items (lines_of secrets.entry.now) (lines_of titles.entry.now)) }
 {
     let lines = lines_in(alloc, secrets)?;
     let files = without_first(lines.as_slice());
@@ -44,7 +43,9 @@ pub(crate) fn secrets_pieces<'a>(
 }
 
 /// Returns the sentence before these lines.
-fn note_on(lines: &[&[u8]]) -> Markup {
+fn note_on(lines: &[&[u8]]) -> Markup
+    ensures { result ≡ note_on (texts lines.now) }
+{
     if lines.is_empty() {
         Markup::NoSecrets
     } else {
@@ -54,7 +55,8 @@ fn note_on(lines: &[&[u8]]) -> Markup {
 
 /// Adds the sentence before these titles, if there are secrets.
 fn note_titles(pieces: &mut Vec<Piece>, files: &[&[u8]], titles: &[&[u8]]) -> Result<(), AllocError>
-    ensures { OnOk result (items_of pieces.new.items ≡ items_of pieces.old.items) }
+    ensures { OnOk result (items_of pieces.new.items
+        ≡ items_of pieces.old.items ++ note_on_titles (texts files.now) (texts titles.now)) }
 {
     if files.is_empty() {
         return Ok(());

@@ -1,13 +1,13 @@
 //! The session on a page: its story, and after each call its raw calls.
-ghost use Rattle.std.specs.Prelude.{◌≡◌, ◌≤◌, ◌+◌, ◌++◌, [], drop, length, take, true, IfOk, OnOk};
-ghost use Rattle.std.specs.List.{list_all};
+ghost use Rattle.std.specs.Prelude.{◌≡◌, ◌≤◌, ◌+◌, ◌++◌, [], drop, length, IfOk, OnOk};
 ghost use Rattle.histar_script.specs.Lines.{lines_of};
 ghost use Rattle.histar_page.specs.Texts.{texts};
 ghost use Rattle.histar_page.specs.Items.{items_of};
-ghost use Rattle.histar_page.specs.Session.{AddsSession, IsSession, boot_items, kernel_items};
-ghost use Rattle.histar_page.specs.Story.{call_items, story_from, turn_items};
-ghost use Rattle.histar_page.specs.Lines.{is_own};
-ghost use Rattle.histar_page.specs.Order.{other_numbers, past_own, session_numbers, taken_own};
+ghost use Rattle.histar_page.specs.Laws.{SessionsAreShown};
+ghost use Rattle.histar_page.specs.Order.{past_own, taken_own};
+ghost use Rattle.histar_page.specs.MarkedLines.{marked_in, marked_of};
+ghost use Rattle.histar_page.specs.Session.{boot_items, calls_items, kernel_items, session_items, turn_items, turns_from};
+ghost use Rattle.histar_page.specs.Story.{call_items};
 
 use crate::kind::Kind;
 use crate::lines::{LineKind, among, lines_in, own_count};
@@ -42,8 +42,8 @@ pub(crate) fn session_pieces<'a>(
     output: &'a [u8],
     reasons: &'a [u8],
 ) -> Result<Vec<Piece<'a>>, AllocError>
-    ensures { IfOk result (λ pieces. IsSession (lines_of script.entry.now)
-        (lines_of output.entry.now) (lines_of reasons.entry.now) (items_of pieces.items)) }
+    ensures { IfOk result (λ pieces. items_of pieces.items ≡ session_items
+        (lines_of script.entry.now) (lines_of output.entry.now) (lines_of reasons.entry.now)) }
 {
     let script = lines_in(alloc, script)?;
     let output = lines_in(alloc, output)?;
@@ -63,8 +63,8 @@ fn line_pieces<'a>(
     output: &[&'a [u8]],
     reasons: &[&'a [u8]],
 ) -> Result<Vec<Piece<'a>>, AllocError>
-    ensures { IfOk result (λ pieces. IsSession (texts script.now) (texts output.now)
-        (texts reasons.now) (items_of pieces.items)) }
+    ensures { IfOk result (λ pieces. items_of pieces.items
+        ≡ session_items (texts script.now) (texts output.now) (texts reasons.now)) }
 {
     let replies = among(alloc, LineKind::Reply, output)?;
     let reasons = among(alloc, LineKind::Reason, reasons)?;
@@ -87,12 +87,8 @@ fn push_session<'a>(
     script: &[&'a [u8]],
     lines: Lines<'_, 'a>,
 ) -> Result<(), AllocError>
-    ensures { OnOk result (AddsSession
-        (story_from (texts script.now) [] (texts lines.entry.replies.now) (texts lines.entry.reasons.now))
-        (texts lines.entry.raw_calls.now) (texts lines.entry.explanations.now)
-        (session_numbers (texts lines.entry.replies.now) (texts lines.entry.raw_calls.now)
-        (texts lines.entry.explanations.now))
-        (items_of pieces.old.items) (items_of pieces.new.items)) }
+    ensures { OnOk result (items_of pieces.new.items ≡ items_of pieces.old.items
+        ++ calls_items (texts script.now) (texts lines.entry.replies.now) (marked_in lines.entry)) }
 {
     let boot = own_lines(lines.raw_calls, 0, BOOT);
     let (_, raw_calls) = lines.raw_calls.split_at(boot.len());
@@ -113,12 +109,8 @@ fn push_calls<'a>(
     script: &[&'a [u8]],
     lines: Lines<'_, 'a>,
 ) -> Result<(), AllocError>
-    ensures { OnOk result (AddsSession
-        (story_from (texts script.now) [] (texts lines.entry.replies.now) (texts lines.entry.reasons.now))
-        (texts lines.entry.raw_calls.now) (texts lines.entry.explanations.now)
-        (other_numbers (texts lines.entry.replies.now) (texts lines.entry.raw_calls.now)
-        (texts lines.entry.explanations.now))
-        (items_of pieces.old.items) (items_of pieces.new.items)) }
+    ensures { OnOk result (items_of pieces.new.items ≡ items_of pieces.old.items
+        ++ turns_from (texts script.now) [] (texts lines.entry.replies.now) (marked_in lines.entry)) }
 {
     let mut reason_at = 0;
     let mut raw_at = 0;
@@ -148,9 +140,6 @@ fn push_calls<'a>(
 fn own_lines<'b, 'a>(lines: &'b [&'a [u8]], from: usize, word: &[u8]) -> &'b [&'a [u8]]
     requires { from ≤ length lines.now }
     ensures fits { from + length result.now ≤ length lines.entry.now }
-    ensures taken { take (from + length result.now) (texts lines.entry.now)
-        ≡ take from (texts lines.entry.now) ++ texts result.now }
-    ensures own { list_all (is_own word.now) (texts result.now) ≡ true }
     ensures front { texts result.now ≡ taken_own word.now (drop from (texts lines.entry.now)) }
     ensures rest { drop (from + length result.now) (texts lines.entry.now)
         ≡ past_own word.now (drop from (texts lines.entry.now)) }
@@ -187,8 +176,7 @@ fn push_turn<'a>(
     own: Own<'_, 'a>,
 ) -> Result<(), AllocError>
     ensures { OnOk result (items_of pieces.new.items ≡ items_of pieces.old.items
-        ++ turn_items (texts script.now) before.now reply.now (texts own.entry.reasons.now)
-        ++ kernel_items (texts own.entry.raw_calls.now) (texts own.entry.explanations.now)) }
+        ++ turn_items (texts script.now) before.now reply.now (marked_of own.entry)) }
 {
     push_notes(pieces, lines_between(script, before, reply), before)?;
     if own.raw_calls.is_empty() && own.explanations.is_empty() {
@@ -229,3 +217,10 @@ fn push_kernel<'a>(
     push_each(pieces, View::Explanations, explanations)?;
     fix(pieces, Markup::EndCall)
 }
+
+/// Shows that the session on a page has the story of its script, of its output and of its reasons, and each raw call and
+/// each explanation once, in order, and behind the number of its line. The law is the contract of a function that does
+/// nothing.
+pub fn sessions_are_shown()
+    ensures { SessionsAreShown }
+{}

@@ -2,6 +2,8 @@
 ghost use Rattle.std.specs.Prelude.{◌≡◌, ◌++◌, ◌∷◌, [], OnOk};
 ghost use Rattle.histar_page.specs.Texts.{texts};
 ghost use Rattle.histar_page.specs.Items.{items_of};
+ghost use Rattle.histar_page.specs.Items.Item.{Fixed, Shown};
+ghost use Rattle.histar_page.specs.declared.markup.Markup.TheVariants.{BeginBehind, BeginOther};
 ghost use Rattle.histar_page.specs.Lines.{mark_number};
 ghost use Rattle.histar_page.specs.Secrets.{member_item};
 ghost use Rattle.histar_page.specs.Session.{hides_bytes, other_call_items, other_why_items, raw_item, raw_kind};
@@ -53,7 +55,7 @@ pub(crate) fn push_framed<'a>(
     after: Markup,
 ) -> Result<(), AllocError>
     ensures { OnOk result (items_of pieces.new.items
-        ≡ items_of pieces.old.items ++ views view (texts lines.now)) }
+        ≡ items_of pieces.old.items ++ Fixed before ∷ views view (texts lines.now) ++ Fixed after ∷ []) }
 {
     fix(pieces, before)?;
     push_each(pieces, view, lines)?;
@@ -157,7 +159,8 @@ fn push_other_explanation<'a>(pieces: &mut Vec<Piece<'a>>, line: &'a [u8]) -> Re
 /// Adds the number of a line that belongs to no reply.
 fn begin_other<'a>(pieces: &mut Vec<Piece<'a>>, line: &'a [u8]) -> Result<(), AllocError>
     ensures { OnOk result (items_of pieces.new.items
-        ≡ items_of pieces.old.items ++ (OtherLine, mark_number line.now) ∷ []) }
+        ≡ items_of pieces.old.items
+        ++ Fixed BeginOther ∷ Shown OtherLine (mark_number line.now) ∷ Fixed BeginBehind ∷ []) }
 {
     add(
         pieces,

@@ -1,10 +1,12 @@
 //! The users and groups of a script.
-ghost use Rattle.std.specs.Prelude.{◌≡◌, ◌++◌, IfOk, OnOk};
+ghost use Rattle.std.specs.Prelude.{◌≡◌, ◌++◌, ◌∷◌, [], IfOk, OnOk};
 ghost use Rattle.histar_script.specs.Lines.{lines_of};
 ghost use Rattle.histar_page.specs.Texts.{texts};
 ghost use Rattle.histar_page.specs.Items.{items_of};
+ghost use Rattle.histar_page.specs.Items.Item.{Fixed};
+ghost use Rattle.histar_page.specs.declared.markup.Markup.TheVariants.{EndWho};
 ghost use Rattle.histar_page.specs.Lines.{words_of};
-ghost use Rattle.histar_page.specs.Who.{declared_items, who_items};
+ghost use Rattle.histar_page.specs.Who.{declared_in, declared_items, who_items};
 
 use crate::kind::Kind;
 use crate::lines::{lines_in, words_in};
@@ -37,7 +39,7 @@ fn push_declared<'a>(
     lines: &[&'a [u8]],
 ) -> Result<(), AllocError>
     ensures { OnOk result (items_of pieces.new.items
-        ≡ items_of pieces.old.items ++ who_items (texts lines.now)) }
+        ≡ items_of pieces.old.items ++ declared_in (texts lines.now) ++ Fixed EndWho ∷ []) }
 {
     let mut rest = lines;
     'lines: while let [line, more @ ..] = rest {

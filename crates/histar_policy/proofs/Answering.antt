@@ -21,7 +21,7 @@ note_with c event = record { line = c.line; process = c.process; event = event }
 
 -- a call was made, and what it says was added
 pub after_call : (old new : MachineModel) (before after : List Note) (c : CallLine) (asked : Asked) (reply : Reply) (event : Event)
-    → FollowsMeaning old new c.line c.process c.call (Ok reply)
+    → FollowsMeaning (Unit {0}) old new c.line c.process c.call (Ok reply)
     → asked ≡ asked_of c.call → IsEvent new c.process asked reply event → after ≡ before ++ note_with c event ∷ []
     → AddsNotes old new before after (c ∷ [])
 after_call old new before after c asked reply event means of_call is_event is accounts f shows =

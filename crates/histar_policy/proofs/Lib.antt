@@ -3,6 +3,8 @@ mod Used
 mod Said
 mod Answering
 mod MadeThings
-mod MayRemove
+mod MayDo
 mod WrongPasswords
 mod Unstarted
+mod Writing
+mod LoneWriters

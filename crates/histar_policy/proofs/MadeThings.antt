@@ -1,4 +1,4 @@
--- Who may take away what a call made, computed on a machine.
+-- What a call made or wrote, computed on a machine, and who may take it away or write it.
 use Rattle.std.proofs.Common.{◌≡◌, ℕ, ◌+◌, ◌<◌, ◌++◌, take, length, get_or, Bool, true, false, cond, ◌&&◌}
 use Rattle.std.proofs.Common.{List, [], ◌∷◌, None, Some, refl, sym, ap, ◌∙◌}
 use Rattle.std.specs.Prelude.{filter, if◌then◌else◌, map, slice_get}
@@ -17,10 +17,10 @@ use Rattle.histar_rights.specs.Users.{somebody}
 use Rattle.histar_shell.specs.Machine.{MachineModel}
 use Rattle.histar_cells.specs.ByUser.{AreRightsOfUser, user_rights_at}
 use Rattle.histar_cells.specs.Whose.{IsUserOfProcess}
-use Rattle.histar_policy.specs.declared.notes.Event.{Event}
-use Rattle.histar_policy.specs.declared.notes.Event.TheVariants.{Nothing, MayBeTaken}
-use Rattle.histar_policy.specs.Answers.{AreRightsOfThese, IsMadeEvent, is_taker_by, user_with_rights}
-use Rattle.histar_policy.specs.Takers.{is_for_everyone, is_taker, made_event, takers}
+use Rattle.histar_policy.specs.declared.notes.Event.TheVariants.{Nothing, Made, Wrote}
+use Rattle.histar_policy.specs.Answers.{AreRightsOfThese, IsMadeEvent, IsWroteEvent, is_taker_by, is_writer_by}
+use Rattle.histar_policy.specs.Answers.{takers_by, user_with_rights, writers_by}
+use Rattle.histar_policy.specs.Takers.{is_for_everyone, made_event, takers, writers, wrote_event}
 
 module _ (accounts : Accounts) (f : Flat) (q : Path) where
   -- all of these users may read exactly if all of their rights say so
@@ -30,19 +30,20 @@ module _ (accounts : Accounts) (f : Flat) (q : Path) where
   all_read [] = refl
   all_read (user ∷ users) = ap (λ b. (user_rights_at accounts f q user).read && b) (all_read users)
 
-  -- those that take are found by their rights
-  all_takers : (maker : Name) (users : List Name)
-      → map (λ (u : UserRights). u.user) (filter (is_taker_by maker) (map (user_with_rights accounts f q) users))
-      ≡ filter (is_taker accounts f maker q) users
-  all_takers maker [] = refl
-  all_takers maker (user ∷ users) = by (is_taker accounts f maker q user) (all_takers maker users)
+  -- those that pass a test are found by their rights
+  all_those : (test : UserRights → Bool) (users : List Name)
+      → map (λ (u : UserRights). u.user) (filter test (map (user_with_rights accounts f q) users))
+      ≡ filter (λ user. test (user_with_rights accounts f q user)) users
+  all_those test [] = refl
+  all_those test (user ∷ users) = by (test (user_with_rights accounts f q user)) (all_those test users)
     where
-      by : (b : Bool) → map (λ (u : UserRights). u.user) (filter (is_taker_by maker) (map (user_with_rights accounts f q) users))
-          ≡ filter (is_taker accounts f maker q) users
+      by : (b : Bool) → map (λ (u : UserRights). u.user) (filter test (map (user_with_rights accounts f q) users))
+          ≡ filter (λ (u : Name). test (user_with_rights accounts f q u)) users
           → map (λ (u : UserRights). u.user)
-          (cond b (user_with_rights accounts f q user ∷ filter (is_taker_by maker) (map (user_with_rights accounts f q) users))
-          (filter (is_taker_by maker) (map (user_with_rights accounts f q) users)))
-          ≡ cond b (user ∷ filter (is_taker accounts f maker q) users) (filter (is_taker accounts f maker q) users)
+          (cond b (user_with_rights accounts f q user ∷ filter test (map (user_with_rights accounts f q) users))
+          (filter test (map (user_with_rights accounts f q) users)))
+          ≡ cond b (user ∷ filter (λ (u : Name). test (user_with_rights accounts f q u)) users)
+          (filter (λ (u : Name). test (user_with_rights accounts f q u)) users)
       by true rest = ap (λ (l : List Name). user ∷ l) rest
       by false rest = rest
 
@@ -74,9 +75,17 @@ module _ (m : MachineModel) (q : Path) where
       ∙ sym (ap (map with) (take_more users i user more ∙ ap (λ (u : Name). take i users ++ u ∷ []) (sym here))
       ∙ map-append with (take i users) (user ∷ []))
 
--- a process that doesn't run has made nothing
-pub none_made : (m : MachineModel) (me : ProcName) (q : Path) → IsUserOfProcess m me None → IsMadeEvent m me q Nothing
-none_made m me q whose accounts f shows = ap (made_event accounts f q) (whose accounts f shows)
+-- a process that doesn't run has made nothing, and wrote nothing
+pub none_made : (m : MachineModel) (me : ProcName) (q : Path) (shared : Bool) → IsUserOfProcess m me None → IsMadeEvent m me q shared Nothing
+none_made m me q shared whose accounts f shows = ap (made_event accounts f q shared) (whose accounts f shows)
+
+pub none_wrote : (m : MachineModel) (me : ProcName) (q : Path) → IsUserOfProcess m me None → IsWroteEvent m me q Nothing
+none_wrote m me q whose accounts f shows = ap (wrote_event q) (whose accounts f shows)
+
+-- what a process wrote, by its user
+pub wrote_as : (m : MachineModel) (me : ProcName) (q path : Path) (user : Name) → IsUserOfProcess m me (Some user) → path ≡ q
+    → IsWroteEvent m me q (Wrote user path)
+wrote_as m me q path user whose at accounts f shows = ap (λ (r : Path). Wrote user r) at ∙ ap (wrote_event q) (whose accounts f shows)
 
 -- on a machine this is the user of a process, and these are the rights of nobody and of each user at a path
 pub record IsSeen (m : MachineModel) (me : ProcName) (q : Path) (maker : Name) (rights : List UserRights) : Type 0 where
@@ -84,25 +93,22 @@ pub record IsSeen (m : MachineModel) (me : ProcName) (q : Path) (maker : Name) (
   pub have : AreRightsOfThese m q (somebody m.users) rights
 
 module _ {m : MachineModel} {me : ProcName} {q : Path} {maker : Name} {rights : List UserRights} (seen : IsSeen m me q maker rights) where
-  -- the event that is due, by whether all may read and by those that take
-  due : (event : Event) (b : Bool) → list_all (λ (u : UserRights). u.rights.read) rights ≡ b
-      → event ≡ (if b then Nothing else MayBeTaken q (map (λ (u : UserRights). u.user) (filter (is_taker_by maker) rights)))
-      → IsMadeEvent m me q event
-  due event b tested is_due accounts f shows =
+  -- what a process made, by its user and by those that take it and those that write it
+  pub made_as : (shared : Bool) {path : Path} {taking writing : List Name} → path ≡ q → taking ≡ takers_by maker rights
+      → writing ≡ writers_by maker shared rights
+      → IsMadeEvent m me q shared (Made (record { path = path; maker = maker; takers = taking; writers = writing }))
+  made_as shared at take write accounts f shows =
       let of_users : rights ≡ map (user_with_rights accounts f q) (somebody accounts) =
       seen.have accounts f shows ∙ ap (map (user_with_rights accounts f q)) (ap somebody shows.users ∙ somebody_kept accounts) in
-      let everyone : b ≡ is_for_everyone accounts f q =
-      sym tested ∙ ap (list_all (λ (u : UserRights). u.rights.read)) of_users ∙ all_read accounts f q (somebody accounts) in
-      let who : map (λ (u : UserRights). u.user) (filter (is_taker_by maker) rights) ≡ takers accounts f maker q =
-      ap (λ (us : List UserRights). map (λ (u : UserRights). u.user) (filter (is_taker_by maker) us)) of_users
-      ∙ all_takers accounts f q maker (somebody accounts) in
-      is_due ∙ (λ i. if everyone i then Nothing else MayBeTaken q (who i)) ∙ ap (made_event accounts f q) (seen.whose accounts f shows)
-
-  -- of what is for everyone nothing is said
-  pub for_everyone : list_all (λ (u : UserRights). u.rights.read) rights ≡ true → IsMadeEvent m me q Nothing
-  for_everyone all = due Nothing true all refl
-
-  -- of what is not, who may take it away
-  pub may_be_taken : list_all (λ (u : UserRights). u.rights.read) rights ≡ false → {path : Path} {who : List Name} → path ≡ q
-      → who ≡ map (λ (u : UserRights). u.user) (filter (is_taker_by maker) rights) → IsMadeEvent m me q (MayBeTaken path who)
-  may_be_taken some {path} {who} at is_who = due (MayBeTaken path who) false some (λ i. MayBeTaken (at i) (is_who i))
+      let everyone : list_all (λ (u : UserRights). u.rights.read) rights ≡ is_for_everyone accounts f q =
+      ap (list_all (λ (u : UserRights). u.rights.read)) of_users ∙ all_read accounts f q (somebody accounts) in
+      let those : (test : UserRights → Bool) → map (λ (u : UserRights). u.user) (filter test rights)
+      ≡ filter (λ user. test (user_with_rights accounts f q user)) (somebody accounts) =
+      λ test. ap (λ (us : List UserRights). map (λ (u : UserRights). u.user) (filter test us)) of_users
+      ∙ all_those accounts f q test (somebody accounts) in
+      let takes : takers_by maker rights ≡ (if is_for_everyone accounts f q then [] else takers accounts f maker q) =
+      λ i. if everyone i then [] else those (is_taker_by maker) i in
+      let writes : writers_by maker shared rights ≡ (if shared then writers accounts f maker q else []) =
+      λ i. if shared then those (is_writer_by maker) i else [] in
+      (λ i. Made (record { path = at i; maker = maker; takers = (take ∙ takes) i; writers = (write ∙ writes) i }))
+      ∙ ap (made_event accounts f q shared) (seen.whose accounts f shows)

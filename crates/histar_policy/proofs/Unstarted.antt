@@ -1,7 +1,7 @@
 -- A process that was never started is not among those that were started.
 use Rattle.std.proofs.Common.{◌≡◌, ◌≢◌, ◌⊎◌, Bool, true, false, cond, ◌||◌, List, [], ◌∷◌}
 use Rattle.std.proofs.Common.{◌++◌, Option, None, Some, refl, sym, ap, ◌∙◌, subst, inl, inr}
-use Rattle.std.specs.Prelude.{is_some, if◌then◌else◌}
+use Rattle.std.specs.Prelude.{is_some}
 use Rattle.std.specs.Option.{option_to_list}
 use Rattle.std.proofs.lemmas.Slice.Eq.{bytes_eq-Decides}
 use Rattle.histar_base.specs.Paths.{same}
@@ -20,11 +20,10 @@ use Rattle.histar_reasons.specs.Reasons.{absence}
 use Rattle.histar_reasons.specs.Reasons.Absence.{HasExited, WasKilled, WasNeverStarted}
 use Rattle.histar_reasons.proofs.Started.{never_started_were_not}
 use Rattle.histar_policy.specs.declared.notes.Asked.{Asked}
-use Rattle.histar_policy.specs.declared.notes.Asked.TheVariants.{LogsIn, Wraps, Makes, Other}
-use Rattle.histar_policy.specs.declared.notes.Event.TheVariants.{Nothing, MayBeTaken}
+use Rattle.histar_policy.specs.declared.notes.Asked.TheVariants.{LogsIn, Wraps, Makes, Writes, Other}
 use Rattle.histar_policy.specs.Laws.{UnstartedAreSaid, started_by}
 use Rattle.histar_policy.specs.Notes.{asked_of, done_event, event_by, event_of, notes_from, refusal_event}
-use Rattle.histar_policy.specs.Takers.{is_for_everyone, made_event, takers}
+use Rattle.histar_policy.specs.Takers.{made_event, wrote_event}
 use Rattle.histar_policy.specs.Warnings.{child_of}
 use Rattle.histar_policy.proofs.Used.{any_append}
 
@@ -32,7 +31,8 @@ module _ (accounts : Accounts) (f : Flat) (me : ProcName) where
   -- a refusal starts nothing
   refusal_starts : (asked : Asked) (e : Errno) → child_of (refusal_event asked e) ≡ None
   refusal_starts Wraps e = refl
-  refusal_starts (Makes q) e = refl
+  refusal_starts (Makes q shared) e = refl
+  refusal_starts (Writes q) e = refl
   refusal_starts Other e = refl
   refusal_starts (LogsIn user) e = by e
     where
@@ -40,18 +40,19 @@ module _ (accounts : Accounts) (f : Flat) (me : ProcName) where
       by EAUTH = refl
       by _ = refl
 
-  -- nor does what makes a file or a directory
-  made_starts : (q : Path) (maker : Option Name) → child_of (made_event accounts f q maker) ≡ None
-  made_starts q None = refl
-  made_starts q (Some maker) = by (is_for_everyone accounts f q)
-    where
-      by : (b : Bool) → child_of (if b then Nothing else MayBeTaken q (takers accounts f maker q)) ≡ None
-      by true = refl
-      by false = refl
+  -- nor does what makes a file or a directory, or writes a file
+  made_starts : (q : Path) (shared : Bool) (maker : Option Name) → child_of (made_event accounts f q shared maker) ≡ None
+  made_starts q shared None = refl
+  made_starts q shared (Some maker) = refl
+
+  wrote_starts : (q : Path) (user : Option Name) → child_of (wrote_event q user) ≡ None
+  wrote_starts q None = refl
+  wrote_starts q (Some user) = refl
 
   done_starts : (asked : Asked) → child_of (done_event accounts f me asked) ≡ None
   done_starts Wraps = refl
-  done_starts (Makes q) = made_starts q (user_running f me)
+  done_starts (Makes q shared) = made_starts q shared (user_running f me)
+  done_starts (Writes q) = wrote_starts q (user_running f me)
   done_starts Other = refl
   done_starts (LogsIn user) = refl
 
@@ -64,7 +65,8 @@ module _ (accounts : Accounts) (f : Flat) (me : ProcName) where
   child_is asked (Stats stat) child e = absurd cc
   child_is Wraps (Child born) child e = let same_child : born ≡ child = cc in ap (λ (c : ProcName). Child c) same_child
   child_is Other (Child born) child e = let same_child : born ≡ child = cc in ap (λ (c : ProcName). Child c) same_child
-  child_is (Makes q) (Child born) child e = let same_child : born ≡ child = cc in ap (λ (c : ProcName). Child c) same_child
+  child_is (Makes q shared) (Child born) child e = let same_child : born ≡ child = cc in ap (λ (c : ProcName). Child c) same_child
+  child_is (Writes q) (Child born) child e = let same_child : born ≡ child = cc in ap (λ (c : ProcName). Child c) same_child
   child_is (LogsIn user) (Child born) child e = let same_child : born ≡ child = cc in ap (λ (c : ProcName). Child c) same_child
   child_is asked Running child e = absurd cc
   child_is asked (Exited n) child e = absurd cc

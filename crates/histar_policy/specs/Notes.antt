@@ -1,7 +1,9 @@
--- What a call line says of processes, of passwords and of what it made, by the flat states before and after it.
-use Rattle.std.specs.Prelude.{List, [], ◌∷◌}
+-- What a call line says of processes, of passwords, and of what it made or wrote, by the flat states before and after it.
+use Rattle.std.specs.Prelude.{Bool, true, false, List, [], ◌∷◌}
+use Rattle.histar_flat.specs.declared.calls.Mode.{Mode}
+use Rattle.histar_flat.specs.declared.calls.Mode.TheVariants.{Group}
 use Rattle.histar_flat.specs.declared.calls.UnixCall.{UnixCall}
-use Rattle.histar_flat.specs.declared.calls.UnixCall.TheVariants.{Create, Login, Mkdir, Wrap}
+use Rattle.histar_flat.specs.declared.calls.UnixCall.TheVariants.{Append, Create, Login, Mkdir, Wrap, Write}
 use Rattle.histar_flat.specs.declared.replies.Errno.{Errno}
 use Rattle.histar_flat.specs.declared.replies.Errno.TheVariants.{EAUTH}
 use Rattle.histar_flat.specs.declared.replies.Reply.{Reply}
@@ -15,18 +17,25 @@ use Rattle.histar_flat.specs.Words.{ProcName}
 use Rattle.histar_script.specs.Script.{ScriptModel}
 use Rattle.histar_cells.specs.Whose.{user_running}
 use Rattle.histar_policy.specs.declared.notes.Asked.{Asked}
-use Rattle.histar_policy.specs.declared.notes.Asked.TheVariants.{LogsIn, Wraps, Makes, Other}
+use Rattle.histar_policy.specs.declared.notes.Asked.TheVariants.{LogsIn, Wraps, Makes, Writes, Other}
 use Rattle.histar_policy.specs.declared.notes.Event.{Event}
 use Rattle.histar_policy.specs.declared.notes.Event.TheVariants.{Nothing, IsGone, Starts, StartsJob, WrongPassword}
 use Rattle.histar_policy.specs.declared.notes.Note.{Note}
-use Rattle.histar_policy.specs.Takers.{made_event}
+use Rattle.histar_policy.specs.Takers.{made_event, wrote_event}
+
+-- the mode is for a group
+abbrev pub is_group_mode : Mode → Bool
+is_group_mode (Group group) = true
+is_group_mode mode = false
 
 -- what matters of a call, whatever its reply
 abbrev pub asked_of : UnixCall → Asked
 asked_of (Login user password) = LogsIn user
 asked_of (Wrap q) = Wraps
-asked_of (Create q mode) = Makes q
-asked_of (Mkdir q mode) = Makes q
+asked_of (Create q mode) = Makes q (is_group_mode mode)
+asked_of (Mkdir q mode) = Makes q false
+asked_of (Write q bytes) = Writes q
+asked_of (Append q bytes) = Writes q
 asked_of call = Other
 
 -- what a call says that started a child: that a job was started, or another process
@@ -39,9 +48,10 @@ abbrev pub refusal_event : Asked → Errno → Event
 refusal_event (LogsIn user) EAUTH = WrongPassword user
 refusal_event asked e = Nothing
 
--- what a call that was done says, by the flat state after it: who may take away what it made, if it made something
+-- what a call that was done says, by the flat state after it: what it made, or which file it wrote
 abbrev pub done_event : Accounts → Flat → ProcName → Asked → Event
-done_event accounts f me (Makes q) = made_event accounts f q (user_running f me)
+done_event accounts f me (Makes q shared) = made_event accounts f q shared (user_running f me)
+done_event accounts f me (Writes q) = wrote_event q (user_running f me)
 done_event accounts f me asked = Nothing
 
 -- what a call and its reply say, by the flat state after it

@@ -1,10 +1,10 @@
-//! What a call line says of processes, of passwords and of what it made.
+//! What a call line says of processes, of passwords, and of what it made or wrote.
 ghost use Rattle.std.specs.Prelude.{◌≡◌, IfOk};
 ghost use Rattle.histar_policy.specs.Answers.{IsEvent};
-ghost use Rattle.histar_policy.specs.Notes.{asked_of, child_event, refusal_event};
+ghost use Rattle.histar_policy.specs.Notes.{asked_of, child_event, is_group_mode, refusal_event};
 
-use crate::takers::{Takers, made_event};
-use histar_flat::{Errno, Name, OwnedPath, Path, ProcName, Reply, UnixCall};
+use crate::takers::{Creation, made_event, wrote_event};
+use histar_flat::{Errno, Mode, Name, OwnedPath, Path, ProcName, Reply, UnixCall};
 use histar_label::LabelStore;
 use histar_shell::Machine;
 use std::alloc::{AllocError, Global};
@@ -16,13 +16,15 @@ pub enum Asked {
     LogsIn(Name),
     /// It starts a job.
     Wraps,
-    /// It makes a file or a directory at this path.
-    Makes(Path),
+    /// It makes a file or a directory at this path, and whether that is a file for a group.
+    Makes(Path, bool),
+    /// It writes the file at this path.
+    Writes(Path),
     /// It does something else.
     Other,
 }
 
-/// What a call line says of processes, of passwords and of what it made.
+/// What a call line says of processes, of passwords, and of what it made or wrote.
 #[derive(Drop)]
 pub enum Event {
     /// Nothing.
@@ -35,8 +37,10 @@ pub enum Event {
     StartsJob(ProcName),
     /// The password was not that of this user.
     WrongPassword(Name),
-    /// What was made at this path is not for everyone, and these users may take it away.
-    MayBeTaken(OwnedPath, Takers),
+    /// A file or a directory was made.
+    Made(Creation),
+    /// A process of this user wrote the file at this path.
+    Wrote(Name, OwnedPath),
 }
 
 /// A call line that was answered.
@@ -56,8 +60,20 @@ pub(crate) fn asked_of(call: &UnixCall) -> Asked
     match call {
         UnixCall::Login(user, _) => Asked::LogsIn(*user),
         UnixCall::Wrap(_) => Asked::Wraps,
-        UnixCall::Create(path, _) | UnixCall::Mkdir(path, _) => Asked::Makes(path.path()),
+        UnixCall::Create(path, mode) => Asked::Makes(path.path(), is_group(mode)),
+        UnixCall::Mkdir(path, _) => Asked::Makes(path.path(), false),
+        UnixCall::Write(path, _) | UnixCall::Append(path, _) => Asked::Writes(path.path()),
         _ => Asked::Other,
+    }
+}
+
+/// Checks whether a mode is for a group.
+fn is_group(mode: &Mode) -> bool
+    ensures { result ≡ is_group_mode mode.now }
+{
+    match mode {
+        Mode::Group(_) => true,
+        _ => false,
     }
 }
 
@@ -95,7 +111,10 @@ pub(crate) fn event_of<S: LabelStore + Drop>(
         (Reply::Gone, _) => Ok(Event::IsGone),
         (Reply::Child(child), _) => Ok(child_event(asked, child)),
         (Reply::Refused(errno), _) => Ok(refusal_event(asked, errno)),
-        (Reply::Done, Asked::Makes(path)) => made_event(alloc, machine, process, path),
+        (Reply::Done, Asked::Makes(path, shared)) => {
+            made_event(alloc, machine, process, path, *shared)
+        }
+        (Reply::Done, Asked::Writes(path)) => wrote_event(alloc, machine, process, path),
         _ => Ok(Event::Nothing),
     }
 }

@@ -68,6 +68,8 @@ impl<'a> Command for PolicyLinting<'a> {
 
     type Answer = Found;
 
+    type Memory = Global;
+
     ghost Runs = { λ command. LintsPolicy command.file.now };
 
     fn on_text<W: Sink>(

@@ -2,24 +2,28 @@
 ghost use Rattle.std.specs.Prelude.{◌≡◌, ◌++◌, IfOk, OnOk, option_map};
 ghost use Rattle.std.specs.Option.{option_to_list};
 ghost use Rattle.histar_policy.specs.Names.{Adds};
-ghost use Rattle.histar_policy.specs.Sets.{AreUsed, IsSentence, Warns};
-ghost use Rattle.histar_policy.specs.Warnings.{child_of, never_started, never_used, warnings_text, wrong_password};
+ghost use Rattle.histar_policy.specs.Sets.{AreUsed, IsSentence, IsWritingSentence, Warns};
+ghost use Rattle.histar_policy.specs.Warnings.{child_of, never_started, never_used};
+ghost use Rattle.histar_policy.specs.Warnings.{warning_line, warnings_text, wrong_password};
 
 use crate::names::Names;
 use crate::notes::{Event, Note};
-use crate::taking::taking_sentence;
+use crate::taking::{taking_sentence, writing_sentence};
+use crate::written::{Written, written_in};
 use histar_flat::{Name, ProcName};
 use histar_lint::finding;
 use histar_texts::push_process;
 use std::alloc::{AllocError, Global};
 
-/// The sets of names that warnings depend on.
+/// What warnings depend on, beside the call line.
 #[derive(Drop)]
 pub(crate) struct Known {
     /// The processes that were started so far.
     started: Names,
     /// The processes that make a call somewhere, and those above them.
     used: Names,
+    /// Who writes where, somewhere in the script.
+    written: Written,
 }
 
 /// Returns the sentence that a process was never started.
@@ -27,7 +31,7 @@ fn never_started(alloc: Global, process: &ProcName) -> Result<Vec<u8>, AllocErro
     ensures { IfOk result (λ said. said.items ≡ never_started process.now) }
 {
     let mut said = Vec::new(alloc);
-    push_process(&mut said, process)?;
+    push_process(alloc, &mut said, process)?;
     said.extend_from_slice(b" was never started")?;
     Ok(said)
 }
@@ -37,7 +41,7 @@ fn never_used(alloc: Global, job: &ProcName) -> Result<Vec<u8>, AllocError>
     ensures { IfOk result (λ said. said.items ≡ never_used job.now) }
 {
     let mut said = Vec::from_slice(alloc, b"job ".as_slice())?;
-    push_process(&mut said, job)?;
+    push_process(alloc, &mut said, job)?;
     said.extend_from_slice(b" is never used")?;
     Ok(said)
 }
@@ -75,13 +79,49 @@ fn sentence_on(
             Ok(Some(never_used(alloc, job)?))
         }
         Event::WrongPassword(user) => Ok(Some(wrong_password(alloc, user)?)),
-        Event::MayBeTaken(path, takers) => taking_sentence(alloc, &path.path(), takers.names()),
+        Event::Made(made) => taking_sentence(alloc, made),
         _ => Ok(None),
     }
 }
 
-/// Adds the warning on a call line, if there is one.
-fn push_warning(
+/// Returns the sentence on who may write what a call line made, if there is one.
+fn writing_sentence_on(
+    alloc: Global,
+    known: &Known,
+    event: &Event,
+) -> Result<Option<Vec<u8>>, AllocError>
+    ensures { IfOk result (λ said.
+        IsWritingSentence known.now event.now (option_map (λ text. text.items) said)) }
+{
+    match event {
+        Event::Made(made) => {
+            let by_another = known.written.by_another(&made.maker, &made.path.path());
+            writing_sentence(alloc, made, by_another)
+        }
+        _ => Ok(None),
+    }
+}
+
+/// Adds the line of a warning, if there is one.
+fn push_line(
+    alloc: Global,
+    text: &mut Vec<u8>,
+    file: &[u8],
+    line: u32,
+    said: Option<Vec<u8>>,
+) -> Result<(), AllocError>
+    ensures { OnOk result (text.new.items ≡ text.old.items
+        ++ warning_line file.now line (option_map (λ text. text.items) said)) }
+{
+    let Some(said) = said else {
+        return Ok(());
+    };
+    let found = finding(alloc, file, line, said.as_slice())?;
+    text.extend_from_slice(found.as_slice())
+}
+
+/// Adds the warnings on a call line.
+fn push_warnings(
     alloc: Global,
     text: &mut Vec<u8>,
     file: &[u8],
@@ -90,11 +130,10 @@ fn push_warning(
 ) -> Result<(), AllocError>
     ensures { OnOk result (Warns known.now file.now note.now text.old.items text.new.items) }
 {
-    let Some(said) = sentence_on(alloc, known, &note.process, &note.event)? else {
-        return Ok(());
-    };
-    let line = finding(alloc, file, note.line, said.as_slice())?;
-    text.extend_from_slice(line.as_slice())
+    let said = sentence_on(alloc, known, &note.process, &note.event)?;
+    push_line(alloc, text, file, note.line, said)?;
+    let on_writing = writing_sentence_on(alloc, known, &note.event)?;
+    push_line(alloc, text, file, note.line, on_writing)
 }
 
 /// Adds the process that was started, if one was.
@@ -130,10 +169,15 @@ pub(crate) fn warnings_on(
     let mut started = Names::new(alloc);
     started.add(&ProcName::zero())?;
     let used = used_names(alloc, script)?;
-    let mut known = Known { started, used };
+    let written = written_in(alloc, script)?;
+    let mut known = Known {
+        started,
+        used,
+        written,
+    };
     let mut text = Vec::new(alloc);
     'notes: for note in script {
-        push_warning(alloc, &mut text, file, &known, note)?;
+        push_warnings(alloc, &mut text, file, &known, note)?;
         add_child(&mut known.started, &note.event)?;
     }
     Ok(text)

@@ -16,7 +16,7 @@ use Rattle.histar_prefix.specs.Prefix.{IsMachineOf, ShowsAfter, calls_before, is
 
 -- the machine represents the flat state after one call
 pub after_call : (old new : MachineModel) (line : ℕ) (process : ProcName) (call : UnixCall) (reply : Reply)
-    → FollowsMeaning old new line process call (Ok reply)
+    → FollowsMeaning (Unit {0}) old new line process call (Ok reply)
     → ShowsAfter old new (record { line = line; process = process; call = call } ∷ [])
 after_call old new line process call reply means accounts f shows = (means accounts f shows).shows
 

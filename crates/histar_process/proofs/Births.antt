@@ -24,51 +24,52 @@ use Rattle.histar_process.specs.Parts.{write_status}
 -- ---- a raw call with the expected arguments
 
 module _ (t : ℕ) (old new : KernelModel) where
-  pub container_so : (container : ℕ) (label due : Levels) → label ≡ due → (result : Result ℕ CallError)
-      → RunsPart (ask (MakeContainer container label)) old new t result
-      → RunsPart (ask (MakeContainer container due)) old new t result
-  container_so container label due is result runs =
-      subst (λ (l : Levels). RunsPart {A = ℕ} (ask (MakeContainer container l)) old new t result) is runs
+  pub container_so : {M : Type 0} → (container : ℕ) (label due : Levels) → label ≡ due → (result : Result ℕ CallError)
+      → RunsPart M (ask (MakeContainer container label)) old new t result
+      → RunsPart M (ask (MakeContainer container due)) old new t result
+  container_so {M} container label due is result runs =
+      subst (λ (l : Levels). RunsPart {A = ℕ} M (ask (MakeContainer container l)) old new t result) is runs
 
-  pub guarded_so : (container : ℕ) (secret due : List ℕ) (write : ℕ) → secret ≡ due → (result : Result ℕ CallError)
-      → RunsPart (ask (MakeContainer container (guarded_by secret (write ∷ [])))) old new t result
-      → RunsPart (ask (MakeContainer container (guarded_by due (write ∷ [])))) old new t result
+  pub guarded_so : {M : Type 0} → (container : ℕ) (secret due : List ℕ) (write : ℕ) → secret ≡ due → (result : Result ℕ CallError)
+      → RunsPart M (ask (MakeContainer container (guarded_by secret (write ∷ [])))) old new t result
+      → RunsPart M (ask (MakeContainer container (guarded_by due (write ∷ [])))) old new t result
   guarded_so container secret due write is =
       container_so container (guarded_by secret (write ∷ [])) (guarded_by due (write ∷ []))
       (ap (λ (cs : List ℕ). guarded_by cs (write ∷ [])) is)
 
-  pub thread_so : (internal : ℕ) (label label_due clearance clearance_due : Levels) → label ≡ label_due
+  pub thread_so : {M : Type 0} → (internal : ℕ) (label label_due clearance clearance_due : Levels) → label ≡ label_due
       → clearance ≡ clearance_due → (result : Result ℕ CallError)
-      → RunsPart (ask (MakeThread internal label clearance)) old new t result
-      → RunsPart (ask (MakeThread internal label_due clearance_due)) old new t result
-  thread_so internal label label_due clearance clearance_due p q result runs =
-      subst (λ (l : Levels). RunsPart {A = ℕ} (ask (MakeThread internal l clearance_due)) old new t result) p
-      (subst (λ (l : Levels). RunsPart {A = ℕ} (ask (MakeThread internal label l)) old new t result) q runs)
+      → RunsPart M (ask (MakeThread internal label clearance)) old new t result
+      → RunsPart M (ask (MakeThread internal label_due clearance_due)) old new t result
+  thread_so {M} internal label label_due clearance clearance_due p q result runs =
+      subst (λ (l : Levels). RunsPart {A = ℕ} M (ask (MakeThread internal l clearance_due)) old new t result) p
+      (subst (λ (l : Levels). RunsPart {A = ℕ} M (ask (MakeThread internal label l)) old new t result) q runs)
 
-  pub segment_so : (container : ℕ) (label label_due : Levels) (bytes bytes_due : List ℕ) → label ≡ label_due
+  pub segment_so : {M : Type 0} → (container : ℕ) (label label_due : Levels) (bytes bytes_due : List ℕ) → label ≡ label_due
       → bytes ≡ bytes_due → (result : Result ℕ CallError)
-      → RunsPart (ask (MakeSegment container label bytes)) old new t result
-      → RunsPart (ask (MakeSegment container label_due bytes_due)) old new t result
-  segment_so container label label_due bytes bytes_due p q result runs =
-      subst (λ (l : Levels). RunsPart {A = ℕ} (ask (MakeSegment container l bytes_due)) old new t result) p
-      (subst (λ (bs : List ℕ). RunsPart {A = ℕ} (ask (MakeSegment container label bs)) old new t result) q runs)
+      → RunsPart M (ask (MakeSegment container label bytes)) old new t result
+      → RunsPart M (ask (MakeSegment container label_due bytes_due)) old new t result
+  segment_so {M} container label label_due bytes bytes_due p q result runs =
+      subst (λ (l : Levels). RunsPart {A = ℕ} M (ask (MakeSegment container l bytes_due)) old new t result) p
+      (subst (λ (bs : List ℕ). RunsPart {A = ℕ} M (ask (MakeSegment container label bs)) old new t result) q runs)
 
-  pub written_so : (home : Home) (bytes due : List ℕ) → bytes ≡ due → (result : Result (Unit {0}) CallError)
-      → RunsPart (ask (Write home.container home.segment 0 bytes)) old new t result
-      → RunsPart (ask (Write home.container home.segment 0 due)) old new t result
-  written_so home bytes due is result runs =
-      subst (λ (bs : List ℕ). RunsPart {A = Unit {0}} (ask (Write home.container home.segment 0 bs)) old new t result)
+  pub written_so : {M : Type 0} → (home : Home) (bytes due : List ℕ) → bytes ≡ due → (result : Result (Unit {0}) CallError)
+      → RunsPart M (ask (Write home.container home.segment 0 bytes)) old new t result
+      → RunsPart M (ask (Write home.container home.segment 0 due)) old new t result
+  written_so {M} home bytes due is result runs =
+      subst (λ (bs : List ℕ). RunsPart {A = Unit {0}} M (ask (Write home.container home.segment 0 bs)) old new t result)
       is runs
 
 -- memory ran out before a process segment was written
-pub before_write : (t : ℕ) (home : Home) (status : ProcessStatus) (k : KernelModel) → RunsPart (write_status home status) k k t (Err Stopped)
-before_write t home status k = before_ask t (Write home.container home.segment 0 (status_bytes status)) k
+pub before_write : {M : Type 0} → (t : ℕ) (home : Home) (status : ProcessStatus) (k : KernelModel) → M
+    → RunsPart M (write_status home status) k k t (Err Stopped)
+before_write t home status k memory = before_ask t (Write home.container home.segment 0 (status_bytes status)) k memory
 
 -- memory ran out before a process segment was made
-pub before_segment : (t : ℕ) (body : Body) (jobs : List ℕ) (write : ℕ) (k : KernelModel)
-    → RunsPart (make_segment body.container jobs write body.internal body.thread) k k t (Err Stopped)
-before_segment t body jobs write k =
-    before_ask t (MakeSegment body.container (guarded_by jobs (write ∷ [])) (status_bytes (started body.internal body.thread))) k
+pub before_segment : {M : Type 0} → (t : ℕ) (body : Body) (jobs : List ℕ) (write : ℕ) (k : KernelModel) → M
+    → RunsPart M (make_segment body.container jobs write body.internal body.thread) k k t (Err Stopped)
+before_segment t body jobs write k memory =
+    before_ask t (MakeSegment body.container (guarded_by jobs (write ∷ [])) (status_bytes (started body.internal body.thread))) k memory
 
 -- ---- the two categories
 
@@ -81,20 +82,20 @@ abbrev after_both : ℕ → ℕ → Part (ℕ × ℕ)
 after_both a b rest = rest (a, b)
 
 module _ (t : ℕ) (old new : KernelModel) where
-  pub no_read : (call_error : CallError) → RunsPart (ask MakeCategory) old new t (Err call_error)
-      → RunsPart make_categories old new t (Err call_error)
+  pub no_read : {M : Type 0} → (call_error : CallError) → RunsPart M (ask MakeCategory) old new t (Err call_error)
+      → RunsPart M make_categories old new t (Err call_error)
   unfolding make_categories
   no_read call_error first = part_fails t (ask MakeCategory) old new after_read call_error first
 
-  module _ (mid : KernelModel) (read : ℕ) (first : RunsPart (ask MakeCategory) old mid t (Ok read)) where
-    pub no_write : (call_error : CallError) → RunsPart (ask MakeCategory) mid new t (Err call_error)
-        → RunsPart make_categories old new t (Err call_error)
+  module _ {M : Type 0} (mid : KernelModel) (read : ℕ) (first : RunsPart M (ask MakeCategory) old mid t (Ok read)) where
+    pub no_write : (call_error : CallError) → RunsPart M (ask MakeCategory) mid new t (Err call_error)
+        → RunsPart M make_categories old new t (Err call_error)
     unfolding make_categories
     no_write call_error second =
         then_part t (ask MakeCategory) old new after_read mid read first (Err call_error)
         (part_fails t (ask MakeCategory) mid new (after_both read) call_error second)
 
-    pub categories : (write : ℕ) → RunsPart (ask MakeCategory) mid new t (Ok write) → RunsPart make_categories old new t (Ok (read, write))
+    pub categories : (write : ℕ) → RunsPart M (ask MakeCategory) mid new t (Ok write) → RunsPart M make_categories old new t (Ok (read, write))
     unfolding make_categories
     categories write second =
         then_part t (ask MakeCategory) old new after_read mid read first (Ok (read, write))
@@ -114,25 +115,25 @@ module _ (t : ℕ) (old new : KernelModel) (parent : ℕ) (jobs : List ℕ) (rea
   abbrev after_container : ℕ → Part (ℕ × ℕ)
   after_container container rest = ask (inner container) (λ internal. rest (container, internal))
 
-  pub no_container : (call_error : CallError)
-      → RunsPart (ask (MakeContainer parent (guarded_by jobs (write ∷ [])))) old new t (Err call_error)
-      → RunsPart (make_containers parent jobs read write) old new t (Err call_error)
+  pub no_container : {M : Type 0} → (call_error : CallError)
+      → RunsPart M (ask (MakeContainer parent (guarded_by jobs (write ∷ [])))) old new t (Err call_error)
+      → RunsPart M (make_containers parent jobs read write) old new t (Err call_error)
   unfolding make_containers
   no_container call_error first = part_fails t (ask outer) old new after_container call_error first
 
-  module _ (mid : KernelModel) (container : ℕ)
-      (first : RunsPart (ask (MakeContainer parent (guarded_by jobs (write ∷ [])))) old mid t (Ok container)) where
+  module _ {M : Type 0} (mid : KernelModel) (container : ℕ)
+      (first : RunsPart M (ask (MakeContainer parent (guarded_by jobs (write ∷ [])))) old mid t (Ok container)) where
     pub no_internal : (call_error : CallError)
-        → RunsPart (ask (MakeContainer container (guarded_by (read ∷ jobs) (write ∷ [])))) mid new t (Err call_error)
-        → RunsPart (make_containers parent jobs read write) old new t (Err call_error)
+        → RunsPart M (ask (MakeContainer container (guarded_by (read ∷ jobs) (write ∷ [])))) mid new t (Err call_error)
+        → RunsPart M (make_containers parent jobs read write) old new t (Err call_error)
     unfolding make_containers
     no_internal call_error second =
         then_part t (ask outer) old new after_container mid container first (Err call_error)
         (part_fails t (ask (inner container)) mid new (after_both container) call_error second)
 
     pub containers : (internal : ℕ)
-        → RunsPart (ask (MakeContainer container (guarded_by (read ∷ jobs) (write ∷ [])))) mid new t (Ok internal)
-        → RunsPart (make_containers parent jobs read write) old new t (Ok (container, internal))
+        → RunsPart M (ask (MakeContainer container (guarded_by (read ∷ jobs) (write ∷ [])))) mid new t (Ok internal)
+        → RunsPart M (make_containers parent jobs read write) old new t (Ok (container, internal))
     unfolding make_containers
     containers internal second =
         then_part t (ask outer) old new after_container mid container first (Ok (container, internal))
@@ -171,22 +172,23 @@ module _ (t : ℕ) (parent : ℕ) (newborn : Newborn) (old : KernelModel) where
   its_body = make_body parent (kin_of_newborn newborn) (own_of newborn)
 
   -- the two containers aren't made
-  pub without_containers : (new : KernelModel) (call_error : CallError) (result : Result Body CallError) → IsErrAnd result (λ e. e ≡ call_error)
-      → RunsPart both old new t (Err call_error) → RunsPart its_body old new t result
+  pub without_containers : {M : Type 0} → (new : KernelModel) (call_error : CallError) (result : Result Body CallError)
+      → IsErrAnd result (λ e. e ≡ call_error)
+      → RunsPart M both old new t (Err call_error) → RunsPart M its_body old new t result
   without_containers = ends_in_so both after_containers (whole_part t its_body old)
 
-  module _ (mid : KernelModel) (made : ℕ × ℕ) (first : RunsPart both old mid t (Ok made)) (new : KernelModel) where
+  module _ {M : Type 0} (mid : KernelModel) (made : ℕ × ℕ) (first : RunsPart M both old mid t (Ok made)) (new : KernelModel) where
     -- the two containers are made
-    with_containers : LeavesPart Body t its_body old (after_containers made) mid
+    with_containers : LeavesPart M Body t its_body old (after_containers made) mid
     with_containers = further_in both after_containers (whole_part t its_body old) mid made first
 
     -- the thread isn't made
     pub without_thread : (call_error : CallError) (result : Result Body CallError) → IsErrAnd result (λ e. e ≡ call_error)
-        → RunsPart (child made) mid new t (Err call_error) → RunsPart its_body old new t result
+        → RunsPart M (child made) mid new t (Err call_error) → RunsPart M its_body old new t result
     without_thread = ends_in_so (child made) (after_thread made) with_containers new
 
     -- the containers and the thread are made
-    pub with_thread : (thread : ℕ) → RunsPart (child made) mid new t (Ok thread) → RunsPart its_body old new t (Ok (body_of made thread))
+    pub with_thread : (thread : ℕ) → RunsPart M (child made) mid new t (Ok thread) → RunsPart M its_body old new t (Ok (body_of made thread))
     with_thread thread second =
         (further_in (child made) (after_thread made) with_containers new thread second).leads new (Ok (body_of made thread))
         (hands t new (body_of made thread))
@@ -213,38 +215,40 @@ module _ (t : ℕ) (parent : Home) (status : ProcessStatus) (newborn : Newborn) 
   body_there = make_body parent.container (kin_of_newborn newborn) (own_of newborn)
 
   -- the containers and the thread aren't made
-  pub without_body : (new : KernelModel) (call_error : CallError) (result : Result (Unit {0}) CallError) → IsErrAnd result (λ e. e ≡ call_error)
-      → RunsPart body_there old new t (Err call_error) → RunsPart its_objects old new t result
+  pub without_body : {M : Type 0} → (new : KernelModel) (call_error : CallError) (result : Result (Unit {0}) CallError)
+      → IsErrAnd result (λ e. e ≡ call_error)
+      → RunsPart M body_there old new t (Err call_error) → RunsPart M its_objects old new t result
   without_body = ends_in_so body_there after_body (whole_part t its_objects old)
 
-  module _ (mid : KernelModel) (body : Body) (first : RunsPart body_there old mid t (Ok body)) where
+  module _ {M : Type 0} (mid : KernelModel) (body : Body) (first : RunsPart M body_there old mid t (Ok body)) where
     -- these are made
-    with_body : LeavesPart (Unit {0}) t its_objects old (after_body body) mid
+    with_body : LeavesPart M (Unit {0}) t its_objects old (after_body body) mid
     with_body = further_in body_there after_body (whole_part t its_objects old) mid body first
 
     -- the process segment isn't made
     pub without_segment : (new : KernelModel) (call_error : CallError) (result : Result (Unit {0}) CallError) → IsErrAnd result (λ e. e ≡ call_error)
-        → RunsPart (segment_of body) mid new t (Err call_error) → RunsPart its_objects old new t result
+        → RunsPart M (segment_of body) mid new t (Err call_error) → RunsPart M its_objects old new t result
     without_segment = ends_in_so (segment_of body) (after_segment body) with_body
 
     -- the process segment is made, and the child is still to be added to the segment of its parent
-    pub with_segment : (later : KernelModel) (segment : ℕ) → RunsPart (segment_of body) mid later t (Ok segment)
-        → LeavesPart (Unit {0}) t its_objects old (after_segment body segment) later
+    pub with_segment : (later : KernelModel) (segment : ℕ) → RunsPart M (segment_of body) mid later t (Ok segment)
+        → LeavesPart M (Unit {0}) t its_objects old (after_segment body segment) later
     with_segment = further_in (segment_of body) (after_segment body) with_body
 
 module _ (t : ℕ) (parent : Home) (status : ProcessStatus) (kin : Kin) (old : KernelModel) where
   -- at first the whole birth is left
-  begun : LeavesPart (Unit {0}) t (birth parent status kin) old (λ rest. make_categories (λ own. make_objects parent status kin own rest)) old
+  begun : {M : Type 0}
+      → LeavesPart M (Unit {0}) t (birth parent status kin) old (λ rest. make_categories (λ own. make_objects parent status kin own rest)) old
   unfolding birth make_categories make_containers
   begun = record { leads = λ new result on. on }
 
   -- the two categories aren't made
-  pub without_categories : (new : KernelModel) (call_error : CallError) (result : Result (Unit {0}) CallError)
-      → IsErrAnd result (λ e. e ≡ call_error) → RunsPart make_categories old new t (Err call_error)
-      → RunsPart (birth parent status kin) old new t result
+  pub without_categories : {M : Type 0} → (new : KernelModel) (call_error : CallError) (result : Result (Unit {0}) CallError)
+      → IsErrAnd result (λ e. e ≡ call_error) → RunsPart M make_categories old new t (Err call_error)
+      → RunsPart M (birth parent status kin) old new t result
   without_categories = ends_in_so make_categories (make_objects parent status kin) begun
 
   -- the two categories are made, and the objects are still to be made
-  pub with_categories : (mid : KernelModel) (own : ℕ × ℕ) → RunsPart make_categories old mid t (Ok own)
-      → LeavesPart (Unit {0}) t (birth parent status kin) old (make_objects parent status kin own) mid
+  pub with_categories : {M : Type 0} → (mid : KernelModel) (own : ℕ × ℕ) → RunsPart M make_categories old mid t (Ok own)
+      → LeavesPart M (Unit {0}) t (birth parent status kin) old (make_objects parent status kin own) mid
   with_categories = further_in make_categories (make_objects parent status kin) begun

@@ -40,24 +40,24 @@ no_fault bytes status number fault revealed is = differ (is ∙ ap (λ o. look_f
 
 module _ (t : ℕ) (old new : KernelModel) where
   -- the kernel was asked for the expected object
-  pub unlinked_so : (container container_due object object_due : ℕ) → container ≡ container_due → object ≡ object_due
-      → (result : Result (Unit {0}) CallError) → RunsPart (ask (Unlink container object)) old new t result
-      → RunsPart (ask (Unlink container_due object_due)) old new t result
-  unlinked_so container container_due object object_due p q result runs =
-      subst (λ (c : ℕ). RunsPart {A = Unit {0}} (ask (Unlink c object_due)) old new t result) p
-      (subst (λ (o : ℕ). RunsPart {A = Unit {0}} (ask (Unlink container o)) old new t result) q runs)
+  pub unlinked_so : {M : Type 0} → (container container_due object object_due : ℕ) → container ≡ container_due → object ≡ object_due
+      → (result : Result (Unit {0}) CallError) → RunsPart M (ask (Unlink container object)) old new t result
+      → RunsPart M (ask (Unlink container_due object_due)) old new t result
+  unlinked_so {M} container container_due object object_due p q result runs =
+      subst (λ (c : ℕ). RunsPart {A = Unit {0}} M (ask (Unlink c object_due)) old new t result) p
+      (subst (λ (o : ℕ). RunsPart {A = Unit {0}} M (ask (Unlink container o)) old new t result) q runs)
 
   -- a birth with the expected kin
-  pub born_so : (parent : Home) (status : ProcessStatus) (kin due : Kin) → kin ≡ due
-      → (result : Result (Unit {0}) CallError) → RunsPart (birth parent status kin) old new t result
-      → RunsPart (birth parent status due) old new t result
-  born_so parent status kin due is result runs = subst (λ (k : Kin). RunsPart {A = Unit {0}} (birth parent status k) old new t result) is runs
+  pub born_so : {M : Type 0} → (parent : Home) (status : ProcessStatus) (kin due : Kin) → kin ≡ due
+      → (result : Result (Unit {0}) CallError) → RunsPart M (birth parent status kin) old new t result
+      → RunsPart M (birth parent status due) old new t result
+  born_so {M} parent status kin due is result runs = subst (λ (k : Kin). RunsPart {A = Unit {0}} M (birth parent status k) old new t result) is runs
 
 -- memory ran out before a birth
-pub before_birth : (t : ℕ) (parent : Home) (status : ProcessStatus) (kin : Kin) (k : KernelModel)
-    → RunsPart (birth parent status kin) k k t (Err Stopped)
-before_birth t parent status kin k =
-    without_categories t parent status kin k k Stopped (Err Stopped) refl (no_read t k k Stopped (before_ask t MakeCategory k))
+pub before_birth : {M : Type 0} → (t : ℕ) (parent : Home) (status : ProcessStatus) (kin : Kin) (k : KernelModel) → M
+    → RunsPart M (birth parent status kin) k k t (Err Stopped)
+before_birth t parent status kin k memory =
+    without_categories t parent status kin k k Stopped (Err Stopped) refl (no_read t k k Stopped (before_ask t MakeCategory k memory))
 
 -- the kin that the code computed are those that the label determines
 pub kin_is : (own : Levels) (accounts : Accounts) (user : ℕ) (in_job : Bool) (owned jobs : List ℕ)

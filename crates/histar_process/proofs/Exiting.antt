@@ -32,45 +32,47 @@ module _ (me : Home) (number : ℕ) where
   after_status status = end_process me status number (λ (done : Unit {0}). Answers Done)
 
   -- at first the whole program is left
-  begun : (t : ℕ) (old : KernelModel) → Leaves t (exit_program me number) old (read_status me after_status) old
+  begun : {M : Type 0} → (t : ℕ) (old : KernelModel) → Leaves M t (exit_program me number) old (read_status me after_status) old
   unfolding exit_program
   begun t old = record { leads = λ new result on. on }
 
   module _ (t : ℕ) (old : KernelModel) where
     -- the process's segment isn't read
-    pub not_read : (new : KernelModel) (call_error : CallError) (result : Result Reply CallError) → IsErrAnd result (λ e. e ≡ call_error)
-        → RunsPart (read_status me) old new t (Err call_error) → Runs (exit_program me number) old new t (settled result)
+    pub not_read : {M : Type 0} → (new : KernelModel) (call_error : CallError) (result : Result Reply CallError)
+        → IsErrAnd result (λ e. e ≡ call_error)
+        → RunsPart M (read_status me) old new t (Err call_error) → Runs M (exit_program me number) old new t (settled result)
     not_read = ends_so (read_status me) after_status (begun t old)
 
-    module _ (mid : KernelModel) (segment : Segment) (read : RunsReading me old mid t (Ok segment)) (new : KernelModel) where
+    module _ {M : Type 0} (mid : KernelModel) (segment : Segment) (read : RunsReading M me old mid t (Ok segment)) (new : KernelModel) where
       -- its segment is read
-      with_status : Leaves t (exit_program me number) old (after_status read.0) mid
+      with_status : Leaves M t (exit_program me number) old (after_status read.0) mid
       with_status = further (read_status me) after_status (begun t old) mid read.0 read.2
 
       -- the process isn't ended
       pub not_ended : (call_error : CallError) (result : Result Reply CallError) → IsErrAnd result (λ e. e ≡ call_error)
-          → EndsProcess me segment number mid new t (Err call_error) → Runs (exit_program me number) old new t (settled result)
+          → EndsProcess M me segment number mid new t (Err call_error) → Runs M (exit_program me number) old new t (settled result)
       not_ended call_error result gave ends =
           ends_so (end_process me read.0 number) (λ (done : Unit {0}). Answers Done) with_status new call_error result gave (ends read.0 read.1)
 
       -- the process is ended
-      pub ended : EndsProcess me segment number mid new t (Ok tt) → Runs (exit_program me number) old new t (Ok Done)
+      pub ended : EndsProcess M me segment number mid new t (Ok tt) → Runs M (exit_program me number) old new t (Ok Done)
       ended ends =
           (further (end_process me read.0 number) (λ (done : Unit {0}). Answers Done) with_status new tt (ends read.0 read.1)).leads new (Ok Done)
           (says t new Done)
 
 module _ (t : ℕ) (me : Home) (status : ProcessStatus) (number : ℕ) (old new : KernelModel) where
   -- the segment isn't written, and with it the process isn't ended
-  pub not_written : (call_error : CallError) (result : Result (Unit {0}) CallError) → IsErrAnd result (λ e. e ≡ call_error)
-      → RunsPart (write_status me (once_exited number status)) old new t (Err call_error) → RunsPart (end_process me status number) old new t result
+  pub not_written : {M : Type 0} → (call_error : CallError) (result : Result (Unit {0}) CallError) → IsErrAnd result (λ e. e ≡ call_error)
+      → RunsPart M (write_status me (once_exited number status)) old new t (Err call_error)
+      → RunsPart M (end_process me status number) old new t result
   not_written =
       ends_in_so (write_status me (once_exited number status)) (after_write me number status)
       (whole_part t (end_process me status number) old) new
 
   -- the segment is written, and the internal container that it shows is all that is left to unlink
-  pub unlinked : (segment : Segment) → IsSegment segment status → (mid : KernelModel)
-      → RunsPart (write_status me (once_exited number status)) old mid t (Ok tt) → (result : Result (Unit {0}) CallError)
-      → RunsPart (ask (Unlink me.container segment.head.internal)) mid new t result → RunsPart (end_process me status number) old new t result
+  pub unlinked : {M : Type 0} → (segment : Segment) → IsSegment segment status → (mid : KernelModel)
+      → RunsPart M (write_status me (once_exited number status)) old mid t (Ok tt) → (result : Result (Unit {0}) CallError)
+      → RunsPart M (ask (Unlink me.container segment.head.internal)) mid new t result → RunsPart M (end_process me status number) old new t result
   unlinked segment shown mid written result unlinks =
       (further_in (write_status me (once_exited number status)) (after_write me number status)
       (whole_part t (end_process me status number) old) mid tt written).leads new result

@@ -31,37 +31,39 @@ after_depth home done rest = read_status home (λ status. if_room status rest)
 
 module _ (t : ℕ) (name : ProcName) (home : Home) (old : KernelModel) where
   -- an error that `?` passed on
-  fails : (new : KernelModel) (call_error : CallError) (result : Result Segment CallError) → IsErrAnd result (λ e. e ≡ call_error)
-      → RunsPart (room_for_child name home) old new t (Err call_error) → RunsRoom name home old new t result
-  fails new call_error result gave first =
+  fails : {M : Type 0} → (new : KernelModel) (call_error : CallError) (result : Result Segment CallError)
+      → IsErrAnd result (λ e. e ≡ call_error)
+      → RunsPart M (room_for_child name home) old new t (Err call_error) → RunsRoom M name home old new t result
+  fails {M} new call_error result gave first =
       let error = err_from_is_err_and result gave in
-      subst (RunsRoom name home old new t) (sym (error.1 ∙ ap Err error.2)) first
+      subst (RunsRoom M name home old new t) (sym (error.1 ∙ ap Err error.2)) first
 
   -- whether the name has room for one number more
   abbrev deep : Result (Unit {0}) Errno
   deep = must_have_room (nat_lt (length name) most_numbers)
 
   -- the name has no room
-  pub depth_fails : (errno : Errno) (result : Result Segment CallError) → IsErrAnd result (λ e. e ≡ Refused errno) → Err errno ≡ deep
-      → RunsRoom name home old old t result
-  depth_fails errno result gave is =
+  pub depth_fails : (M : Type 0) (errno : Errno) (result : Result Segment CallError) → IsErrAnd result (λ e. e ≡ Refused errno)
+      → Err errno ≡ deep
+      → RunsRoom M name home old old t result
+  depth_fails M errno result gave is =
       fails old (Refused errno) result gave (part_fails t (given deep) old old (after_depth home) (Refused errno) (decided_not t old deep errno is))
 
   module _ (new : KernelModel) (is_deep : Ok tt ≡ deep) where
     -- the name has room
-    with_depth : LeavesPart ProcessStatus t (room_for_child name home) old (after_depth home tt) old
+    with_depth : {M : Type 0} → LeavesPart M ProcessStatus t (room_for_child name home) old (after_depth home tt) old
     with_depth =
         further_in (given deep) (after_depth home) (whole_part t (room_for_child name home) old) old tt (decided t old deep tt is_deep)
 
     -- the segment was not read
-    pub reading_fails : (call_error : CallError) (result : Result Segment CallError) → IsErrAnd result (λ e. e ≡ call_error)
-        → RunsPart (read_status home) old new t (Err call_error) → RunsRoom name home old new t result
+    pub reading_fails : {M : Type 0} → (call_error : CallError) (result : Result Segment CallError) → IsErrAnd result (λ e. e ≡ call_error)
+        → RunsPart M (read_status home) old new t (Err call_error) → RunsRoom M name home old new t result
     reading_fails call_error result gave first =
         fails new call_error result gave (ends_in (read_status home) if_room with_depth new call_error first)
 
-    module _ (segment : Segment) (read : RunsReading home old new t (Ok segment)) where
+    module _ {M : Type 0} (segment : Segment) (read : RunsReading M home old new t (Ok segment)) where
       -- the segment was read
-      with_status : LeavesPart ProcessStatus t (room_for_child name home) old (if_room read.0) new
+      with_status : LeavesPart M ProcessStatus t (room_for_child name home) old (if_room read.0) new
       with_status = further_in (read_status home) if_room with_depth new read.0 read.2
 
       -- whether there is room for one child more
@@ -74,13 +76,13 @@ module _ (t : ℕ) (name : ProcName) (home : Home) (old : KernelModel) where
 
       -- too many children were born
       pub room_fails : (errno : Errno) (result : Result Segment CallError) → IsErrAnd result (λ e. e ≡ Refused errno)
-          → Err errno ≡ roomy segment.head → RunsRoom name home old new t result
+          → Err errno ≡ roomy segment.head → RunsRoom M name home old new t result
       room_fails errno result gave is =
           fails new (Refused errno) result gave (ends_in (given (roomy (head_of read.0))) after_room with_status new (Refused errno)
           (decided_not t new (roomy (head_of read.0)) errno (is ∙ ap roomy read.1.head)))
 
       -- there is room for one child more
-      pub room_is_there : Ok tt ≡ roomy segment.head → RunsRoom name home old new t (Ok segment)
+      pub room_is_there : Ok tt ≡ roomy segment.head → RunsRoom M name home old new t (Ok segment)
       room_is_there is = (
         read.0,
         read.1,

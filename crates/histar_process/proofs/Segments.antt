@@ -11,6 +11,7 @@ use Rattle.histar_flat.specs.declared.replies.Errno.{Errno}
 use Rattle.histar_flat.specs.declared.replies.Errno.TheVariants.{ESRCH}
 use Rattle.histar_rules.specs.declared.raw.RawCall.TheVariants.{Read}
 use Rattle.histar_rules.specs.declared.raw.Refusal.{Refusal}
+use Rattle.histar_rules.specs.Memory.{OnOutOfMemory}
 use Rattle.histar_rules.specs.RawAnswers.{IsAnswer}
 use Rattle.histar_syscall.specs.KernelModel.{KernelModel, ReadsLent, state}
 use Rattle.histar_layout.specs.Status.{ProcessStatus, child_at, head_of, look_for, status_in}
@@ -61,18 +62,20 @@ child_looked (Some status) number found e = (status, refl, ap of_ok e)
 module _ (t : ℕ) (old new : KernelModel) (home : Home) (result : Result (Bor (List ℕ)) Refusal)
     (lent : ReadsLent old t home.container home.segment result new) where
   -- the kernel lent the bytes of the segment
-  pub bytes_lent : (bytes : Bor (List ℕ)) → result ≡ Ok bytes → RunsPart (ask (Read home.container home.segment)) old new t (Ok bytes.now)
+  pub bytes_lent : {M : Type 0} → (bytes : Bor (List ℕ)) → result ≡ Ok bytes
+      → RunsPart M (ask (Read home.container home.segment)) old new t (Ok bytes.now)
   bytes_lent bytes is =
       let answered = subst (λ (r : Result (Bor (List ℕ)) Refusal). ReadsLent old t home.container home.segment r new) is lent in
       grants t (Read home.container home.segment) old new bytes.now answered.0 answered.1
 
   -- the kernel lent no bytes
-  pub not_lent : (refusal : Refusal) → result ≡ Err refusal
-      → RunsPart (ask (Read home.container home.segment)) old new t (Err (call_error_of (errno_for (Read home.container home.segment)) refusal))
-  not_lent refusal is =
+  pub not_lent : {M : Type 0} → (refusal : Refusal) → result ≡ Err refusal → OnOutOfMemory result M
+      → RunsPart M (ask (Read home.container home.segment)) old new t (Err (call_error_of (errno_for (Read home.container home.segment)) refusal))
+  not_lent {M} refusal is memory =
       refuses t (Read home.container home.segment) old new
       (λ (bytes : Bor (List ℕ)). IsAnswer (state old) t (Read home.container home.segment) bytes.now) refusal
       (subst (λ (r : Result (Bor (List ℕ)) Refusal). ReadsLent old t home.container home.segment r new) is lent)
+      (subst (λ (r : Result (Bor (List ℕ)) Refusal). OnOutOfMemory r M) is memory)
 
 -- what comes after the bytes of a process segment
 abbrev after_bytes : List ℕ → Part ProcessStatus
@@ -80,16 +83,16 @@ after_bytes bytes rest = if_there ESRCH rest (status_in bytes)
 
 module _ (t : ℕ) (old new : KernelModel) (home : Home) where
   -- the segment was not read
-  pub read_fails : (call_error : CallError)
-      → RunsPart (ask (Read home.container home.segment)) old new t (Err call_error)
-      → RunsPart (read_status home) old new t (Err call_error)
+  pub read_fails : {M : Type 0} → (call_error : CallError)
+      → RunsPart M (ask (Read home.container home.segment)) old new t (Err call_error)
+      → RunsPart M (read_status home) old new t (Err call_error)
   unfolding read_status
   read_fails call_error first = part_fails t (ask (Read home.container home.segment)) old new after_bytes call_error first
 
   -- the head of the segment was not read
-  pub head_fails : (call_error : CallError)
-      → RunsPart (ask (Read home.container home.segment)) old new t (Err call_error)
-      → RunsPart (read_head home) old new t (Err call_error)
+  pub head_fails : {M : Type 0} → (call_error : CallError)
+      → RunsPart M (ask (Read home.container home.segment)) old new t (Err call_error)
+      → RunsPart M (read_head home) old new t (Err call_error)
   unfolding read_head
   head_fails call_error first =
       part_fails t (read_status home) old new
@@ -97,39 +100,39 @@ module _ (t : ℕ) (old new : KernelModel) (home : Home) where
       (read_fails call_error first)
 
   -- no child was looked up
-  pub look_fails : (call_error : CallError) (number : ℕ)
-      → RunsPart (ask (Read home.container home.segment)) old new t (Err call_error)
-      → RunsPart (look_up home number) old new t (Err call_error)
+  pub look_fails : {M : Type 0} → (call_error : CallError) (number : ℕ)
+      → RunsPart M (ask (Read home.container home.segment)) old new t (Err call_error)
+      → RunsPart M (look_up home number) old new t (Err call_error)
   unfolding look_up
   look_fails call_error number first =
       part_fails t (read_status home) old new
       (λ (status : ProcessStatus) (rest : Option Child → Program). rest (child_at status.children number))
       call_error (read_fails call_error first)
 
-  module _ (bytes : List ℕ) (first : RunsPart (ask (Read home.container home.segment)) old new t (Ok bytes)) where
+  module _ {M : Type 0} (bytes : List ℕ) (first : RunsPart M (ask (Read home.container home.segment)) old new t (Ok bytes)) where
     -- the segment's bytes spell no status
-    reads_none : status_in bytes ≡ None → RunsPart (read_status home) old new t (Err (Refused ESRCH))
-    unfolding read_status RunsPart
+    reads_none : status_in bytes ≡ None → RunsPart M (read_status home) old new t (Err (Refused ESRCH))
+    unfolding read_status
     reads_none none =
         then_part t (ask (Read home.container home.segment)) old new after_bytes new bytes first (Err (Refused ESRCH))
         (subst (λ (o : Option ProcessStatus).
-        RunsPart {A = ProcessStatus} (λ rest. if_there ESRCH rest o) new new t (Err (Refused ESRCH))) (sym none)
+        RunsPart {A = ProcessStatus} M (λ rest. if_there ESRCH rest o) new new t (Err (Refused ESRCH))) (sym none)
         (refuses_at_once t ProcessStatus new ESRCH))
 
     -- the segment's bytes spell this status
-    reads : (status : ProcessStatus) → status_in bytes ≡ Some status → RunsPart (read_status home) old new t (Ok status)
+    reads : (status : ProcessStatus) → status_in bytes ≡ Some status → RunsPart M (read_status home) old new t (Ok status)
     unfolding read_status
     reads status is =
         then_part t (ask (Read home.container home.segment)) old new after_bytes new bytes first (Ok status)
         (subst (λ (o : Option ProcessStatus).
-        RunsPart {A = ProcessStatus} (λ rest. if_there ESRCH rest o) new new t (Ok status)) (sym is)
+        RunsPart {A = ProcessStatus} M (λ rest. if_there ESRCH rest o) new new t (Ok status)) (sym is)
         (hands t new status))
 
     -- the bytes have no head
-    pub segment_none : None ≡ option_map head_of (status_in bytes) → RunsPart (read_status home) old new t (Err (Refused ESRCH))
+    pub segment_none : None ≡ option_map head_of (status_in bytes) → RunsPart M (read_status home) old new t (Err (Refused ESRCH))
     segment_none none = reads_none (nothing_revealed (status_in bytes) none)
 
-    pub head_none : None ≡ option_map head_of (status_in bytes) → RunsPart (read_head home) old new t (Err (Refused ESRCH))
+    pub head_none : None ≡ option_map head_of (status_in bytes) → RunsPart M (read_head home) old new t (Err (Refused ESRCH))
     unfolding read_head
     head_none none =
         part_fails t (read_status home) old new
@@ -138,23 +141,23 @@ module _ (t : ℕ) (old new : KernelModel) (home : Home) where
 
     -- the bytes have this head
     pub segment_read : (head : StatusHead) → Some head ≡ option_map head_of (status_in bytes)
-        → RunsReading home old new t (Ok (record { head = head; bytes = bytes }))
+        → RunsReading M home old new t (Ok (record { head = head; bytes = bytes }))
     segment_read head is =
         let status_is = head_revealed (status_in bytes) head is in
         (status_is.0, record { status_is = status_is.1; head = status_is.2 }, reads status_is.0 status_is.1)
 
-    pub head_read : (head : StatusHead) → Some head ≡ option_map head_of (status_in bytes) → RunsPart (read_head home) old new t (Ok head)
+    pub head_read : (head : StatusHead) → Some head ≡ option_map head_of (status_in bytes) → RunsPart M (read_head home) old new t (Ok head)
     unfolding read_head
     head_read head is =
         let status_is = head_revealed (status_in bytes) head is in
-        subst (λ (h : StatusHead). RunsPart (read_head home) old new t (Ok h)) (sym status_is.2)
+        subst (λ (h : StatusHead). RunsPart M (read_head home) old new t (Ok h)) (sym status_is.2)
         (then_part t (read_status home) old new
         (λ (status : ProcessStatus) (rest : StatusHead → Program). rest (head_of status)) new status_is.0
         (reads status_is.0 status_is.1) (Ok (head_of status_is.0)) (hands t new (head_of status_is.0)))
 
     -- the bytes are no status to look a child up in
     pub look_none : (number : ℕ) (fault : NotAStatus) → Err fault ≡ look_for (status_in bytes) number
-        → RunsPart (look_up home number) old new t (Err (Refused ESRCH))
+        → RunsPart M (look_up home number) old new t (Err (Refused ESRCH))
     unfolding look_up
     look_none number fault is =
         part_fails t (read_status home) old new
@@ -163,34 +166,34 @@ module _ (t : ℕ) (old new : KernelModel) (home : Home) where
 
     -- the child of this number is looked up
     pub looks : (number : ℕ) (found : Option Child) → Ok found ≡ look_for (status_in bytes) number
-        → RunsPart (look_up home number) old new t (Ok found)
+        → RunsPart M (look_up home number) old new t (Ok found)
     unfolding look_up
     looks number found is =
         let status_is = child_looked (status_in bytes) number found is in
-        subst (λ (o : Option Child). RunsPart (look_up home number) old new t (Ok o)) (sym status_is.2)
+        subst (λ (o : Option Child). RunsPart M (look_up home number) old new t (Ok o)) (sym status_is.2)
         (then_part t (read_status home) old new
         (λ (status : ProcessStatus) (rest : Option Child → Program). rest (child_at status.children number)) new
         status_is.0 (reads status_is.0 status_is.1) (Ok (child_at status_is.0.children number))
         (hands t new (child_at status_is.0.children number)))
 
 -- an error that `?` passed on from a process segment
-pub reading_fails : (t : ℕ) (home : Home) (old new : KernelModel) (call_error : CallError)
+pub reading_fails : {M : Type 0} → (t : ℕ) (home : Home) (old new : KernelModel) (call_error : CallError)
     (result : Result Segment CallError) → IsErrAnd result (λ e. e ≡ call_error)
-    → RunsPart (read_status home) old new t (Err call_error) → RunsReading home old new t result
-reading_fails t home old new call_error result gave fails =
+    → RunsPart M (read_status home) old new t (Err call_error) → RunsReading M home old new t result
+reading_fails {M} t home old new call_error result gave fails =
     let error = err_from_is_err_and result gave in
-    subst (RunsReading home old new t) (sym (error.1 ∙ ap Err error.2)) fails
+    subst (RunsReading M home old new t) (sym (error.1 ∙ ap Err error.2)) fails
 
 -- ---- what was decided
 
 module _ {A : Type 0} (t : ℕ) (k : KernelModel) (due : Result A Errno) where
   -- the part passes on what was decided
-  pub decided : (x : A) → Ok x ≡ due → RunsPart (given due) k k t (Ok x)
-  decided x is = subst (λ (d : Result A Errno). RunsPart (given d) k k t (Ok x)) is (gives t k x)
+  pub decided : {M : Type 0} → (x : A) → Ok x ≡ due → RunsPart M (given due) k k t (Ok x)
+  decided {M} x is = subst (λ (d : Result A Errno). RunsPart M (given d) k k t (Ok x)) is (gives t k x)
 
   -- the call is refused by what was decided
-  pub decided_not : (errno : Errno) → Err errno ≡ due → RunsPart (given due) k k t (Err (Refused errno))
-  decided_not errno is = subst (λ (d : Result A Errno). RunsPart (given d) k k t (Err (Refused errno))) is (gives_not t A k errno)
+  pub decided_not : {M : Type 0} → (errno : Errno) → Err errno ≡ due → RunsPart M (given due) k k t (Err (Refused errno))
+  decided_not {M} errno is = subst (λ (d : Result A Errno). RunsPart M (given d) k k t (Err (Refused errno))) is (gives_not t A k errno)
 
 -- ---- finding a process
 
@@ -219,47 +222,47 @@ then_there found rest = given (must_be_there found) (λ child. rest (home_of chi
 
 module _ (t : ℕ) (old new : KernelModel) (number : ℕ) (home : Home) where
   -- the number was not looked up
-  pub into_fails : (call_error : CallError) → RunsPart (look_up home number) old new t (Err call_error)
-      → RunsPart (into number home) old new t (Err call_error)
+  pub into_fails : {M : Type 0} → (call_error : CallError) → RunsPart M (look_up home number) old new t (Err call_error)
+      → RunsPart M (into number home) old new t (Err call_error)
   into_fails call_error first = part_fails t (look_up home number) old new then_there call_error first
 
-  module _ (found : Option Child) (first : RunsPart (look_up home number) old new t (Ok found)) where
+  module _ {M : Type 0} (found : Option Child) (first : RunsPart M (look_up home number) old new t (Ok found)) where
     -- a child has the number
-    pub into_child : (child : Child) → Ok child ≡ must_be_there found → RunsPart (into number home) old new t (Ok (home_of child))
+    pub into_child : (child : Child) → Ok child ≡ must_be_there found → RunsPart M (into number home) old new t (Ok (home_of child))
     into_child child is =
         then_part t (look_up home number) old new then_there new found first (Ok (home_of child))
         (subst (λ (r : Result Child Errno).
-        RunsPart {A = Home} (λ rest. given r (λ child. rest (home_of child))) new new t (Ok (home_of child)))
+        RunsPart {A = Home} M (λ rest. given r (λ child. rest (home_of child))) new new t (Ok (home_of child)))
         is (hands t new (home_of child)))
 
     -- no child has the number
-    pub into_none : (errno : Errno) → Err errno ≡ must_be_there found → RunsPart (into number home) old new t (Err (Refused errno))
+    pub into_none : (errno : Errno) → Err errno ≡ must_be_there found → RunsPart M (into number home) old new t (Err (Refused errno))
     into_none errno is =
         then_part t (look_up home number) old new then_there new found first (Err (Refused errno))
         (subst (λ (r : Result Child Errno).
-        RunsPart {A = Home} (λ rest. given r (λ child. rest (home_of child))) new new t (Err (Refused errno)))
+        RunsPart {A = Home} M (λ rest. given r (λ child. rest (home_of child))) new new t (Err (Refused errno)))
         is (refuses_at_once t Home new errno))
 
 module _ (t : ℕ) (first : Home) (old new : KernelModel) (numbers : List ℕ) where
   -- process 0 is found there
-  pub finds_first : numbers ≡ [] → RunsPart (find_home first numbers) old old t (Ok first)
+  pub finds_first : {M : Type 0} → numbers ≡ [] → RunsPart M (find_home first numbers) old old t (Ok first)
   unfolding find_home
-  finds_first none = subst (λ (n : List ℕ). RunsPart (find_home first n) old old t (Ok first)) (sym none) (hands t old first)
+  finds_first {M} none = subst (λ (n : List ℕ). RunsPart M (find_home first n) old old t (Ok first)) (sym none) (hands t old first)
 
   module _ (number : ℕ) (above : ProcName) (split : numbers ≡ number ∷ above) where
-    here : (result : Result Home CallError)
-        → RunsPart (λ rest. find_home first above (λ home. into number home rest)) old new t result
-        → RunsPart (find_home first numbers) old new t result
+    here : {M : Type 0} → (result : Result Home CallError)
+        → RunsPart M (λ rest. find_home first above (λ home. into number home rest)) old new t result
+        → RunsPart M (find_home first numbers) old new t result
     unfolding find_home look_up
-    here result runs = subst (λ (n : List ℕ). RunsPart (find_home first n) old new t result) (sym split) runs
+    here {M} result runs = subst (λ (n : List ℕ). RunsPart M (find_home first n) old new t result) (sym split) runs
 
     -- the process above was not found
-    pub find_fails : (call_error : CallError) → RunsPart (find_home first above) old new t (Err call_error)
-        → RunsPart (find_home first numbers) old new t (Err call_error)
+    pub find_fails : {M : Type 0} → (call_error : CallError) → RunsPart M (find_home first above) old new t (Err call_error)
+        → RunsPart M (find_home first numbers) old new t (Err call_error)
     find_fails call_error before = here (Err call_error) (part_fails t (find_home first above) old new (into number) call_error before)
 
     -- the process above was found, and the number is looked up in its segment
-    pub finds_on : (mid : KernelModel) (home : Home) → RunsPart (find_home first above) old mid t (Ok home)
-        → (result : Result Home CallError) → RunsPart (into number home) mid new t result
-        → RunsPart (find_home first numbers) old new t result
+    pub finds_on : {M : Type 0} → (mid : KernelModel) (home : Home) → RunsPart M (find_home first above) old mid t (Ok home)
+        → (result : Result Home CallError) → RunsPart M (into number home) mid new t result
+        → RunsPart M (find_home first numbers) old new t result
     finds_on mid home before result then = here result (then_part t (find_home first above) old new (into number) mid home before result then)

@@ -31,13 +31,14 @@ module _ (t : ℕ) (own : Levels × Levels) (old : KernelModel) where
   after_label done = ask (SetClearance own.1)
 
   -- the label isn't given
-  pub without_label : (new : KernelModel) (call_error : CallError) (result : Result (Unit {0}) CallError) → IsErrAnd result (λ e. e ≡ call_error)
-      → RunsPart (ask (SetLabel own.0)) old new t (Err call_error) → RunsPart (take_labels own) old new t result
+  pub without_label : {M : Type 0} → (new : KernelModel) (call_error : CallError) (result : Result (Unit {0}) CallError)
+      → IsErrAnd result (λ e. e ≡ call_error)
+      → RunsPart M (ask (SetLabel own.0)) old new t (Err call_error) → RunsPart M (take_labels own) old new t result
   without_label = ends_in_so (ask (SetLabel own.0)) after_label (whole_part t (take_labels own) old)
 
   -- the label is given, and the clearance is still to be given
-  pub with_label : (mid : KernelModel) → Called old mid t (SetLabel own.0) None
-      → LeavesPart (Unit {0}) t (take_labels own) old (ask (SetClearance own.1)) mid
+  pub with_label : {M : Type 0} → (mid : KernelModel) → Called old mid t (SetLabel own.0) None
+      → LeavesPart M (Unit {0}) t (take_labels own) old (ask (SetClearance own.1)) mid
   with_label mid called =
       further_in (ask (SetLabel own.0)) after_label (whole_part t (take_labels own) old) mid tt (grants t (SetLabel own.0) old mid tt called tt)
 
@@ -52,24 +53,27 @@ module _ (accounts : Accounts) (me : Home) (status : ProcessStatus) (t : ℕ) (o
   after_own own rest = birth me status (kin_of accounts own.0) (λ done. after_birth own done rest)
 
   -- the thread's own labels aren't told
-  pub no_labels : (new : KernelModel) (call_error : CallError) (result : Result (Unit {0}) CallError) → IsErrAnd result (λ e. e ≡ call_error)
-      → RunsPart (ask OwnLabel) old new t (Err call_error) → RunsPart (make_child accounts me status) old new t result
+  pub no_labels : {M : Type 0} → (new : KernelModel) (call_error : CallError) (result : Result (Unit {0}) CallError)
+      → IsErrAnd result (λ e. e ≡ call_error)
+      → RunsPart M (ask OwnLabel) old new t (Err call_error) → RunsPart M (make_child accounts me status) old new t result
   no_labels = ends_in_so (ask OwnLabel) after_own (whole_part t (make_child accounts me status) old)
 
   module _ (own : Levels × Levels) (mid : KernelModel) (told : Called old mid t OwnLabel None × IsAnswer (state old) t OwnLabel own) where
     -- the thread's own labels are told
-    with_labels : LeavesPart (Unit {0}) t (make_child accounts me status) old (after_own own) mid
+    with_labels : {M : Type 0} → LeavesPart M (Unit {0}) t (make_child accounts me status) old (after_own own) mid
     with_labels =
         further_in (ask OwnLabel) after_own (whole_part t (make_child accounts me status) old) mid own (grants t OwnLabel old mid own told.0 told.1)
 
     -- the child isn't born
-    pub no_birth : (new : KernelModel) (call_error : CallError) (result : Result (Unit {0}) CallError) → IsErrAnd result (λ e. e ≡ call_error)
-        → RunsPart (birth me status (kin_of accounts own.0)) mid new t (Err call_error) → RunsPart (make_child accounts me status) old new t result
+    pub no_birth : {M : Type 0} → (new : KernelModel) (call_error : CallError) (result : Result (Unit {0}) CallError)
+        → IsErrAnd result (λ e. e ≡ call_error)
+        → RunsPart M (birth me status (kin_of accounts own.0)) mid new t (Err call_error)
+        → RunsPart M (make_child accounts me status) old new t result
     no_birth = ends_in_so (birth me status (kin_of accounts own.0)) (after_birth own) with_labels
 
     -- the child is born, and the thread is still to take its own labels again
-    pub with_birth : (later : KernelModel) → RunsPart (birth me status (kin_of accounts own.0)) mid later t (Ok tt)
-        → LeavesPart (Unit {0}) t (make_child accounts me status) old (take_labels own) later
+    pub with_birth : {M : Type 0} → (later : KernelModel) → RunsPart M (birth me status (kin_of accounts own.0)) mid later t (Ok tt)
+        → LeavesPart M (Unit {0}) t (make_child accounts me status) old (take_labels own) later
     with_birth later = further_in (birth me status (kin_of accounts own.0)) (after_birth own) with_labels later tt
 
 -- the parts of the whole program, one after another
@@ -83,18 +87,19 @@ module _ (accounts : Accounts) (me : Home) (name : ProcName) (t : ℕ) (old : Ke
   after_room status = make_child accounts me status (after_child status)
 
   -- at first the whole program is left
-  begun : Leaves t (spawn_program accounts name me) old (room_for_child name me after_room) old
+  begun : {M : Type 0} → Leaves M t (spawn_program accounts name me) old (room_for_child name me after_room) old
   unfolding spawn_program
   begun = record { leads = λ new result on. on }
 
   -- there is no room for a child
-  pub no_room : (new : KernelModel) (call_error : CallError) (result : Result Reply CallError) → IsErrAnd result (λ e. e ≡ call_error)
-      → RunsPart (room_for_child name me) old new t (Err call_error) → Runs (spawn_program accounts name me) old new t (settled result)
+  pub no_room : {M : Type 0} → (new : KernelModel) (call_error : CallError) (result : Result Reply CallError)
+      → IsErrAnd result (λ e. e ≡ call_error)
+      → RunsPart M (room_for_child name me) old new t (Err call_error) → Runs M (spawn_program accounts name me) old new t (settled result)
   no_room = ends_so (room_for_child name me) after_room begun
 
-  module _ (mid : KernelModel) (segment : Segment) (room : RunsRoom name me old mid t (Ok segment)) where
+  module _ {M : Type 0} (mid : KernelModel) (segment : Segment) (room : RunsRoom M name me old mid t (Ok segment)) where
     -- there is room for a child
-    with_room : Leaves t (spawn_program accounts name me) old (after_room room.0) mid
+    with_room : Leaves M t (spawn_program accounts name me) old (after_room room.0) mid
     with_room = further (room_for_child name me) after_room begun mid room.0 room.2
 
     module _ (bytes : List ℕ) (same : bytes ≡ segment.bytes) (new : KernelModel) where
@@ -104,14 +109,14 @@ module _ (accounts : Accounts) (me : Home) (name : ProcName) (t : ℕ) (old : Ke
 
       -- the child isn't made
       pub not_made : (call_error : CallError) (result : Result Reply CallError) → IsErrAnd result (λ e. e ≡ call_error)
-          → MakesChild accounts me bytes mid new t (Err call_error) → Runs (spawn_program accounts name me) old new t (settled result)
+          → MakesChild M accounts me bytes mid new t (Err call_error) → Runs M (spawn_program accounts name me) old new t (settled result)
       not_made call_error result gave makes =
           ends_so (make_child accounts me room.0) (after_child room.0) with_room new call_error result gave
           (makes room.0 status_is)
 
       -- the child is made, and its name is replied
-      pub made : MakesChild accounts me bytes mid new t (Ok tt) → (child : ProcName) → child ≡ (segment.head.born + 1) ∷ name
-          → Runs (spawn_program accounts name me) old new t (Ok (Child child))
+      pub made : MakesChild M accounts me bytes mid new t (Ok tt) → (child : ProcName) → child ≡ (segment.head.born + 1) ∷ name
+          → Runs M (spawn_program accounts name me) old new t (Ok (Child child))
       made makes child is =
           (further (make_child accounts me room.0) (after_child room.0) with_room new tt
           (makes room.0 status_is)).leads new (Ok (Child child))

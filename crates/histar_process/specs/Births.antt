@@ -56,11 +56,14 @@ make_objects parent status kin own rest = do
   rest tt
 
 -- the objects of a child with these two categories are made, by a thread of the process whose segment has these bytes
-abbrev pub MakesObjects : Home → List ℕ → Kin → ℕ × ℕ → KernelModel → KernelModel → ℕ → Result (Unit {0}) CallError → Type 0
-MakesObjects parent bytes kin own old new thread result =
-    (status : ProcessStatus) → status_in bytes ≡ Some status → RunsPart (make_objects parent status kin own) old new thread result
+abbrev pub MakesObjects : Type 0 → Home → List ℕ → Kin → ℕ × ℕ → KernelModel → KernelModel → ℕ
+    → Result (Unit {0}) CallError → Type 0
+MakesObjects M parent bytes kin own old new thread result =
+    (status : ProcessStatus) → status_in bytes ≡ Some status → RunsPart M (make_objects parent status kin own) old new thread result
 
 -- a child is born to the process whose segment has these bytes: it owns these categories, and is in the jobs of those
-abbrev pub RunsBirth : Home → List ℕ → List ℕ → List ℕ → KernelModel → KernelModel → ℕ → Result (Unit {0}) CallError → Type 0
-RunsBirth parent bytes owned jobs old new thread result =
-    (status : ProcessStatus) → status_in bytes ≡ Some status → RunsPart (birth parent status (record { owned = owned; jobs = jobs })) old new thread result
+abbrev pub RunsBirth : Type 0 → Home → List ℕ → List ℕ → List ℕ → KernelModel → KernelModel → ℕ
+    → Result (Unit {0}) CallError → Type 0
+RunsBirth M parent bytes owned jobs old new thread result =
+    (status : ProcessStatus) → status_in bytes ≡ Some status
+    → RunsPart M (birth parent status (record { owned = owned; jobs = jobs })) old new thread result

@@ -29,6 +29,6 @@ end_process me status number rest = do
   rest tt
 
 -- a process whose segment was read is ended, whatever status the segment shows
-abbrev pub EndsProcess : Home → Segment → ℕ → KernelModel → KernelModel → ℕ → Result (Unit {0}) CallError → Type 0
-EndsProcess me segment number old new thread result =
-    (status : ProcessStatus) → IsSegment segment status → RunsPart (end_process me status number) old new thread result
+abbrev pub EndsProcess : Type 0 → Home → Segment → ℕ → KernelModel → KernelModel → ℕ → Result (Unit {0}) CallError → Type 0
+EndsProcess M me segment number old new thread result =
+    (status : ProcessStatus) → IsSegment segment status → RunsPart M (end_process me status number) old new thread result

@@ -25,9 +25,9 @@ kill_known home status n rest = do
   rest tt
 
 -- a child of the process whose segment has these bytes is killed, whatever status they show
-abbrev pub KillsKnown : Home → List ℕ → ℕ → KernelModel → KernelModel → ℕ → Result (Unit {0}) CallError → Type 0
-KillsKnown home bytes n old new thread result =
-    (status : ProcessStatus) → status_in bytes ≡ Some status → RunsPart (kill_known home status n) old new thread result
+abbrev pub KillsKnown : Type 0 → Home → List ℕ → ℕ → KernelModel → KernelModel → ℕ → Result (Unit {0}) CallError → Type 0
+KillsKnown M home bytes n old new thread result =
+    (status : ProcessStatus) → status_in bytes ≡ Some status → RunsPart M (kill_known home status n) old new thread result
 
 -- The process above is found and its segment read, and the child is killed. Process 0 is linked by the root container, and no segment
 -- lists it.

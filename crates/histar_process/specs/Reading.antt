@@ -32,15 +32,17 @@ pub record IsSegment (segment : Segment) (status : ProcessStatus) : Type 0 where
   pub head : segment.head ≡ head_of status
 
 -- a process segment is read, and the code has the status in it
-abbrev pub RunsReading : Home → KernelModel → KernelModel → ℕ → Result Segment CallError → Type 0
-RunsReading home old new thread (Ok segment) = (status : ProcessStatus) × IsSegment segment status × RunsPart (read_status home) old new thread (Ok status)
-RunsReading home old new thread (Err call_error) = RunsPart (read_status home) old new thread (Err call_error)
+abbrev pub RunsReading : Type 0 → Home → KernelModel → KernelModel → ℕ → Result Segment CallError → Type 0
+RunsReading M home old new thread (Ok segment) =
+    (status : ProcessStatus) × IsSegment segment status × RunsPart M (read_status home) old new thread (Ok status)
+RunsReading M home old new thread (Err call_error) = RunsPart M (read_status home) old new thread (Err call_error)
 
 -- there is room for one child more of the process of this name, and the code has the status in its segment
-abbrev pub RunsRoom : ProcName → Home → KernelModel → KernelModel → ℕ → Result Segment CallError → Type 0
-RunsRoom name home old new thread (Ok segment) = (status : ProcessStatus) × IsSegment segment status × RunsPart (room_for_child name home) old new thread (Ok status)
-RunsRoom name home old new thread (Err call_error) = RunsPart (room_for_child name home) old new thread (Err call_error)
+abbrev pub RunsRoom : Type 0 → ProcName → Home → KernelModel → KernelModel → ℕ → Result Segment CallError → Type 0
+RunsRoom M name home old new thread (Ok segment) =
+    (status : ProcessStatus) × IsSegment segment status × RunsPart M (room_for_child name home) old new thread (Ok status)
+RunsRoom M name home old new thread (Err call_error) = RunsPart M (room_for_child name home) old new thread (Err call_error)
 
 -- these bytes are written in a process segment
-abbrev pub IsRewritten : Home → List ℕ → KernelModel → KernelModel → ℕ → Result (Unit {0}) CallError → Type 0
-IsRewritten home bytes old new thread result = RunsPart (ask (Write home.container home.segment 0 bytes)) old new thread result
+abbrev pub IsRewritten : Type 0 → Home → List ℕ → KernelModel → KernelModel → ℕ → Result (Unit {0}) CallError → Type 0
+IsRewritten M home bytes old new thread result = RunsPart M (ask (Write home.container home.segment 0 bytes)) old new thread result

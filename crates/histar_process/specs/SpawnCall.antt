@@ -48,9 +48,9 @@ make_child accounts me status rest = do
   rest tt
 
 -- a child is made by a thread of the process whose segment has these bytes, whatever status they show
-abbrev pub MakesChild : Accounts → Home → List ℕ → KernelModel → KernelModel → ℕ → Result (Unit {0}) CallError → Type 0
-MakesChild accounts me bytes old new thread result =
-    (status : ProcessStatus) → status_in bytes ≡ Some status → RunsPart (make_child accounts me status) old new thread result
+abbrev pub MakesChild : Type 0 → Accounts → Home → List ℕ → KernelModel → KernelModel → ℕ → Result (Unit {0}) CallError → Type 0
+MakesChild M accounts me bytes old new thread result =
+    (status : ProcessStatus) → status_in bytes ≡ Some status → RunsPart M (make_child accounts me status) old new thread result
 
 -- There is room for a child. The thread asks for its own labels, the child is born, and the thread takes its own labels again.
 unfoldable pub spawn_program : Accounts → ProcName → Home → Program

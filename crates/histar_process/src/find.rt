@@ -6,12 +6,12 @@ ghost use Rattle.histar_process.specs.Reading.{IsRewritten, RunsReading, read_he
 
 use histar_base::Bytes;
 use histar_flat::Errno;
+use histar_heap::Heap;
 use histar_label::LabelStore;
 use histar_layout::{Child, StatusHead, find_child, read_status};
 use histar_object::ObjId;
 use histar_programs::{CallError, Home, written};
 use histar_syscall::Kernel;
-use std::alloc::Global;
 
 /// A process segment that was read.
 #[derive(Drop)]
@@ -53,15 +53,15 @@ pub fn must_be_there(child: Option<Child>) -> Result<Child, Errno>
 
 /// Reads the head of a process segment in place: EACCES where the kernel doesn't let the thread observe
 /// it, ESRCH where its bytes are no process.
-pub fn read_head<S: LabelStore + Drop>(
-    alloc: Global,
+pub fn read_head<H: Heap, S: LabelStore + Drop>(
+    heap: H,
     kernel: &mut Kernel<S>,
     thread: ObjId,
     home: &Home,
 ) -> Result<StatusHead, CallError>
-    ensures { RunsPart (read_head home.now) kernel.old kernel.new thread result }
+    ensures { RunsPart H.Refused (read_head home.now) kernel.old kernel.new thread result }
 {
-    let bytes = kernel.read(alloc, thread, home.container, home.segment)?;
+    let bytes = kernel.read(heap, thread, home.container, home.segment)?;
     let Some(head) = read_status(bytes) else {
         return Err(CallError::Refused(Errno::ESRCH));
     };
@@ -70,15 +70,15 @@ pub fn read_head<S: LabelStore + Drop>(
 
 /// Reads a process segment that is going to be written again: EACCES where the kernel doesn't let the
 /// thread observe it, ESRCH where its bytes are no process.
-pub fn read_segment<S: LabelStore + Drop>(
-    alloc: Global,
+pub fn read_segment<H: Heap, S: LabelStore + Drop>(
+    heap: H,
     kernel: &mut Kernel<S>,
     thread: ObjId,
     home: &Home,
 ) -> Result<Segment, CallError>
-    ensures { RunsReading home.now kernel.old kernel.new thread result }
+    ensures { RunsReading H.Refused home.now kernel.old kernel.new thread result }
 {
-    let bytes = kernel.read_copy(alloc, thread, home.container, home.segment)?;
+    let bytes = kernel.read_copy(heap, thread, home.container, home.segment)?;
     let Some(head) = read_status(bytes.as_slice()) else {
         return Err(CallError::Refused(Errno::ESRCH));
     };
@@ -86,30 +86,30 @@ pub fn read_segment<S: LabelStore + Drop>(
 }
 
 /// Writes a process segment: EACCES where the kernel doesn't let the thread modify it.
-pub fn write_segment<S: LabelStore + Drop>(
-    alloc: Global,
+pub fn write_segment<H: Heap, S: LabelStore + Drop>(
+    heap: H,
     kernel: &mut Kernel<S>,
     thread: ObjId,
     home: &Home,
     bytes: Bytes,
 ) -> Result<(), CallError>
-    ensures { IsRewritten home.now bytes kernel.old kernel.new thread result }
+    ensures { IsRewritten H.Refused home.now bytes kernel.old kernel.new thread result }
 {
-    written(kernel.write(alloc, thread, home.container, home.segment, 0, bytes))
+    written(kernel.write(heap, thread, home.container, home.segment, 0, bytes))
 }
 
 /// Looks up the child of this number in a process segment, which is read in place: EACCES where the kernel
 /// doesn't let the thread observe it.
-fn look_up<S: LabelStore + Drop>(
-    alloc: Global,
+fn look_up<H: Heap, S: LabelStore + Drop>(
+    heap: H,
     kernel: &mut Kernel<S>,
     thread: ObjId,
     home: &Home,
     number: u8,
 ) -> Result<Option<Child>, CallError>
-    ensures { RunsPart (look_up home.now number) kernel.old kernel.new thread result }
+    ensures { RunsPart H.Refused (look_up home.now number) kernel.old kernel.new thread result }
 {
-    let bytes = kernel.read(alloc, thread, home.container, home.segment)?;
+    let bytes = kernel.read(heap, thread, home.container, home.segment)?;
     let child = find_child(bytes, number)?;
     Ok(child)
 }
@@ -117,20 +117,20 @@ fn look_up<S: LabelStore + Drop>(
 /// Finds the process of these numbers, the last number first. The segment of each
 /// process above it is read in place. EACCES where one may not be observed, ESRCH where it doesn't list
 /// the next number.
-pub fn find_home<S: LabelStore + Drop>(
-    alloc: Global,
+pub fn find_home<H: Heap, S: LabelStore + Drop>(
+    heap: H,
     kernel: &mut Kernel<S>,
     first: Home,
     thread: ObjId,
     numbers: &[u8],
 ) -> Result<Home, CallError>
-    ensures { RunsPart (find_home first numbers.now) kernel.old kernel.new thread result }
+    ensures { RunsPart H.Refused (find_home first numbers.now) kernel.old kernel.new thread result }
 {
     let [number, above @ ..] = numbers else {
         return Ok(first);
     };
-    let home = find_home(alloc, kernel, first, thread, above)?;
-    let found = look_up(alloc, kernel, thread, &home, *number)?;
+    let home = find_home(heap, kernel, first, thread, above)?;
+    let found = look_up(heap, kernel, thread, &home, *number)?;
     let child = must_be_there(found)?;
     Ok(home_of(child))
 }

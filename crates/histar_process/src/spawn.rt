@@ -12,12 +12,12 @@ ghost use Rattle.histar_process.specs.SpawnCall.{MakesChild, must_have_room, spa
 use crate::birth::{Inherited, give_birth};
 use crate::find::{Parent, Segment, read_segment};
 use histar_flat::{Errno, MOST_NUMBERS, ProcName, Reply};
+use histar_heap::Heap;
 use histar_label::{Label, LabelStore};
 use histar_layout::{is_in_job, jobs_in, user_of};
 use histar_object::ObjId;
 use histar_programs::{CallError, Home, Unix, owned_by};
 use histar_syscall::Kernel;
-use std::alloc::Global;
 
 /// The greatest number of children that are born to a process.
 const MOST_CHILDREN: u8 = 64;
@@ -25,54 +25,55 @@ const MOST_CHILDREN: u8 = 64;
 /// Makes a child of the process that makes the call: its user is the caller's, and it is in the same jobs.
 /// EAGAIN where the process's name has no room for one number more or 64 children were born already, EACCES
 /// where the kernel doesn't let the thread modify the process's own objects.
-pub fn spawn<S: LabelStore + Drop>(
-    alloc: Global,
+pub fn spawn<H: Heap, S: LabelStore + Drop>(
+    heap: H,
     kernel: &mut Kernel<S>,
     unix: &Unix,
 ) -> Result<Reply, CallError>
-    ensures { Runs (spawn_program unix.now.users.now unix.now.process.now unix.now.caller.now.home)
+    ensures { Runs H.Refused (spawn_program unix.now.users.now unix.now.process.now unix.now.caller.now.home)
         kernel.old kernel.new unix.now.caller.now.thread (settled result) }
 {
     let (name, home, thread) = (unix.process, &unix.caller.home, unix.caller.thread);
-    let Segment { head, bytes } = room_for_child(alloc, kernel, thread, name, home)?;
-    make_child(alloc, kernel, unix, bytes.as_slice())?;
+    let Segment { head, bytes } = room_for_child(heap, kernel, thread, name, home)?;
+    make_child(heap, kernel, unix, bytes.as_slice())?;
     Ok(Reply::Child(name.child(head.born + 1)))
 }
 
 /// Makes a child of a caller whose segment has these bytes, and gives the thread its own label and clearance
 /// again.
-fn make_child<S: LabelStore + Drop>(
-    alloc: Global,
+fn make_child<H: Heap, S: LabelStore + Drop>(
+    heap: H,
     kernel: &mut Kernel<S>,
     unix: &Unix,
     bytes: &[u8],
 ) -> Result<(), CallError>
     requires { HasRoomForChild bytes.now }
-    ensures { MakesChild unix.now.users.now unix.now.caller.now.home bytes.now kernel.old kernel.new
-        unix.now.caller.now.thread result }
+    ensures { MakesChild H.Refused unix.now.users.now unix.now.caller.now.home bytes.now
+        kernel.old kernel.new unix.now.caller.now.thread result }
 {
     let thread = unix.caller.thread;
-    let (own, clearance) = kernel.own_label(alloc, thread)?;
-    bear_child(alloc, kernel, unix, bytes, &own)?;
-    take_labels(alloc, kernel, thread, own, clearance)
+    let (own, clearance) = kernel.own_label(heap, thread)?;
+    bear_child(heap, kernel, unix, bytes, &own)?;
+    take_labels(heap, kernel, thread, own, clearance)
 }
 
 /// Makes a child of a caller whose segment has these bytes and whose thread has this label: its
 /// user is the caller's, and it is in the same jobs.
-fn bear_child<S: LabelStore + Drop>(
-    alloc: Global,
+fn bear_child<H: Heap, S: LabelStore + Drop>(
+    heap: H,
     kernel: &mut Kernel<S>,
     unix: &Unix,
     bytes: &[u8],
     own: &Label,
 ) -> Result<(), CallError>
     requires { HasRoomForChild bytes.now }
-    ensures { let kin = kin_of unix.now.users.now own.now in RunsBirth unix.now.caller.now.home bytes.now
-        kin.owned kin.jobs kernel.old kernel.new unix.now.caller.now.thread result }
+    ensures { let kin = kin_of unix.now.users.now own.now in
+        RunsBirth H.Refused unix.now.caller.now.home bytes.now kin.owned kin.jobs
+        kernel.old kernel.new unix.now.caller.now.thread result }
 {
     let (users, caller) = (unix.users, unix.caller);
-    let jobs = jobs_in(alloc, own)?;
-    let owned = owned_by(alloc, users, user_of(own, users), !is_in_job(own))?;
+    let jobs = jobs_in(heap, own)?;
+    let owned = owned_by(heap, users, user_of(own, users), !is_in_job(own))?;
     let inherited = Inherited {
         owned: owned.as_slice(),
         jobs: jobs.as_slice(),
@@ -81,40 +82,41 @@ fn bear_child<S: LabelStore + Drop>(
         home: &caller.home,
         bytes,
     };
-    give_birth(alloc, kernel, caller.thread, &parent, &inherited)
+    give_birth(heap, kernel, caller.thread, &parent, &inherited)
 }
 
 /// Gives a thread a label and a clearance.
-fn take_labels<S: LabelStore + Drop>(
-    alloc: Global,
+fn take_labels<H: Heap, S: LabelStore + Drop>(
+    heap: H,
     kernel: &mut Kernel<S>,
     thread: ObjId,
     own: Label,
     clearance: Label,
 ) -> Result<(), CallError>
-    ensures { RunsPart (take_labels (own, clearance)) kernel.old kernel.new thread result }
+    ensures { RunsPart H.Refused (take_labels (own, clearance))
+        kernel.old kernel.new thread result }
 {
-    kernel.set_label(alloc, thread, own)?;
-    kernel.set_clearance(alloc, thread, clearance)?;
+    kernel.set_label(heap, thread, own)?;
+    kernel.set_clearance(heap, thread, clearance)?;
     Ok(())
 }
 
 /// Reads the segment of the process of this name, if one more child may be born to it. EAGAIN where the name
 /// has no room for one number more or 64 children were born already, EACCES where the kernel doesn't let the
 /// thread observe the segment.
-pub fn room_for_child<S: LabelStore + Drop>(
-    alloc: Global,
+pub fn room_for_child<H: Heap, S: LabelStore + Drop>(
+    heap: H,
     kernel: &mut Kernel<S>,
     thread: ObjId,
     name: &ProcName,
     home: &Home,
 ) -> Result<Segment, CallError>
-    ensures runs { RunsRoom name.now home.now kernel.old kernel.new thread result }
+    ensures runs { RunsRoom H.Refused name.now home.now kernel.old kernel.new thread result }
     ensures name { IfOk result (λ segment. length name.now < most_numbers) }
     ensures born { IfOk result (λ segment. segment.head.born < most_children) }
 {
     must_have_room(name.numbers().len() < MOST_NUMBERS)?;
-    let segment = read_segment(alloc, kernel, thread, home)?;
+    let segment = read_segment(heap, kernel, thread, home)?;
     must_have_room(segment.head.born < MOST_CHILDREN)?;
     Ok(segment)
 }

@@ -10,43 +10,45 @@ use Rattle.histar_programs.specs.declared.call_error.Stopped.{Stopped}
 use Rattle.histar_programs.proofs.Running.{call_fails, call_fails_so, fails_so, part_fails, then_call, then_part}
 
 -- What is left of a program at a state of the kernel: a run of it completes a run of the whole.
-pub record Leaves (t : ℕ) (whole : Program) (old : KernelModel) (rest : Program) (k : KernelModel) : Type 0 where
-  pub leads : (new : KernelModel) (result : Result Reply Stopped) → Runs rest k new t result → Runs whole old new t result
+pub record Leaves (M : Type 0) (t : ℕ) (whole : Program) (old : KernelModel) (rest : Program) (k : KernelModel) : Type 0 where
+  pub leads : (new : KernelModel) (result : Result Reply Stopped) → Runs M rest k new t result → Runs M whole old new t result
 
-module _ {t : ℕ} {whole : Program} {old k : KernelModel} {A : Type 0} (part : Part A) (rest : A → Program)
-    (way : Leaves t whole old (part rest) k) where
+module _ {M : Type 0} {t : ℕ} {whole : Program} {old k : KernelModel} {A : Type 0} (part : Part A) (rest : A → Program)
+    (way : Leaves M t whole old (part rest) k) where
   -- the next part was run
-  pub further : (mid : KernelModel) (x : A) → RunsPart part k mid t (Ok x) → Leaves t whole old (rest x) mid
+  pub further : (mid : KernelModel) (x : A) → RunsPart M part k mid t (Ok x) → Leaves M t whole old (rest x) mid
   further mid x first = record { leads = λ new result on. way.leads new result (then_call t part k new rest mid x first result on) }
 
   -- the next part failed, and with it the call
-  pub ends : (new : KernelModel) (call_error : CallError) → RunsPart part k new t (Err call_error) → Runs whole old new t (settled (Err call_error))
+  pub ends : (new : KernelModel) (call_error : CallError) → RunsPart M part k new t (Err call_error)
+      → Runs M whole old new t (settled (Err call_error))
   ends new call_error first = way.leads new (settled (Err call_error)) (call_fails t part k new rest call_error first)
 
   -- the next part failed, and `?` passed its error on
   pub ends_so : (new : KernelModel) (call_error : CallError) (result : Result Reply CallError) → IsErrAnd result (λ e. e ≡ call_error)
-      → RunsPart part k new t (Err call_error) → Runs whole old new t (settled result)
+      → RunsPart M part k new t (Err call_error) → Runs M whole old new t (settled result)
   ends_so new call_error result gave first = call_fails_so t whole old new call_error result gave (ends new call_error first)
 
 -- What is left of a part at a state of the kernel: a run of it completes a run of the whole part.
-pub record LeavesPart (C : Type 0) (t : ℕ) (whole : Part C) (old : KernelModel) (rest : Part C) (k : KernelModel) : Type 0 where
-  pub leads : (new : KernelModel) (result : Result C CallError) → RunsPart rest k new t result → RunsPart whole old new t result
+pub record LeavesPart (M : Type 0) (C : Type 0) (t : ℕ) (whole : Part C) (old : KernelModel) (rest : Part C) (k : KernelModel) : Type 0 where
+  pub leads : (new : KernelModel) (result : Result C CallError) → RunsPart M rest k new t result → RunsPart M whole old new t result
 
 -- at first the whole part is left
-pub whole_part : {C : Type 0} (t : ℕ) (whole : Part C) (old : KernelModel) → LeavesPart C t whole old whole old
+pub whole_part : {M : Type 0} {C : Type 0} (t : ℕ) (whole : Part C) (old : KernelModel) → LeavesPart M C t whole old whole old
 whole_part t whole old = record { leads = λ new result on. on }
 
-module _ {t : ℕ} {C : Type 0} {whole : Part C} {old k : KernelModel} {A : Type 0} (part : Part A) (after : A → Part C)
-    (way : LeavesPart C t whole old (λ rest. part (λ x. after x rest)) k) where
+module _ {M : Type 0} {t : ℕ} {C : Type 0} {whole : Part C} {old k : KernelModel} {A : Type 0} (part : Part A) (after : A → Part C)
+    (way : LeavesPart M C t whole old (λ rest. part (λ x. after x rest)) k) where
   -- the next part was run
-  pub further_in : (mid : KernelModel) (x : A) → RunsPart part k mid t (Ok x) → LeavesPart C t whole old (after x) mid
+  pub further_in : (mid : KernelModel) (x : A) → RunsPart M part k mid t (Ok x) → LeavesPart M C t whole old (after x) mid
   further_in mid x first = record { leads = λ new result on. way.leads new result (then_part t part k new after mid x first result on) }
 
   -- the next part failed, and with it the whole part
-  pub ends_in : (new : KernelModel) (call_error : CallError) → RunsPart part k new t (Err call_error) → RunsPart whole old new t (Err call_error)
+  pub ends_in : (new : KernelModel) (call_error : CallError) → RunsPart M part k new t (Err call_error)
+      → RunsPart M whole old new t (Err call_error)
   ends_in new call_error first = way.leads new (Err call_error) (part_fails t part k new after call_error first)
 
   -- the next part failed, and `?` passed its error on
   pub ends_in_so : (new : KernelModel) (call_error : CallError) (result : Result C CallError) → IsErrAnd result (λ e. e ≡ call_error)
-      → RunsPart part k new t (Err call_error) → RunsPart whole old new t result
+      → RunsPart M part k new t (Err call_error) → RunsPart M whole old new t result
   ends_in_so new call_error result gave first = fails_so t whole old new call_error result gave (ends_in new call_error first)

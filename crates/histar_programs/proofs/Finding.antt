@@ -17,33 +17,34 @@ use Rattle.histar_programs.proofs.Running.{hands, refuses_at_once, part_as, then
 module _ {B : Type 0} (t : ℕ) (roots : Roots) (old new : KernelModel) (part : Path → Part B) (path : Path) (name : Name)
     (parent : Path) (split : path ≡ name ∷ parent) (within : Directory → Part B)
     (is : part (name ∷ parent) ≡ (λ rest. walk_to roots parent (λ directory. within directory rest))) where
-  here : (result : Result B CallError)
-      → RunsPart (λ rest. walk_to roots parent (λ directory. within directory rest)) old new t result
-      → RunsPart (part path) old new t result
-  here result runs =
-      subst (λ (q : Path). RunsPart (part q) old new t result) (sym split)
-      (subst (λ (p : Part B). RunsPart p old new t result) (sym is) runs)
+  here : {M : Type 0} → (result : Result B CallError)
+      → RunsPart M (λ rest. walk_to roots parent (λ directory. within directory rest)) old new t result
+      → RunsPart M (part path) old new t result
+  here {M} result runs =
+      subst (λ (q : Path). RunsPart M (part q) old new t result) (sym split)
+      (subst (λ (p : Part B). RunsPart M p old new t result) (sym is) runs)
 
   -- the walk has failed
-  pub walk_failed : (call_error : CallError) → RunsPart (walk_to roots parent) old new t (Err call_error)
-      → RunsPart (part path) old new t (Err call_error)
+  pub walk_failed : {M : Type 0} → (call_error : CallError) → RunsPart M (walk_to roots parent) old new t (Err call_error)
+      → RunsPart M (part path) old new t (Err call_error)
   walk_failed call_error first = here (Err call_error) (part_fails t (walk_to roots parent) old new within call_error first)
 
   -- the walk has led to this directory
-  pub walked : (mid : KernelModel) (directory : Directory) → RunsPart (walk_to roots parent) old mid t (Ok directory)
-      → (result : Result B CallError) → RunsPart (within directory) mid new t result
-      → RunsPart (part path) old new t result
+  pub walked : {M : Type 0} → (mid : KernelModel) (directory : Directory) → RunsPart M (walk_to roots parent) old mid t (Ok directory)
+      → (result : Result B CallError) → RunsPart M (within directory) mid new t result
+      → RunsPart M (part path) old new t result
   walked mid directory first result second = here result (then_part t (walk_to roots parent) old new within mid directory first result second)
 
 module _ {A B : Type 0} (t : ℕ) (k : KernelModel) (f : A → B) (decided : Result A Errno) where
   -- what was decided is passed on
-  pub decides : (x : A) → Ok x ≡ decided → RunsPart {A = B} (λ rest. given decided (λ y. rest (f y))) k k t (Ok (f x))
-  decides x is = subst (λ (d : Result A Errno). RunsPart {A = B} (λ rest. given d (λ y. rest (f y))) k k t (Ok (f x))) is (hands t k (f x))
+  pub decides : {M : Type 0} → (x : A) → Ok x ≡ decided → RunsPart {A = B} M (λ rest. given decided (λ y. rest (f y))) k k t (Ok (f x))
+  decides {M} x is = subst (λ (d : Result A Errno). RunsPart {A = B} M (λ rest. given d (λ y. rest (f y))) k k t (Ok (f x))) is (hands t k (f x))
 
   -- what was decided refuses the call
-  pub decides_not : (errno : Errno) → Err errno ≡ decided → RunsPart {A = B} (λ rest. given decided (λ y. rest (f y))) k k t (Err (Refused errno))
-  decides_not errno is =
-      subst (λ (d : Result A Errno). RunsPart {A = B} (λ rest. given d (λ y. rest (f y))) k k t (Err (Refused errno)))
+  pub decides_not : {M : Type 0} → (errno : Errno) → Err errno ≡ decided
+      → RunsPart {A = B} M (λ rest. given decided (λ y. rest (f y))) k k t (Err (Refused errno))
+  decides_not {M} errno is =
+      subst (λ (d : Result A Errno). RunsPart {A = B} M (λ rest. given d (λ y. rest (f y))) k k t (Err (Refused errno)))
       is (refuses_at_once t B k errno)
 
 -- A part that finds the place of the parent of a path, looks the last name up there, decides by what it leads to, and passes on what
@@ -66,28 +67,28 @@ module _ {A B : Type 0} (t : ℕ) (roots : Roots) (old new : KernelModel) (part 
     abbrev placed : Part B
     placed rest = find_place roots parent (λ place. in_place place rest)
 
-    placed_here : (result : Result B CallError) → RunsPart placed old new t result → RunsPart (part path) old new t result
-    placed_here result runs =
-        subst (λ (q : Path). RunsPart (part q) old new t result) (sym split)
+    placed_here : {M : Type 0} → (result : Result B CallError) → RunsPart M placed old new t result → RunsPart M (part path) old new t result
+    placed_here {M} result runs =
+        subst (λ (q : Path). RunsPart M (part q) old new t result) (sym split)
         (part_as t (part (name ∷ parent)) old new placed is result runs)
 
     -- the place was not found
-    pub place_fails : (call_error : CallError) → RunsPart (find_place roots parent) old new t (Err call_error)
-        → RunsPart (part path) old new t (Err call_error)
+    pub place_fails : {M : Type 0} → (call_error : CallError) → RunsPart M (find_place roots parent) old new t (Err call_error)
+        → RunsPart M (part path) old new t (Err call_error)
     place_fails call_error first = placed_here (Err call_error) (part_fails t (find_place roots parent) old new in_place call_error first)
 
-    module _ (mid : KernelModel) (place : Place) (first : RunsPart (find_place roots parent) old mid t (Ok place)) where
+    module _ {M : Type 0} (mid : KernelModel) (place : Place) (first : RunsPart M (find_place roots parent) old mid t (Ok place)) where
       -- the name was not looked up
-      pub look_fails : (call_error : CallError) → RunsPart (look_in place name) mid new t (Err call_error)
-          → RunsPart (part path) old new t (Err call_error)
+      pub look_fails : (call_error : CallError) → RunsPart M (look_in place name) mid new t (Err call_error)
+          → RunsPart M (part path) old new t (Err call_error)
       look_fails call_error second =
           placed_here (Err call_error) (then_part t (find_place roots parent) old new in_place mid place first (Err call_error)
           (part_fails t (look_in place name) mid new (after_look place) call_error second))
 
       -- the name leads to this target
-      pub led : (target : Option Target) → RunsPart (look_in place name) mid new t (Ok target)
-          → (result : Result B CallError) → RunsPart (after_look place target) new new t result
-          → RunsPart (part path) old new t result
+      pub led : (target : Option Target) → RunsPart M (look_in place name) mid new t (Ok target)
+          → (result : Result B CallError) → RunsPart M (after_look place target) new new t result
+          → RunsPart M (part path) old new t result
       led target second result decided =
           placed_here result (then_part t (find_place roots parent) old new in_place mid place first result
           (then_part t (look_in place name) mid new (after_look place) new target second result decided))

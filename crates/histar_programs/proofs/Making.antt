@@ -8,7 +8,8 @@ use Rattle.histar_programs.specs.Programs.{Part, RunsPart}
 use Rattle.histar_programs.specs.Parts.{ask}
 
 -- an empty segment is made with the expected label
-pub makes : (t : ℕ) (old new : KernelModel) (d : ℕ) (label due : Levels) (empty : List ℕ) → label ≡ due → empty ≡ [] → (result : Result ℕ CallError)
-    → RunsPart {A = ℕ} (ask (MakeSegment d label empty)) old new t result → RunsPart {A = ℕ} (ask (MakeSegment d due [])) old new t result
-makes t old new d label due empty same none result runs =
-    subst (λ (part : Part ℕ). RunsPart {A = ℕ} part old new t result) (λ i. ask (MakeSegment d (same i) (none i))) runs
+pub makes : {M : Type 0} → (t : ℕ) (old new : KernelModel) (d : ℕ) (label due : Levels) (empty : List ℕ) → label ≡ due → empty ≡ []
+    → (result : Result ℕ CallError)
+    → RunsPart {A = ℕ} M (ask (MakeSegment d label empty)) old new t result → RunsPart {A = ℕ} M (ask (MakeSegment d due [])) old new t result
+makes {M} t old new d label due empty same none result runs =
+    subst (λ (part : Part ℕ). RunsPart {A = ℕ} M part old new t result) (λ i. ask (MakeSegment d (same i) (none i))) runs

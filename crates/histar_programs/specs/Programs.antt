@@ -42,31 +42,42 @@ Completes (Lists bytes next) old new thread reply = (listed : Option Entries) ×
 Completes Stops old new thread reply = ⊥
 
 -- The thread made the first raw calls of the program in this way, and ended without a reply: memory ran out with something still to do,
--- or the program stops. A program that has only its reply left doesn't end in this way.
-abbrev pub Begins : Program → KernelModel → KernelModel → ℕ → Type 0
-Begins (Answers said) old new thread = ⊥
-Begins (Asks call next) old new thread =
-    IsUnchanged old new ⊎ ((mid : KernelModel) × (outcome : Outcome call) × Asked old mid thread call outcome × Begins (next outcome) mid new thread)
-Begins (Lists bytes next) old new thread = IsUnchanged old new ⊎ ((listed : Option Entries) × IsListed bytes listed × Begins (next listed) old new thread)
-Begins Stops old new thread = IsUnchanged old new
+-- which `M` says, or the program stops. A program that has only its reply left doesn't end in this way.
+abbrev pub Begins : Type 0 → Program → KernelModel → KernelModel → ℕ → Type 0
+Begins M (Answers said) old new thread = ⊥
+Begins M (Asks call next) old new thread =
+    (M × IsUnchanged old new)
+    ⊎ ((mid : KernelModel) × (outcome : Outcome call) × Asked old mid thread call outcome × Begins M (next outcome) mid new thread)
+Begins M (Lists bytes next) old new thread =
+    (M × IsUnchanged old new) ⊎ ((listed : Option Entries) × IsListed bytes listed × Begins M (next listed) old new thread)
+Begins M Stops old new thread = IsUnchanged old new
 
--- a call runs its program: up to its reply, or only the beginning of it
-unfoldable pub Runs : Program → KernelModel → KernelModel → ℕ → Result Reply Stopped → Type 0
-Runs program old new thread (Ok reply) = Completes program old new thread reply
-Runs program old new thread (Err stopped) = Begins program old new thread
+-- what a run of a program has done: it is completed, or only begun
+abbrev pub RunsTo : Type 0 → Program → KernelModel → KernelModel → ℕ → Result Reply Stopped → Type 0
+RunsTo M program old new thread (Ok reply) = Completes program old new thread reply
+RunsTo M program old new thread (Err stopped) = Begins M program old new thread
+
+-- A call runs its program: up to its reply, or only the beginning of it. `M` says that memory ran out.
+pub record Runs (M : Type 0) (program : Program) (old new : KernelModel) (thread : ℕ) (result : Result Reply Stopped) : Type 0 where
+  pub done : RunsTo M program old new thread result
 
 -- a part of a program: it passes what it has found to what comes after it
 abbrev pub Part : Type 0 → Type 0
 Part A = (A → Program) → Program
 
 -- the thread has come from the first program to the later one: a run of the later one completes a run of the first
-pub record LeadsTo (first : Program) (old : KernelModel) (later : Program) (mid : KernelModel) (thread : ℕ) : Type 0 where
+pub record LeadsTo (M : Type 0) (first : Program) (old : KernelModel) (later : Program) (mid : KernelModel) (thread : ℕ) : Type 0 where
   pub completes : (new : KernelModel) (reply : Reply) → Completes later mid new thread reply → Completes first old new thread reply
-  pub begins : (new : KernelModel) → Begins later mid new thread → Begins first old new thread
+  pub begins : (new : KernelModel) → Begins M later mid new thread → Begins M first old new thread
+
+-- what a run of a part of a program has done: it has come to what comes after the part, or to the reply of a refusal, or is only begun
+abbrev pub RunsPartTo : {A : Type 0} → Type 0 → Part A → KernelModel → KernelModel → ℕ → Result A CallError → Type 0
+RunsPartTo {A} M part old new thread (Ok found) = (rest : A → Program) → LeadsTo M (part rest) old (rest found) new thread
+RunsPartTo {A} M part old new thread (Err (Refused errno)) =
+    (rest : A → Program) → LeadsTo M (part rest) old (Answers (replies.Refused errno)) new thread
+RunsPartTo {A} M part old new thread (Err HasStopped) = (rest : A → Program) → Begins M (part rest) old new thread
 
 -- Code runs a part of a program: it made the raw calls of the part and passes its result on; or it made them and the call is
--- refused; or it made the first of them and the call stops.
-unfoldable pub RunsPart : {A : Type 0} → Part A → KernelModel → KernelModel → ℕ → Result A CallError → Type 0
-RunsPart {A} part old new thread (Ok found) = (rest : A → Program) → LeadsTo (part rest) old (rest found) new thread
-RunsPart {A} part old new thread (Err (Refused errno)) = (rest : A → Program) → LeadsTo (part rest) old (Answers (replies.Refused errno)) new thread
-RunsPart {A} part old new thread (Err HasStopped) = (rest : A → Program) → Begins (part rest) old new thread
+-- refused; or it made the first of them and the call stops. `M` says that memory ran out.
+pub record RunsPart {A : Type 0} (M : Type 0) (part : Part A) (old new : KernelModel) (thread : ℕ) (result : Result A CallError) : Type 0 where
+  pub done : RunsPartTo M part old new thread result

@@ -9,11 +9,11 @@ ghost use Rattle.histar_programs.specs.Parts.{room_at, target_named, write_entri
 use crate::call_error::{CallError, written};
 use crate::roots::{Place, Roots};
 use histar_flat::{Errno, Name};
+use histar_heap::Heap;
 use histar_label::LabelStore;
 use histar_layout::{Dir, Target, look_up};
 use histar_object::ObjId;
 use histar_syscall::Kernel;
-use std::alloc::Global;
 
 /// A directory that was read: where it is found, and its entries.
 #[derive(Drop)]
@@ -46,15 +46,15 @@ impl Directory {
 
     /// Reads a directory: EACCES where the kernel doesn't let the thread observe its segment, ENOTDIR where
     /// the bytes of that segment are no directory.
-    pub fn read<S: LabelStore + Drop>(
-        alloc: Global,
+    pub fn read<H: Heap, S: LabelStore + Drop>(
+        heap: H,
         kernel: &mut Kernel<S>,
         thread: ObjId,
         place: Place,
     ) -> Result<Directory, CallError>
-        ensures { RunsPart (read_directory place) kernel.old kernel.new thread result }
+        ensures { RunsPart H.Refused (read_directory place) kernel.old kernel.new thread result }
     {
-        let bytes = kernel.read_copy(alloc, thread, place.container, place.listing)?;
+        let bytes = kernel.read_copy(heap, thread, place.container, place.listing)?;
         let Some(entries) = Dir::from_bytes(bytes) else {
             return Err(CallError::Refused(Errno::ENOTDIR));
         };
@@ -102,66 +102,66 @@ pub fn file_at(target: Option<Target>) -> Result<ObjId, Errno>
 
 /// Looks up where a name leads in a directory. Its segment is read in place, as far as needed. EACCES where
 /// the kernel doesn't let the thread observe it.
-pub fn look_in<S: LabelStore + Drop>(
-    alloc: Global,
+pub fn look_in<H: Heap, S: LabelStore + Drop>(
+    heap: H,
     kernel: &mut Kernel<S>,
     thread: ObjId,
     place: Place,
     name: &Name,
 ) -> Result<Option<Target>, CallError>
-    ensures { RunsPart (look_in place name.now) kernel.old kernel.new thread result }
+    ensures { RunsPart H.Refused (look_in place name.now) kernel.old kernel.new thread result }
 {
-    let bytes = kernel.read(alloc, thread, place.container, place.listing)?;
+    let bytes = kernel.read(heap, thread, place.container, place.listing)?;
     Ok(look_up(bytes, name))
 }
 
 /// Writes these entries into the segment of a directory: EACCES where the kernel doesn't let the thread
 /// modify it.
-pub fn write_entries<S: LabelStore + Drop>(
-    alloc: Global,
+pub fn write_entries<H: Heap, S: LabelStore + Drop>(
+    heap: H,
     kernel: &mut Kernel<S>,
     thread: ObjId,
     place: Place,
     entries: Dir,
 ) -> Result<(), CallError>
-    ensures { RunsPart (write_entries place entries) kernel.old kernel.new thread result }
+    ensures { RunsPart H.Refused (write_entries place entries) kernel.old kernel.new thread result }
 {
     let bytes = entries.into_bytes();
-    written(kernel.write(alloc, thread, place.container, place.listing, 0, bytes))
+    written(kernel.write(heap, thread, place.container, place.listing, 0, bytes))
 }
 
 /// Finds the place of the directory of these names, the last name first. Each directory on the way
 /// to it is read in place. EACCES where one may not be observed, ENOENT where a name is not there, ENOTDIR
 /// where it leads to a file.
-pub fn find_place<S: LabelStore + Drop>(
-    alloc: Global,
+pub fn find_place<H: Heap, S: LabelStore + Drop>(
+    heap: H,
     kernel: &mut Kernel<S>,
     roots: &Roots,
     thread: ObjId,
     names: &[Name],
 ) -> Result<Place, CallError>
-    ensures { RunsPart (find_place roots.now names.now) kernel.old kernel.new thread result }
+    ensures { RunsPart H.Refused (find_place roots.now names.now) kernel.old kernel.new thread result }
 {
     let [name, parent @ ..] = names else {
         return Ok(roots.slash);
     };
-    let above = find_place(alloc, kernel, roots, thread, parent)?;
-    let target = look_in(alloc, kernel, thread, above, name)?;
+    let above = find_place(heap, kernel, roots, thread, parent)?;
+    let target = look_in(heap, kernel, thread, above, name)?;
     let place = directory_at(target)?;
     Ok(place)
 }
 
 /// Reads the directory of these names, the last name first. It is refused where its place can't be found,
 /// and with EACCES where the kernel doesn't let the thread observe the directory itself.
-pub fn walk<S: LabelStore + Drop>(
-    alloc: Global,
+pub fn walk<H: Heap, S: LabelStore + Drop>(
+    heap: H,
     kernel: &mut Kernel<S>,
     roots: &Roots,
     thread: ObjId,
     names: &[Name],
 ) -> Result<Directory, CallError>
-    ensures { RunsPart (walk_to roots.now names.now) kernel.old kernel.new thread result }
+    ensures { RunsPart H.Refused (walk_to roots.now names.now) kernel.old kernel.new thread result }
 {
-    let place = find_place(alloc, kernel, roots, thread, names)?;
-    Directory::read(alloc, kernel, thread, place)
+    let place = find_place(heap, kernel, roots, thread, names)?;
+    Directory::read(heap, kernel, thread, place)
 }

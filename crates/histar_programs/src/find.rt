@@ -9,11 +9,11 @@ use crate::call_error::CallError;
 use crate::directory::{Directory, file_at, find_place, look_in, walk};
 use crate::roots::{Place, Roots};
 use histar_flat::{Errno, Name};
+use histar_heap::Heap;
 use histar_label::LabelStore;
 use histar_layout::Dir;
 use histar_object::ObjId;
 use histar_syscall::Kernel;
-use std::alloc::Global;
 
 /// A file that was found.
 #[derive(Clone, Copy)]
@@ -34,41 +34,41 @@ pub struct Room {
 
 /// Finds the file of a path: EISDIR where the path is `/` or leads to a directory, ENOENT where nothing
 /// is there, and the errno of the walk where that is refused.
-pub fn find_file<S: LabelStore + Drop>(
-    alloc: Global,
+pub fn find_file<H: Heap, S: LabelStore + Drop>(
+    heap: H,
     kernel: &mut Kernel<S>,
     roots: &Roots,
     thread: ObjId,
     path: &[Name],
 ) -> Result<FoundFile, CallError>
-    ensures { RunsPart (find_file roots.now path.now) kernel.old kernel.new thread result }
+    ensures { RunsPart H.Refused (find_file roots.now path.now) kernel.old kernel.new thread result }
 {
     let [name, parent @ ..] = path else {
         return Err(CallError::Refused(Errno::EISDIR));
     };
-    let place = find_place(alloc, kernel, roots, thread, parent)?;
+    let place = find_place(heap, kernel, roots, thread, parent)?;
     let container = place.container;
-    let target = look_in(alloc, kernel, thread, place, name)?;
+    let target = look_in(heap, kernel, thread, place, name)?;
     let segment = file_at(target)?;
     Ok(FoundFile { container, segment })
 }
 
 /// Finds the place of a new entry: EEXIST where the path is `/` or something is there, ENOSPC at 64
 /// entries, and the errno of the walk where that is refused.
-pub fn find_room<S: LabelStore + Drop>(
-    alloc: Global,
+pub fn find_room<H: Heap, S: LabelStore + Drop>(
+    heap: H,
     kernel: &mut Kernel<S>,
     roots: &Roots,
     thread: ObjId,
     path: &[Name],
 ) -> Result<Room, CallError>
-    ensures runs { RunsPart (find_room roots.now path.now) kernel.old kernel.new thread result }
+    ensures runs { RunsPart H.Refused (find_room roots.now path.now) kernel.old kernel.new thread result }
     ensures room { IfOk result (λ room. map.len room.entries < most_entries) }
 {
     let [name, parent @ ..] = path else {
         return Err(CallError::Refused(Errno::EEXIST));
     };
-    let directory = walk(alloc, kernel, roots, thread, parent)?;
+    let directory = walk(heap, kernel, roots, thread, parent)?;
     directory.room_at(name)?;
     let Directory { place, entries } = directory;
     Ok(Room {

@@ -81,7 +81,7 @@ fn push_not_linked(text: &mut Vec<u8>, container: ObjId) -> Result<(), AllocErro
     ensures { OnOk result (text.new.items ≡ text.old.items ++ not_linked_text container) }
 {
     text.extend_from_slice(b"container ")?;
-    push_number(text, container.number())?;
+    push_number(*text.allocator(), text, container.number())?;
     text.extend_from_slice(b" does not link it")
 }
 
@@ -90,7 +90,7 @@ fn push_too_long(text: &mut Vec<u8>, bytes: usize) -> Result<(), AllocError>
     ensures { OnOk result (text.new.items ≡ text.old.items ++ too_long_text bytes) }
 {
     text.extend_from_slice(b"it would have ")?;
-    push_number(text, bytes as u64)?;
+    push_number(*text.allocator(), text, bytes as u64)?;
     text.extend_from_slice(b" bytes, more than 4096")
 }
 

@@ -47,7 +47,7 @@ fn push_opening<V: Wording>(
         ++ opening_text (V.words words.now) line thread act) }
 {
     text.extend_from_slice(b"?")?;
-    push_number(text, u64::from(line))?;
+    push_number(*text.allocator(), text, u64::from(line))?;
     text.extend_from_slice(b" ")?;
     words.push_thread(text, thread)?;
     text.extend_from_slice(b" may not ")?;

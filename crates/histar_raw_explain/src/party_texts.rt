@@ -33,7 +33,7 @@ fn push_has(text: &mut Vec<u8>, party: Party, level: Level) -> Result<(), AllocE
 {
     text.extend_from_slice(party_text(party).as_bytes())?;
     text.extend_from_slice(b" has ")?;
-    push_level(text, level)
+    push_level(*text.allocator(), text, level)
 }
 
 /// Adds the levels of two labels where the lower one is above the other, or that a label has star where no
@@ -60,7 +60,7 @@ pub(crate) fn push_excess(
             text.extend_from_slice(b", ")?;
             text.extend_from_slice(party_text(upper).as_bytes())?;
             text.extend_from_slice(b" ")?;
-            push_level(text, upper_level)
+            push_level(*text.allocator(), text, upper_level)
         }
     }
 }

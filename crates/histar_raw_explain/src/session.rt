@@ -58,6 +58,8 @@ impl Command for ExplainedSession {
 
     type Answer = ();
 
+    type Memory = Global;
+
     ghost Runs = { λ _. RunsExplained };
 
     fn on_text<W: Sink>(self, alloc: Global, text: Vec<u8>, writer: &mut W) -> Result<(), Fault> {

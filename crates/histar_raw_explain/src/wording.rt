@@ -42,21 +42,21 @@ impl Wording for ByNumber {
 
     fn push_thread(&self, text: &mut Vec<u8>, thread: ObjId) -> Result<(), AllocError> {
         text.extend_from_slice(b"thread ")?;
-        push_number(text, thread.number())
+        push_number(*text.allocator(), text, thread.number())
     }
 
     fn push_object(&self, text: &mut Vec<u8>, object: ObjId) -> Result<(), AllocError> {
         text.extend_from_slice(b"object ")?;
-        push_number(text, object.number())
+        push_number(*text.allocator(), text, object.number())
     }
 
     fn push_category(&self, text: &mut Vec<u8>, category: Category) -> Result<(), AllocError> {
         text.extend_from_slice(b"category ")?;
-        push_number(text, category.number())
+        push_number(*text.allocator(), text, category.number())
     }
 
     fn push_listed(&self, text: &mut Vec<u8>, category: Category) -> Result<(), AllocError> {
-        push_number(text, category.number())
+        push_number(*text.allocator(), text, category.number())
     }
 
     fn push_made(&self, text: &mut Vec<u8>, kind: &str) -> Result<(), AllocError> {

@@ -56,6 +56,8 @@ impl<'a> Command for RawLinting<'a> {
 
     type Answer = bool;
 
+    type Memory = Global;
+
     ghost Runs = { λ command. LintsRaw command.file.now };
 
     fn on_text<W: Sink>(self, alloc: Global, text: Vec<u8>, writer: &mut W) -> Result<bool, Fault> {

@@ -2,6 +2,7 @@
 ghost use Rattle.std.specs.Prelude.{◌≡◌, false, IfErr, IfOk, IfSome, OnOk, OnErr};
 ghost use Rattle.histar_io.specs.Device.{CountsFailure};
 ghost use Rattle.histar_object.specs.State.{empty_state};
+ghost use Rattle.histar_script.specs.Memory.{OnOutOfMemory};
 ghost use Rattle.histar_script.specs.Runs.{IsOutputFault, LeavesSink, RunsInput, is_read_failed, is_write_failed};
 ghost use Rattle.histar_syscall.specs.KernelModel.{state};
 ghost use Rattle.histar_raw_session.specs.Answers.{AnswersCall, AnswersCalls, BeginsAnswer, BeginsAnswers, IsMadeOnLine, PrintsCall};
@@ -10,21 +11,22 @@ ghost use Rattle.histar_raw_session.specs.Run.{RunsSession};
 use crate::lines::{answer_line, denial_line};
 use crate::read_session::{RawLine, read_session};
 use histar_command::{Command, run_command};
+use histar_heap::Heap;
 use histar_io::{Sink, Source, write_bytes};
 use histar_label::{InternStore, LabelStore, OutOfMemory};
 use histar_script::Fault;
 use histar_syscall::{Kernel, Refusal};
-use std::alloc::Global;
 
 /// How many answers of comparisons the store of labels remembers beside those at hand.
 const REMEMBERED_ANSWERS: usize = 256;
 
 /// Makes the kernel of a raw session, over a store that keeps each label once.
-pub fn empty_kernel(alloc: Global) -> Result<Kernel<InternStore>, OutOfMemory>
-    ensures { IfOk result (λ kernel. state kernel ≡ empty_state) }
+pub fn empty_kernel<H: Heap>(heap: H) -> Result<Kernel<InternStore>, OutOfMemory>
+    ensures ok { IfOk result (λ kernel. state kernel ≡ empty_state) }
+    ensures memory { OnErr result H.Refused }
 {
-    let store = InternStore::new(alloc, REMEMBERED_ANSWERS)?;
-    Kernel::new(alloc, store)
+    let store = InternStore::new(heap, REMEMBERED_ANSWERS)?;
+    Kernel::new(heap, store)
 }
 
 /// Reads a raw session, has the kernel make its calls from the empty kernel on, and writes one line for each
@@ -32,8 +34,8 @@ pub fn empty_kernel(alloc: Global) -> Result<Kernel<InternStore>, OutOfMemory>
 ///
 /// The whole session is read and checked before the first call. A session without a call is right, and
 /// writes nothing. It doesn't flush the sink.
-pub fn run_raw_script<R: Source, W: Sink>(
-    alloc: Global,
+pub fn run_raw_script<H: Heap, R: Source, W: Sink>(
+    heap: H,
     reader: &mut R,
     writer: &mut W,
 ) -> Result<(), Fault>
@@ -53,25 +55,33 @@ pub fn run_raw_script<R: Source, W: Sink>(
     // So where the input is known, the session of the whole input was run.
     ensures known { IfSome (R.left reader.old)
         (λ input. RunsSession input (W.written writer.old) (W.written writer.new) result) }
+
+    // It answers out of memory only where the heap refused memory, in this run.
+    ensures memory { OnOutOfMemory result H.Refused }
 {
-    run_command(alloc, reader, writer, RawSession)
+    run_command(heap, reader, writer, RawSession { heap })
 }
 
 /// The command that runs a text as a raw session.
 #[derive(Drop)]
-struct RawSession;
+struct RawSession<H> {
+    heap: H,
+}
 
-impl Command for RawSession {
+impl<H: Heap> Command for RawSession<H> {
     ghost use Rattle.std.proofs.Common.{rules};
 
     type Answer = ();
 
+    type Memory = H;
+
     ghost Runs = { λ _. RunsSession };
 
-    fn on_text<W: Sink>(self, alloc: Global, text: Vec<u8>, writer: &mut W) -> Result<(), Fault> {
-        let calls = read_session(alloc, text.as_slice())?;
-        let mut kernel = empty_kernel(alloc)?;
-        answer_calls(alloc, &mut kernel, calls, writer)
+    fn on_text<W: Sink>(self, _heap: H, text: Vec<u8>, writer: &mut W) -> Result<(), Fault> {
+        let RawSession { heap } = self;
+        let calls = read_session(heap, text.as_slice())?;
+        let mut kernel = empty_kernel(heap)?;
+        answer_calls(heap, &mut kernel, calls, writer)
     }
 
     ghost unread = { Prim.search rules };
@@ -80,8 +90,8 @@ impl Command for RawSession {
 }
 
 /// Has the kernel make the calls in their order, and writes a line for each.
-fn answer_calls<S: LabelStore + Drop, W: Sink>(
-    alloc: Global,
+fn answer_calls<H: Heap, S: LabelStore + Drop, W: Sink>(
+    heap: H,
     kernel: &mut Kernel<S>,
     calls: Vec<RawLine>,
     writer: &mut W,
@@ -92,16 +102,17 @@ fn answer_calls<S: LabelStore + Drop, W: Sink>(
         (W.written writer.new) calls.items) }
     ensures faults { IfErr result IsOutputFault }
     ensures count { CountsFailure (W.failures writer.old) (W.failures writer.new) (is_write_failed result) }
+    ensures memory { OnOutOfMemory result H.Refused }
 {
     'calls: for asked in calls {
-        answer_call(alloc, kernel, asked, writer)?;
+        answer_call(heap, kernel, asked, writer)?;
     }
     Ok(())
 }
 
 /// Has the kernel make one call, and writes its line.
-pub fn answer_call<S: LabelStore + Drop, W: Sink>(
-    alloc: Global,
+pub fn answer_call<H: Heap, S: LabelStore + Drop, W: Sink>(
+    heap: H,
     kernel: &mut Kernel<S>,
     asked: RawLine,
     writer: &mut W,
@@ -113,20 +124,22 @@ pub fn answer_call<S: LabelStore + Drop, W: Sink>(
         (W.written writer.old) (W.written writer.new) asked) }
     ensures faults { IfErr result IsOutputFault }
     ensures count { CountsFailure (W.failures writer.old) (W.failures writer.new) (is_write_failed result) }
+    ensures memory { OnOutOfMemory result H.Refused }
 {
-    let line = make_call(alloc, kernel, asked)?;
+    let line = make_call(heap, kernel, asked)?;
     write_bytes(writer, line.as_slice())?;
     Ok(())
 }
 
 /// Has the kernel make one call, and prints its outcome in a line.
-fn make_call<S: LabelStore + Drop>(
-    alloc: Global,
+fn make_call<H: Heap, S: LabelStore + Drop>(
+    heap: H,
     kernel: &mut Kernel<S>,
     asked: RawLine,
 ) -> Result<Vec<u8>, OutOfMemory>
     ensures prints { IfOk result (λ line. PrintsCall (state kernel.old) (state kernel.new) asked line.items) }
     ensures made { OnOk result (IsMadeOnLine kernel.old asked kernel.new) }
+    ensures memory { OnErr result H.Refused }
 {
     let RawLine {
         line: number,
@@ -134,9 +147,9 @@ fn make_call<S: LabelStore + Drop>(
         call,
     } = asked;
     kernel.begin(number);
-    match kernel.call(alloc, thread, call) {
-        Ok(answer) => answer_line(alloc, number, &answer),
-        Err(Refusal::Denied(denied)) => denial_line(alloc, number, denied),
+    match kernel.call(heap, thread, call) {
+        Ok(answer) => answer_line(heap, number, &answer),
+        Err(Refusal::Denied(denied)) => denial_line(heap, number, denied),
         Err(Refusal::OutOfMemory) => Err(OutOfMemory),
     }
 }

@@ -7,6 +7,7 @@ pub mod Numbers
 pub mod LabelsRead
 pub mod Failing
 pub mod Splits
+pub mod Commas
 pub mod WordsRead
 pub mod CallsRead
 pub mod CallsRight

@@ -4,3 +4,4 @@ pub mod RawTextLaws
 pub mod Readable
 pub mod Reading
 pub mod Outcome
+pub mod Memory

@@ -1,19 +1,22 @@
 //! Reading labels.
-ghost use Rattle.std.specs.Prelude.{◌≡◌, ◌==◌, IfOk, map};
+ghost use Rattle.std.specs.Prelude.{◌≡◌, ◌==◌, IfOk, OnErr, map};
 ghost use Rattle.std.specs.List.{slice_split};
+ghost use Rattle.histar_rawtext.specs.Memory.{OnOutOfMemory};
 ghost use Rattle.histar_rawtext.specs.Outcome.{Gives};
 ghost use Rattle.histar_rawtext.specs.Reading.{category_in, level_in, exception_in, label_in};
 
 use crate::read_words::read_number;
 use crate::unread::Unread;
 use histar_flat::split_at_first;
+use histar_heap::Heap;
 use histar_label::{Category, Label, Level};
 use histar_rules::HandedLabel;
-use std::alloc::{AllocError, Global};
+use std::alloc::AllocError;
 
 /// Reads the level at the front of a text.
 fn read_level(text: &[u8]) -> Result<Level, Unread>
-    ensures { Gives result (level_in text.now) }
+    ensures exact { Gives result (level_in text.now) }
+    ensures memory { OnOutOfMemory result ⊥ }
 {
     match text {
         [b'*', ..] => Ok(Level::Star),
@@ -27,7 +30,8 @@ fn read_level(text: &[u8]) -> Result<Level, Unread>
 
 /// Reads a category: a number from 1 on.
 fn read_category(word: &[u8]) -> Result<Category, Unread>
-    ensures { Gives result (category_in word.now) }
+    ensures exact { Gives result (category_in word.now) }
+    ensures memory { OnOutOfMemory result ⊥ }
 {
     let number = read_number(word)?;
     if number < 1 {
@@ -39,7 +43,8 @@ fn read_category(word: &[u8]) -> Result<Category, Unread>
 /// Reads an exception: its category and its level, with a colon between.
 #[tactic(auto, unfolding(crate::specs::Reading::exception_in))]
 fn read_exception(text: &[u8]) -> Result<(Category, Level), Unread>
-    ensures { Gives result (exception_in text.now) }
+    ensures exact { Gives result (exception_in text.now) }
+    ensures memory { OnOutOfMemory result ⊥ }
 {
     let (category, level) = split_at_first(text, b':');
     let category = read_category(category)?;
@@ -50,36 +55,46 @@ fn read_exception(text: &[u8]) -> Result<(Category, Level), Unread>
 }
 
 /// Splits a text at its commas.
-fn split_at_commas(alloc: Global, text: &[u8]) -> Result<Vec<&[u8]>, AllocError>
-    ensures { IfOk result (λ parts.
+fn split_at_commas<H: Heap>(heap: H, text: &[u8]) -> Result<Vec<&[u8]>, AllocError>
+    ensures ok { IfOk result (λ parts.
         map (λ part. part.now) parts.items ≡ slice_split (λ b. b == 44) text.now) }
+    ensures memory { OnErr result H.Refused }
 {
-    text.split(|b| *b == b',').collect(alloc)
+    let mut parts = Vec::new(heap.alloc());
+    let mut rest = Some(text);
+    'commas: while let Some(left) = rest {
+        let (part, after) = split_at_first(left, b',');
+        heap.push(&mut parts, part)?;
+        rest = after;
+    }
+    Ok(parts)
 }
 
 /// Reads a label: after a brace its exceptions and its default, with a comma between two.
-fn read_label(alloc: Global, word: &[u8]) -> Result<Label, Unread>
-    ensures { Gives result (label_in word.now) }
+fn read_label<H: Heap>(heap: H, word: &[u8]) -> Result<Label, Unread>
+    ensures exact { Gives result (label_in word.now) }
+    ensures memory { OnOutOfMemory result H.Refused }
 {
     let [_, text @ ..] = word else {
         return Err(Unread::NoCall);
     };
-    let mut parts = split_at_commas(alloc, text)?;
+    let mut parts = split_at_commas(heap, text)?;
     let Some(default) = parts.pop() else {
         return Err(Unread::NoCall);
     };
-    let mut label = Label::new(alloc, read_level(default)?);
+    let mut label = Label::new(heap.alloc(), read_level(default)?);
     while let Some(part) = parts.pop() {
         let (category, level) = read_exception(part)?;
-        label.set(alloc, category, level)?;
+        label.set(heap, category, level)?;
     }
     Ok(label)
 }
 
 /// Reads a label that a raw call is given.
-pub(crate) fn read_handed(alloc: Global, word: &[u8]) -> Result<HandedLabel, Unread>
-    ensures { Gives result (label_in word.now) }
+pub(crate) fn read_handed<H: Heap>(heap: H, word: &[u8]) -> Result<HandedLabel, Unread>
+    ensures exact { Gives result (label_in word.now) }
+    ensures memory { OnOutOfMemory result H.Refused }
 {
-    let label = read_label(alloc, word)?;
-    Ok(HandedLabel::new(alloc, label)?)
+    let label = read_label(heap, word)?;
+    Ok(HandedLabel::new(heap, label)?)
 }

@@ -7,4 +7,5 @@ pub mod Resolve
 pub mod Process
 pub mod Processes
 pub mod ProcessLines
+pub mod Memory
 pub mod Laws

@@ -1,19 +1,21 @@
 //! Reading one process.
-ghost use Rattle.std.specs.Prelude.{◌≡◌, ◌&&◌, not, nat_eq, IfOk};
+ghost use Rattle.std.specs.Prelude.{◌≡◌, ◌&&◌, not, nat_eq, IfOk, OnErr};
 ghost use Rattle.std.specs.Set.{is_member};
 ghost use Rattle.std.specs.Option.{option_copied};
 ghost use Rattle.histar_level.specs.Level.{is_star};
 ghost use Rattle.histar_object.specs.Objects.{objects_of};
 ghost use Rattle.histar_syscall.specs.KernelModel.{state};
+ghost use Rattle.histar_readout.specs.Memory.{OnOutOfMemoryOfProcess};
 ghost use Rattle.histar_readout.specs.Process.{ReadsFrom, container_label, life_in, node_in, owned_beside, running_by, thread_label};
 
 use histar_flat::{Name, ProcName};
+use histar_heap::Heap;
 use histar_label::{Category, Label, LabelStore, Level};
 use histar_layout::{Chain, UserTable, is_in_job, jobs_in, read_status, user_of};
 use histar_object::ObjId;
 use histar_programs::{Caller, Home, caller_in, joined, owned_by, user_name};
 use histar_syscall::Kernel;
-use std::alloc::{AllocError, AllocFailed, Global};
+use std::alloc::{AllocError, AllocFailed};
 
 /// A process that was not killed.
 #[derive(Drop)]
@@ -73,14 +75,15 @@ impl<T: Drop> From<AllocFailed<T>> for ProcessError {
 }
 
 /// Reads the process of this name at this place.
-pub fn read_process<S: LabelStore + Drop>(
-    alloc: Global,
+pub fn read_process<H: Heap, S: LabelStore + Drop>(
+    heap: H,
     kernel: &Kernel<S>,
     users: &UserTable,
     name: &ProcName,
     home: &Home,
 ) -> Result<ProcessNode, ProcessError>
-    ensures { ReadsFrom (node_in users.now (state kernel.now) name.now home.now) result }
+    ensures reads { ReadsFrom (node_in users.now (state kernel.now) name.now home.now) result }
+    ensures memory { OnOutOfMemoryOfProcess result H.Refused }
 {
     let Some(head) = read_status(kernel.bytes(home.segment)) else {
         return Err(ProcessError::NoProcess);
@@ -91,22 +94,23 @@ pub fn read_process<S: LabelStore + Drop>(
     Ok(ProcessNode {
         name: *name,
         home: *home,
-        chain: Chain::new(jobs_in(alloc, outer)?),
-        life: read_life(alloc, kernel, users, home, head.exited)?,
+        chain: Chain::new(jobs_in(heap, outer)?),
+        life: read_life(heap, kernel, users, home, head.exited)?,
         born: head.born,
     })
 }
 
 /// Reads whether the process at this place runs, and as whom; if it has exited, its segment contains this
 /// number.
-fn read_life<S: LabelStore + Drop>(
-    alloc: Global,
+fn read_life<H: Heap, S: LabelStore + Drop>(
+    heap: H,
     kernel: &Kernel<S>,
     users: &UserTable,
     home: &Home,
     exited: Option<u8>,
 ) -> Result<Life, ProcessError>
-    ensures { ReadsFrom (life_in users.now (state kernel.now) home.now exited) result }
+    ensures reads { ReadsFrom (life_in users.now (state kernel.now) home.now exited) result }
+    ensures memory { OnOutOfMemoryOfProcess result H.Refused }
 {
     if let Some(number) = exited {
         return Ok(Life::Exited(number));
@@ -117,22 +121,23 @@ fn read_life<S: LabelStore + Drop>(
     let Some(own) = thread_label(kernel, caller.thread) else {
         return Err(ProcessError::NoProcess);
     };
-    Ok(running_by(alloc, users, &caller, own)?)
+    Ok(running_by(heap, users, &caller, own)?)
 }
 
 /// Returns the user of a process that runs and the jobs that it holds, by the label of its thread.
-fn running_by(
-    alloc: Global,
+fn running_by<H: Heap>(
+    heap: H,
     users: &UserTable,
     caller: &Caller,
     own: &Label,
 ) -> Result<Life, AllocError>
-    ensures { IfOk result (λ life. life ≡ running_by users.now caller.now own.now) }
+    ensures ok { IfOk result (λ life. life ≡ running_by users.now caller.now own.now) }
+    ensures memory { OnErr result H.Refused }
 {
     let number = user_of(own, users);
-    let as_user = owned_by(alloc, users, number, !is_in_job(own))?;
-    let known = joined(alloc, &[caller.read, caller.write], as_user.as_slice())?;
-    let held = owned_beside(alloc, own, known.as_slice())?;
+    let as_user = owned_by(heap, users, number, !is_in_job(own))?;
+    let known = joined(heap, &[caller.read, caller.write], as_user.as_slice())?;
+    let held = owned_beside(heap, own, known.as_slice())?;
     Ok(Life::Running {
         user: user_name(users, number),
         held: Chain::new(held),
@@ -140,14 +145,19 @@ fn running_by(
 }
 
 /// Returns the categories that a label owns, without these.
-fn owned_beside(alloc: Global, own: &Label, known: &[Category]) -> Result<Vec<Category>, AllocError>
-    ensures { IfOk result (λ owned. owned.items ≡ owned_beside known.now own.now) }
+fn owned_beside<H: Heap>(
+    heap: H,
+    own: &Label,
+    known: &[Category],
+) -> Result<Vec<Category>, AllocError>
+    ensures ok { IfOk result (λ owned. owned.items ≡ owned_beside known.now own.now) }
+    ensures memory { OnErr result H.Refused }
 {
-    let mut owned = Vec::new(alloc);
+    let mut owned = Vec::new(heap.alloc());
     let exceptions = own.exceptions();
     for &(category, level) in exceptions {
         if is_owned_beside(known, category, level) {
-            owned.push(category)?;
+            heap.push(&mut owned, category)?;
         }
     }
     Ok(owned)

@@ -1,19 +1,21 @@
 //! Reading the tree.
-ghost use Rattle.std.specs.Prelude.{◌≡◌, ◌≤◌, length, IfOk};
+ghost use Rattle.std.specs.Prelude.{◌≡◌, ◌≤◌, length, IfOk, OnErr};
 ghost use Rattle.histar_flat.specs.Words.{most_names};
 ghost use Rattle.histar_layout.specs.Listing.{object_of};
 ghost use Rattle.histar_syscall.specs.KernelModel.{state};
+ghost use Rattle.histar_readout.specs.Memory.{OnOutOfMemoryOfTree};
 ghost use Rattle.histar_readout.specs.TreeEntries.{node_bytes};
 ghost use Rattle.histar_readout.specs.TreeLines.{node_stat};
 ghost use Rattle.histar_readout.specs.Tree.{AddsBelow, AddsTree, FindsNode, FindsTree};
 
 use histar_flat::{Path, Stat};
+use histar_heap::Heap;
 use histar_label::LabelStore;
 use histar_layout::{Class, Target, UserTable, class_of, read_dir};
 use histar_object::ObjId;
 use histar_programs::Roots;
 use histar_syscall::Kernel;
-use std::alloc::{AllocError, AllocFailed, Global};
+use std::alloc::{AllocError, AllocFailed};
 
 /// The greatest number of names of a path.
 const MOST_NAMES: usize = 8;
@@ -83,18 +85,19 @@ impl<T: Drop> From<AllocFailed<T>> for TreeError {
 /// Reads the files and directories of a kernel, by rising paths: those that the directory segments list from
 /// that of `/` on. It reads the kernel's table, and makes no raw call. None where the segments don't list a
 /// tree of files and directories, with labels of classes and paths that can be named.
-pub fn tree_of<S: LabelStore + Drop>(
-    alloc: Global,
+pub fn tree_of<H: Heap, S: LabelStore + Drop>(
+    heap: H,
     kernel: &Kernel<S>,
     roots: &Roots,
     users: &UserTable,
 ) -> Result<Option<Vec<TreeNode>>, AllocError>
-    ensures { IfOk result (FindsTree users.now (state kernel.now) roots.now) }
+    ensures ok { IfOk result (FindsTree users.now (state kernel.now) roots.now) }
+    ensures memory { OnErr result H.Refused }
 {
-    let mut tree = Vec::new(alloc);
+    let mut tree = Vec::new(heap.alloc());
     let source = Source { kernel, users };
     let slash = Target::Directory(roots.slash.container, roots.slash.listing);
-    match push_tree(alloc, &source, &Path::root(), slash, &mut tree) {
+    match push_tree(heap, &source, &Path::root(), slash, &mut tree) {
         Ok(()) => Ok(Some(tree)),
         Err(TreeError::NotATree) => Ok(None),
         Err(TreeError::OutOfMemory) => Err(AllocError),
@@ -113,66 +116,69 @@ pub fn bytes_of<'a, S: LabelStore + Drop>(kernel: &'a Kernel<S>, node: &TreeNode
 
 /// Adds the file or directory at a path, and then those below it.
 #[cycle(tree)]
-fn push_tree<S: LabelStore + Drop>(
-    alloc: Global,
+fn push_tree<H: Heap, S: LabelStore + Drop>(
+    heap: H,
     source: &Source<S>,
     path: &Path,
     target: Target,
     tree: &mut Vec<TreeNode>,
 ) -> Result<(), TreeError>
     requires { length path.now ≤ most_names }
-    ensures { AddsTree source.now.users.now (state source.now.kernel.now) path.now target
+    ensures adds { AddsTree source.now.users.now (state source.now.kernel.now) path.now target
         tree.old.items tree.new.items result }
+    ensures memory { OnOutOfMemoryOfTree result H.Refused }
 {
-    let node = node_at(alloc, source, path, target)?;
-    tree.push(node)?;
+    let node = node_at(heap, source, path, target)?;
+    heap.push(tree, node)?;
     match &target {
         Target::File(_) => Ok(()),
-        Target::Directory(_, listing) => push_below(alloc, source, path, *listing, tree),
+        Target::Directory(_, listing) => push_below(heap, source, path, *listing, tree),
     }
 }
 
 /// Adds the files and directories below a directory with this directory segment.
 #[cycle(tree)]
-fn push_below<S: LabelStore + Drop>(
-    alloc: Global,
+fn push_below<H: Heap, S: LabelStore + Drop>(
+    heap: H,
     source: &Source<S>,
     path: &Path,
     listing: ObjId,
     tree: &mut Vec<TreeNode>,
 ) -> Result<(), TreeError>
     requires { length path.now ≤ most_names }
-    ensures { AddsBelow source.now.users.now (state source.now.kernel.now) path.now listing
+    ensures adds { AddsBelow source.now.users.now (state source.now.kernel.now) path.now listing
         tree.old.items tree.new.items result }
+    ensures memory { OnOutOfMemoryOfTree result H.Refused }
 {
-    let Some(directory) = read_dir(alloc, source.kernel.bytes(listing))? else {
+    let Some(directory) = read_dir(heap, source.kernel.bytes(listing))? else {
         return Err(TreeError::NotATree);
     };
-    let entries = directory.entries(alloc)?;
+    let entries = directory.entries(heap)?;
     'entries: for entry in &entries {
         let (name, target) = *entry;
         if path.depth() == MOST_NAMES {
             return Err(TreeError::NotATree);
         }
         let inner = path.entry(name);
-        push_tree(alloc, source, &inner, target, tree)?;
+        push_tree(heap, source, &inner, target, tree)?;
     }
     Ok(())
 }
 
 /// Returns the file or directory at a path with this target: its object has a label, which is of a class.
-fn node_at<S: LabelStore + Drop>(
-    alloc: Global,
+fn node_at<H: Heap, S: LabelStore + Drop>(
+    heap: H,
     source: &Source<S>,
     path: &Path,
     target: Target,
 ) -> Result<TreeNode, TreeError>
-    ensures { FindsNode source.now.users.now (state source.now.kernel.now) path.now target result }
+    ensures finds { FindsNode source.now.users.now (state source.now.kernel.now) path.now target result }
+    ensures memory { OnOutOfMemoryOfTree result H.Refused }
 {
     let Some(label) = source.kernel.label(target.object()) else {
         return Err(TreeError::NotATree);
     };
-    let Some(class) = class_of(alloc, label, source.users)? else {
+    let Some(class) = class_of(heap, label, source.users)? else {
         return Err(TreeError::NotATree);
     };
     Ok(TreeNode {

@@ -1,2 +1,3 @@
 -- The definitions of this crate that contracts cite.
 pub mod Session
+pub mod Laws

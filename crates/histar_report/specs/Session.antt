@@ -11,7 +11,7 @@ use Rattle.histar_access.specs.Session.{AccessText}
 use Rattle.histar_trust.specs.Session.{FlowsText, SecretsText}
 use Rattle.histar_leak.specs.Titles.{TitlesText}
 use Rattle.histar_why.specs.Run.{RunsWithReasons}
-use Rattle.histar_page.specs.Page.{IsPage}
+use Rattle.histar_page.specs.Page.{page_of}
 
 -- the options of the run: it prints its raw calls
 abbrev pub with_trace : Options
@@ -41,9 +41,9 @@ AreTitles text titles = TitlesText text (Some []) (Some titles) (Ok tt)
 abbrev pub AreFlows : List ℕ → List ℕ → Type 0
 AreFlows text flows = FlowsText None text (Some []) (Some flows) (Ok tt)
 
--- A page was written as far as `Writes` says: one that shows the output of the run of the script in a text, why calls were refused, its
--- table of rights, which processes have to be trusted with its secret files, how each of these is revealed or changed, and to whom each
--- process can pass on what it learns.
+-- A page was written as far as `Writes` says: the one of the script in a text, of the output of its run, of why calls were refused, of its
+-- table of rights, of the lines on which processes have to be trusted with its secret files, of those on how each of these is revealed or
+-- changed, and of those on to whom each process can pass on what it learns.
 pub record WritesPageAs (Writes : List ℕ → Type 0) (name version text : List ℕ) : Type 0 where
   pub output : List ℕ
   pub is_output : IsExplainedOutput with_trace text output
@@ -58,18 +58,17 @@ pub record WritesPageAs (Writes : List ℕ → Type 0) (name version text : List
   pub flows : List ℕ
   pub are_flows : AreFlows text flows
   pub page : List ℕ
-  pub is_page : IsPage
-      (record {
-        name = name;
-        version = version;
-        script = text;
-        output = output;
-        reasons = reasons;
-        table = table;
-        secrets = secrets;
-        titles = titles;
-        flows = flows;
-      }) page
+  pub is_page : page ≡ page_of (record {
+    name = name;
+    version = version;
+    script = text;
+    output = output;
+    reasons = reasons;
+    table = table;
+    secrets = secrets;
+    titles = titles;
+    flows = flows;
+  })
   pub written : Writes page
 
 -- A page of the run was written; or the fault of the script is returned, and nothing was written. At a failed write a beginning was

@@ -1,6 +1,7 @@
 //! The page of a session, from bytes to bytes.
 #![tactic(auto)]
 
+pub mod laws;
 mod session;
 
 pub use session::report;

@@ -72,6 +72,8 @@ impl<'a> Command for PageOf<'a> {
 
     type Answer = ();
 
+    type Memory = Global;
+
     ghost Runs = { λ command. WritesPage command.name.now command.version.now };
 
     fn on_text<W: Sink>(self, alloc: Global, text: Vec<u8>, writer: &mut W) -> Result<(), Fault> {

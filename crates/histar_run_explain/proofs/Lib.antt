@@ -6,3 +6,4 @@ pub mod WholeRuns
 pub mod TextRuns
 pub mod Outputs
 pub mod OneTrace
+pub mod NamedLines

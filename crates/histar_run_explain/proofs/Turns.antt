@@ -46,7 +46,7 @@ line_goes : (old new : MachineModel) (line : ℕ) (me : ProcName) (call : UnixCa
     → AnswersLine old new line me call (Ok reply) → GoesBy old.kernel new.kernel
 line_goes old new line me call reply h = by old.is_stopped h
   where
-    found : (o : Option Caller) → AnswersFound o old new line me call (Ok reply) → GoesBy old.kernel new.kernel
+    found : (o : Option Caller) → AnswersFound (Unit {0}) o old new line me call (Ok reply) → GoesBy old.kernel new.kernel
     found None k =
         record {
           entries = [];
@@ -57,7 +57,7 @@ line_goes old new line me call reply h = by old.is_stopped h
         let goes = by_program (program_of old.users old.roots me caller call) (on_line line old.kernel) new.kernel caller.thread (Ok reply) k.made in
         record { entries = goes.entries; trace = goes.trace; run = goes.run }
 
-    by : (b : Bool) → AnswersIf b old new line me call (Ok reply) → GoesBy old.kernel new.kernel
+    by : (b : Bool) → AnswersIf (Unit {0}) b old new line me call (Ok reply) → GoesBy old.kernel new.kernel
     by true k = absurd cc
     by false k = found (caller_at (state old.kernel) old.roots.home me) k
 

@@ -1,7 +1,13 @@
-//! The law of explained traces: the contract of a function that does nothing.
-ghost use Rattle.histar_run_explain.specs.Laws.{ExplainsTheTrace};
+//! The laws of explained traces. Each law is the contract of a function that does nothing.
+ghost use Rattle.histar_run_explain.specs.Laws.{ExplainsTheTrace, UsedCategoriesAreNamed};
 
 /// Proves that the trace that is explained is the one that `run` returns.
 pub fn the_trace_is_explained()
     ensures { ExplainsTheTrace }
+{}
+
+/// Proves that each category that is used after a line has the name of what it is for in what explains the
+/// line.
+pub fn used_categories_are_named()
+    ensures { UsedCategoriesAreNamed }
 {}

@@ -17,10 +17,10 @@ ghost use Rattle.histar_run_explain.specs.Run.{ExplainsText};
 
 use crate::replaying::{Entries, explain_entries};
 use histar_command::{Command, run_command};
-use histar_flat::{CallLine, ProcName};
+use histar_flat::CallLine;
 use histar_io::{Sink, Source, write_bytes};
 use histar_label::{InternStore, LabelStore, OutOfMemory};
-use histar_names::{Clue, Names, clue_of, note_births};
+use histar_names::{Clue, Names, Purpose, clue_of, note_births};
 use histar_raw_explain::ByNumber;
 use histar_script::{Fault, read_script};
 use histar_shell::{Machine, Options, answer_call, write_ending};
@@ -35,8 +35,8 @@ const REMEMBERED_ANSWERS: usize = 256;
 struct Explainer<S: LabelStore + Drop> {
     /// The kernel that is brought to the state before each raw call.
     second: Kernel<S>,
-    /// For each category, by its number, a process that it may be of.
-    births: Vec<Option<ProcName>>,
+    /// For each category, by its number, what it was made for.
+    births: Vec<Option<Purpose>>,
     /// The explanations so far.
     text: Vec<u8>,
 }
@@ -81,6 +81,8 @@ impl Command for ExplainedRun {
     ghost use Rattle.std.proofs.Common.{rules};
 
     type Answer = ();
+
+    type Memory = Global;
 
     ghost Runs = { λ command. ExplainsText command.options };
 

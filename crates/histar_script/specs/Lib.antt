@@ -3,6 +3,7 @@ pub mod Lines
 pub mod Script
 pub mod CallForms
 pub mod Reading
+pub mod Memory
 pub mod Outcome
 pub mod Grammar
 pub mod Laws

@@ -1,6 +1,6 @@
 //! Reading a line of a script. `Ok(None)` is a bad line. Paths, the bytes of a `write` or an `append` and the
 //! members of a group are copied, and memory may run out.
-ghost use Rattle.std.specs.Prelude.{◌≡◌, ◌++◌, drop, Some, IfOk, option_map};
+ghost use Rattle.std.specs.Prelude.{◌≡◌, ◌++◌, drop, Some, IfOk, OnErr, option_map};
 ghost use Rattle.std.specs.Option.{option_copied};
 ghost use Rattle.histar_script.specs.CallForms.{a_path, a_mode, any_bytes, a_name, a_password, writing_calls, reading_calls};
 ghost use Rattle.histar_script.specs.CallForms.{entry_calls, process_calls};
@@ -15,7 +15,8 @@ use histar_flat::{
     Mode, Name, OwnedPath, Password, UnixCall, User, read_mode, read_name, read_owned_path,
     read_password, read_process, read_status, read_user_name,
 };
-use std::alloc::{AllocError, Global};
+use histar_heap::Heap;
+use std::alloc::AllocError;
 
 /// Reads `NAME PASSWORD`, where NAME may be a user's.
 #[tactic(auto, unfolding(crate::specs::Reading::user_of))]
@@ -30,11 +31,15 @@ fn read_user(text: &[u8]) -> Option<User>
 
 /// Reads `PATH MODE`.
 #[tactic(auto, unfolding(crate::specs::Reading::two_values_of))]
-fn read_path_and_mode(alloc: Global, text: &[u8]) -> Result<Option<(OwnedPath, Mode)>, AllocError>
-    ensures { IfOk result (λ values. values ≡ two_values_of a_path a_mode text.now) }
+fn read_path_and_mode<H: Heap>(
+    heap: H,
+    text: &[u8],
+) -> Result<Option<(OwnedPath, Mode)>, AllocError>
+    ensures ok { IfOk result (λ values. values ≡ two_values_of a_path a_mode text.now) }
+    ensures memory { OnErr result H.Refused }
 {
     let (word, rest) = split_word(text);
-    let Some(path) = read_owned_path(alloc, word)? else {
+    let Some(path) = read_owned_path(heap, word)? else {
         return Ok(None);
     };
     let Some(mode) = rest.and_then(|mode| read_mode(mode)) else {
@@ -45,27 +50,35 @@ fn read_path_and_mode(alloc: Global, text: &[u8]) -> Result<Option<(OwnedPath, M
 
 /// Reads `PATH BYTES`.
 #[tactic(auto, unfolding(crate::specs::Reading::two_values_of))]
-fn read_path_and_bytes(alloc: Global, text: &[u8]) -> Result<Option<(OwnedPath, Bytes)>, AllocError>
-    ensures { IfOk result (λ values. values ≡ two_values_of a_path any_bytes text.now) }
+fn read_path_and_bytes<H: Heap>(
+    heap: H,
+    text: &[u8],
+) -> Result<Option<(OwnedPath, Bytes)>, AllocError>
+    ensures ok { IfOk result (λ values. values ≡ two_values_of a_path any_bytes text.now) }
+    ensures memory { OnErr result H.Refused }
 {
     let (word, rest) = split_word(text);
-    let Some(path) = read_owned_path(alloc, word)? else {
+    let Some(path) = read_owned_path(heap, word)? else {
         return Ok(None);
     };
     let Some(bytes) = rest else {
         return Ok(None);
     };
-    let bytes = Bytes::copy_of(alloc, bytes)?;
+    let bytes = Bytes::copy_of(heap, bytes)?;
     Ok(Some((path, bytes)))
 }
 
 /// Reads `PATH NAME`.
 #[tactic(auto, unfolding(crate::specs::Reading::two_values_of))]
-fn read_path_and_name(alloc: Global, text: &[u8]) -> Result<Option<(OwnedPath, Name)>, AllocError>
-    ensures { IfOk result (λ values. values ≡ two_values_of a_path a_name text.now) }
+fn read_path_and_name<H: Heap>(
+    heap: H,
+    text: &[u8],
+) -> Result<Option<(OwnedPath, Name)>, AllocError>
+    ensures ok { IfOk result (λ values. values ≡ two_values_of a_path a_name text.now) }
+    ensures memory { OnErr result H.Refused }
 {
     let (word, rest) = split_word(text);
-    let Some(path) = read_owned_path(alloc, word)? else {
+    let Some(path) = read_owned_path(heap, word)? else {
         return Ok(None);
     };
     let Some(name) = rest.and_then(|name| read_name(name)) else {
@@ -87,8 +100,9 @@ fn read_name_and_password(text: &[u8]) -> Option<(Name, Password)>
 
 /// Reads a call: its word, and its arguments.
 #[tactic(auto, unfolding(crate::specs::Reading::call_of), using(crate::proofs::FormsBack::none_without_argument))]
-pub fn read_call(alloc: Global, text: &[u8]) -> Result<Option<UnixCall>, AllocError>
-    ensures { IfOk result (λ call. call ≡ call_of text.now) }
+pub fn read_call<H: Heap>(heap: H, text: &[u8]) -> Result<Option<UnixCall>, AllocError>
+    ensures ok { IfOk result (λ call. call ≡ call_of text.now) }
+    ensures memory { OnErr result H.Refused }
 {
     let (word, rest) = split_word(text);
     if word == b"spawn".as_slice() {
@@ -99,7 +113,7 @@ pub fn read_call(alloc: Global, text: &[u8]) -> Result<Option<UnixCall>, AllocEr
     }
     match rest {
         None => Ok(None),
-        Some(rest) => writing_call(alloc, word, rest),
+        Some(rest) => writing_call(heap, word, rest),
     }
 }
 
@@ -118,119 +132,132 @@ fn lone_call(call: UnixCall, rest: Option<&[u8]>) -> Option<UnixCall>
 
 /// Reads the arguments of a call whose word is `word`, if it is a call that writes, or one of the later
 /// groups.
-fn writing_call(alloc: Global, word: &[u8], rest: &[u8]) -> Result<Option<UnixCall>, AllocError>
-    ensures { IfOk result (λ call.
+fn writing_call<H: Heap>(heap: H, word: &[u8], rest: &[u8]) -> Result<Option<UnixCall>, AllocError>
+    ensures ok { IfOk result (λ call.
         call ≡ call_among (writing_calls ++ reading_calls ++ entry_calls ++ process_calls) word.now (Some rest.now)) }
+    ensures memory { OnErr result H.Refused }
 {
     if word == b"create".as_slice() {
-        create_call(alloc, rest)
+        create_call(heap, rest)
     } else if word == b"mkdir".as_slice() {
-        mkdir_call(alloc, rest)
+        mkdir_call(heap, rest)
     } else {
-        bytes_call(alloc, word, rest)
+        bytes_call(heap, word, rest)
     }
 }
 
 // Reads the arguments of `create`. Each call of two arguments has its own function, since one for all would clear
 // the room for the arguments of each of them.
 #[inline(never)]
-fn create_call(alloc: Global, rest: &[u8]) -> Result<Option<UnixCall>, AllocError>
-    ensures { IfOk result (λ call. call ≡
+fn create_call<H: Heap>(heap: H, rest: &[u8]) -> Result<Option<UnixCall>, AllocError>
+    ensures ok { IfOk result (λ call. call ≡
         option_map (λ values. UnixCall.Create values.0 values.1) (two_values_of a_path a_mode rest.now)) }
+    ensures memory { OnErr result H.Refused }
 {
-    let values = read_path_and_mode(alloc, rest)?;
+    let values = read_path_and_mode(heap, rest)?;
     Ok(values.map(|(path, mode)| UnixCall::Create(path, mode)))
 }
 
 // Reads the arguments of `mkdir`.
 #[inline(never)]
-fn mkdir_call(alloc: Global, rest: &[u8]) -> Result<Option<UnixCall>, AllocError>
-    ensures { IfOk result (λ call. call ≡
+fn mkdir_call<H: Heap>(heap: H, rest: &[u8]) -> Result<Option<UnixCall>, AllocError>
+    ensures ok { IfOk result (λ call. call ≡
         option_map (λ values. UnixCall.Mkdir values.0 values.1) (two_values_of a_path a_mode rest.now)) }
+    ensures memory { OnErr result H.Refused }
 {
-    let values = read_path_and_mode(alloc, rest)?;
+    let values = read_path_and_mode(heap, rest)?;
     Ok(values.map(|(path, mode)| UnixCall::Mkdir(path, mode)))
 }
 
 // Reads the arguments of `write`.
 #[inline(never)]
-fn write_call(alloc: Global, rest: &[u8]) -> Result<Option<UnixCall>, AllocError>
-    ensures { IfOk result (λ call. call ≡
+fn write_call<H: Heap>(heap: H, rest: &[u8]) -> Result<Option<UnixCall>, AllocError>
+    ensures ok { IfOk result (λ call. call ≡
         option_map (λ values. UnixCall.Write values.0 values.1) (two_values_of a_path any_bytes rest.now)) }
+    ensures memory { OnErr result H.Refused }
 {
-    let values = read_path_and_bytes(alloc, rest)?;
+    let values = read_path_and_bytes(heap, rest)?;
     Ok(values.map(|(path, bytes)| UnixCall::Write(path, bytes)))
 }
 
 // Reads the arguments of `append`.
 #[inline(never)]
-fn append_call(alloc: Global, rest: &[u8]) -> Result<Option<UnixCall>, AllocError>
-    ensures { IfOk result (λ call. call ≡
+fn append_call<H: Heap>(heap: H, rest: &[u8]) -> Result<Option<UnixCall>, AllocError>
+    ensures ok { IfOk result (λ call. call ≡
         option_map (λ values. UnixCall.Append values.0 values.1) (two_values_of a_path any_bytes rest.now)) }
+    ensures memory { OnErr result H.Refused }
 {
-    let values = read_path_and_bytes(alloc, rest)?;
+    let values = read_path_and_bytes(heap, rest)?;
     Ok(values.map(|(path, bytes)| UnixCall::Append(path, bytes)))
 }
 
 /// Reads the arguments of a call whose word is `word`, if it is a call that writes bytes, or one of the later
 /// groups.
-fn bytes_call(alloc: Global, word: &[u8], rest: &[u8]) -> Result<Option<UnixCall>, AllocError>
-    ensures { IfOk result (λ call.
+fn bytes_call<H: Heap>(heap: H, word: &[u8], rest: &[u8]) -> Result<Option<UnixCall>, AllocError>
+    ensures ok { IfOk result (λ call.
         call ≡ call_among (drop 2 writing_calls ++ reading_calls ++ entry_calls ++ process_calls) word.now (Some rest.now)) }
+    ensures memory { OnErr result H.Refused }
 {
     if word == b"write".as_slice() {
-        write_call(alloc, rest)
+        write_call(heap, rest)
     } else if word == b"append".as_slice() {
-        append_call(alloc, rest)
+        append_call(heap, rest)
     } else {
-        reading_call(alloc, word, rest)
+        reading_call(heap, word, rest)
     }
 }
 
 /// Reads the arguments of a call whose word is `word`, if it is a call that reads, or one of the later
 /// groups.
-fn reading_call(alloc: Global, word: &[u8], rest: &[u8]) -> Result<Option<UnixCall>, AllocError>
-    ensures { IfOk result (λ call.
+fn reading_call<H: Heap>(heap: H, word: &[u8], rest: &[u8]) -> Result<Option<UnixCall>, AllocError>
+    ensures ok { IfOk result (λ call.
         call ≡ call_among (reading_calls ++ entry_calls ++ process_calls) word.now (Some rest.now)) }
+    ensures memory { OnErr result H.Refused }
 {
     if word == b"read".as_slice() {
-        Ok(read_owned_path(alloc, rest)?.map(UnixCall::Read))
+        Ok(read_owned_path(heap, rest)?.map(UnixCall::Read))
     } else if word == b"list".as_slice() {
-        Ok(read_owned_path(alloc, rest)?.map(UnixCall::List))
+        Ok(read_owned_path(heap, rest)?.map(UnixCall::List))
     } else if word == b"stat".as_slice() {
-        Ok(read_owned_path(alloc, rest)?.map(UnixCall::Stat))
+        Ok(read_owned_path(heap, rest)?.map(UnixCall::Stat))
     } else {
-        entry_call(alloc, word, rest)
+        entry_call(heap, word, rest)
     }
 }
 
 /// Reads the arguments of a call whose word is `word`, if it is a call on an entry, or of a process.
 #[inline(never)]
-fn entry_call(alloc: Global, word: &[u8], rest: &[u8]) -> Result<Option<UnixCall>, AllocError>
-    ensures { IfOk result (λ call.
+fn entry_call<H: Heap>(heap: H, word: &[u8], rest: &[u8]) -> Result<Option<UnixCall>, AllocError>
+    ensures ok { IfOk result (λ call.
         call ≡ call_among (entry_calls ++ process_calls) word.now (Some rest.now)) }
+    ensures memory { OnErr result H.Refused }
 {
     if word == b"unlink".as_slice() {
-        Ok(read_owned_path(alloc, rest)?.map(UnixCall::Unlink))
+        Ok(read_owned_path(heap, rest)?.map(UnixCall::Unlink))
     } else if word == b"rmdir".as_slice() {
-        Ok(read_owned_path(alloc, rest)?.map(UnixCall::Rmdir))
+        Ok(read_owned_path(heap, rest)?.map(UnixCall::Rmdir))
     } else if word == b"rmtree".as_slice() {
-        Ok(read_owned_path(alloc, rest)?.map(UnixCall::Rmtree))
+        Ok(read_owned_path(heap, rest)?.map(UnixCall::Rmtree))
     } else {
-        rename_or_wrap(alloc, word, rest)
+        rename_or_wrap(heap, word, rest)
     }
 }
 
 /// Reads the arguments of a call whose word is `word`, if it is `rename`, `wrap` or a call of processes.
-fn rename_or_wrap(alloc: Global, word: &[u8], rest: &[u8]) -> Result<Option<UnixCall>, AllocError>
-    ensures { IfOk result (λ call.
+fn rename_or_wrap<H: Heap>(
+    heap: H,
+    word: &[u8],
+    rest: &[u8],
+) -> Result<Option<UnixCall>, AllocError>
+    ensures ok { IfOk result (λ call.
         call ≡ call_among (drop 3 entry_calls ++ process_calls) word.now (Some rest.now)) }
+    ensures memory { OnErr result H.Refused }
 {
     if word == b"rename".as_slice() {
-        let values = read_path_and_name(alloc, rest)?;
+        let values = read_path_and_name(heap, rest)?;
         Ok(values.map(|(path, name)| UnixCall::Rename(path, name)))
     } else if word == b"wrap".as_slice() {
-        Ok(read_owned_path(alloc, rest)?.map(UnixCall::Wrap))
+        Ok(read_owned_path(heap, rest)?.map(UnixCall::Wrap))
     } else {
         Ok(process_call(word, rest))
     }
@@ -256,8 +283,9 @@ fn process_call(word: &[u8], rest: &[u8]) -> Option<UnixCall>
 
 /// Reads `user NAME PASSWORD`, `group NAME USER..` or `PROC CALL`.
 #[tactic(auto, unfolding(crate::specs::Reading::words_item))]
-fn read_words(alloc: Global, line: &[u8]) -> Result<Option<Item>, AllocError>
-    ensures { IfOk result (λ item. item ≡ words_item line.now) }
+fn read_words<H: Heap>(heap: H, line: &[u8]) -> Result<Option<Item>, AllocError>
+    ensures ok { IfOk result (λ item. item ≡ words_item line.now) }
+    ensures memory { OnErr result H.Refused }
 {
     let (word, rest) = split_word(line);
     let Some(rest) = rest else {
@@ -267,9 +295,9 @@ fn read_words(alloc: Global, line: &[u8]) -> Result<Option<Item>, AllocError>
         return Ok(user_item(rest));
     }
     if word == b"group".as_slice() {
-        return group_item(alloc, rest);
+        return group_item(heap, rest);
     }
-    read_process_call(alloc, word, rest)
+    read_process_call(heap, word, rest)
 }
 
 // Reads what follows the word of a line that declares a user. Few lines do, so it is apart from the others.
@@ -282,20 +310,22 @@ fn user_item(rest: &[u8]) -> Option<Item>
 
 // Reads what follows the word of a line that declares a group.
 #[inline(never)]
-fn group_item(alloc: Global, rest: &[u8]) -> Result<Option<Item>, AllocError>
-    ensures { IfOk result (λ item. item ≡ group_item rest.now) }
+fn group_item<H: Heap>(heap: H, rest: &[u8]) -> Result<Option<Item>, AllocError>
+    ensures ok { IfOk result (λ item. item ≡ group_item rest.now) }
+    ensures memory { OnErr result H.Refused }
 {
-    Ok(read_group(alloc, rest)?.map(Item::Group))
+    Ok(read_group(heap, rest)?.map(Item::Group))
 }
 
 /// Reads `CALL` behind a word that may be a process.
-fn read_process_call(alloc: Global, word: &[u8], rest: &[u8]) -> Result<Option<Item>, AllocError>
-    ensures { IfOk result (λ item. item ≡ call_item word.now rest.now) }
+fn read_process_call<H: Heap>(heap: H, word: &[u8], rest: &[u8]) -> Result<Option<Item>, AllocError>
+    ensures ok { IfOk result (λ item. item ≡ call_item word.now rest.now) }
+    ensures memory { OnErr result H.Refused }
 {
     let Some(process) = read_process(word) else {
         return Ok(None);
     };
-    let Some(call) = read_call(alloc, rest)? else {
+    let Some(call) = read_call(heap, rest)? else {
         return Ok(None);
     };
     Ok(Some(Item::Call(process, call)))
@@ -303,8 +333,9 @@ fn read_process_call(alloc: Global, word: &[u8], rest: &[u8]) -> Result<Option<I
 
 /// Returns what a line says, or `None` if the line is bad.
 #[tactic(auto, unfolding(crate::specs::Reading::item_of))]
-pub fn read_item(alloc: Global, line: &[u8]) -> Result<Option<Item>, AllocError>
-    ensures { IfOk result (λ item. item ≡ item_of line.now) }
+pub fn read_item<H: Heap>(heap: H, line: &[u8]) -> Result<Option<Item>, AllocError>
+    ensures ok { IfOk result (λ item. item ≡ item_of line.now) }
+    ensures memory { OnErr result H.Refused }
 {
     if line.is_empty() {
         return Ok(Some(Item::Comment));
@@ -315,5 +346,5 @@ pub fn read_item(alloc: Global, line: &[u8]) -> Result<Option<Item>, AllocError>
     if line[0] == b'#' {
         return Ok(Some(Item::Comment));
     }
-    read_words(alloc, line)
+    read_words(heap, line)
 }

@@ -1,20 +1,22 @@
 //! Reading the declaration of a group. Names are put into a list, and memory may run out; `Ok(None)` is a bad
 //! line.
-ghost use Rattle.std.specs.Prelude.{◌≡◌, ◌≤◌, length, option_map, IfOk, IfSome};
+ghost use Rattle.std.specs.Prelude.{◌≡◌, ◌≤◌, length, option_map, IfOk, IfSome, OnErr};
 ghost use Rattle.histar_flat.specs.Accounts.{most_members};
 ghost use Rattle.histar_script.specs.Reading.{group_of, members_of};
 
 use crate::lines::split_word;
 use histar_flat::{Group, Name, read_user_name};
-use std::alloc::{AllocError, Global};
+use histar_heap::Heap;
+use std::alloc::AllocError;
 
 /// The most members of a group.
 const MOST_MEMBERS: usize = 16;
 
 /// Reads `NAME USER..`, where each name may be a user's.
 #[tactic(auto, unfolding(crate::specs::Reading::group_of))]
-pub fn read_group(alloc: Global, text: &[u8]) -> Result<Option<Group>, AllocError>
-    ensures { IfOk result (λ group. group ≡ group_of text.now) }
+pub fn read_group<H: Heap>(heap: H, text: &[u8]) -> Result<Option<Group>, AllocError>
+    ensures ok { IfOk result (λ group. group ≡ group_of text.now) }
+    ensures memory { OnErr result H.Refused }
 {
     let (word, rest) = split_word(text);
     let Some(name) = read_user_name(word) else {
@@ -23,23 +25,24 @@ pub fn read_group(alloc: Global, text: &[u8]) -> Result<Option<Group>, AllocErro
     let Some(rest) = rest else {
         return Ok(None);
     };
-    let members = read_members(alloc, rest)?;
+    let members = read_members(heap, rest)?;
     Ok(members.map(|members| Group::new(name, members)))
 }
 
 /// Reads 1 to 16 names of users, with one space between two.
-fn read_members(alloc: Global, text: &[u8]) -> Result<Option<Vec<Name>>, AllocError>
+fn read_members<H: Heap>(heap: H, text: &[u8]) -> Result<Option<Vec<Name>>, AllocError>
     ensures names { IfOk result (λ members. option_map (λ names. names.items) members ≡ members_of text.now) }
     ensures few { IfOk result (λ members. IfSome members (λ names. length names.items ≤ most_members)) }
+    ensures memory { OnErr result H.Refused }
 {
-    let mut members = Vec::new(alloc);
+    let mut members = Vec::new(heap.alloc());
     let mut rest = text;
     for _ in 0..MOST_MEMBERS {
         let (word, after) = split_word(rest);
         let Some(name) = read_user_name(word) else {
             return Ok(None);
         };
-        members.push(name)?;
+        heap.push(&mut members, name)?;
         match after {
             None => return Ok(Some(members)),
             Some(names) => rest = names,

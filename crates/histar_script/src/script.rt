@@ -4,6 +4,7 @@ ghost use Rattle.histar_script.specs.Lines.{lines_of, most_script_bytes, is_too_
 ghost use Rattle.histar_script.specs.Script.{ScriptModel, IsDeclared, IsNumbered, nothing_read, without_job};
 ghost use Rattle.histar_script.specs.Grammar.{IsScript, IsFirstBad};
 ghost use Rattle.histar_script.specs.Reading.{reading, script_of, with_item, with_line};
+ghost use Rattle.histar_script.specs.Memory.{OnOutOfMemory};
 ghost use Rattle.histar_script.specs.Outcome.{Gives, GivesNext};
 
 use crate::calls::read_item;
@@ -12,6 +13,7 @@ use crate::fault::Fault;
 use crate::items::Item;
 use crate::lines::{count_lines, split_line};
 use histar_flat::{Accounts, CallLine, Group, ProcName, UnixCall, User};
+use histar_heap::Heap;
 use std::alloc::Global;
 use std::marker::Model;
 
@@ -82,20 +84,22 @@ impl Script {
 
     /// Adds the item of a line, or returns its fault.
     #[tactic(auto, unfolding(crate::specs::Reading::with_item))]
-    pub fn add(&mut self, line: u32, item: Item) -> Result<(), Fault>
-        ensures { GivesNext line result self.new (with_item self.old line item) }
+    pub fn add<H: Heap>(&mut self, heap: H, line: u32, item: Item) -> Result<(), Fault>
+        ensures ok { GivesNext line result self.new (with_item self.old line item) }
+        ensures memory { OnOutOfMemory result H.Refused }
     {
         match item {
             Item::Comment => Ok(()),
-            Item::User(user) => self.add_user(line, user),
-            Item::Group(group) => self.add_group(line, group),
-            Item::Call(process, call) => self.add_call(line, process, call),
+            Item::User(user) => self.add_user(heap, line, user),
+            Item::Group(group) => self.add_group(heap, line, group),
+            Item::Call(process, call) => self.add_call(heap, line, process, call),
         }
     }
 
     #[tactic(auto, unfolding(crate::specs::Reading::with_item))]
-    fn add_user(&mut self, line: u32, user: User) -> Result<(), Fault>
-        ensures { GivesNext line result self.new (with_item self.old line (Item.User user)) }
+    fn add_user<H: Heap>(&mut self, heap: H, line: u32, user: User) -> Result<(), Fault>
+        ensures ok { GivesNext line result self.new (with_item self.old line (Item.User user)) }
+        ensures memory { OnOutOfMemory result H.Refused }
     {
         let is_right = self.accounts.groups().is_empty()
             && self.calls.is_empty()
@@ -104,13 +108,14 @@ impl Script {
         if !is_right {
             return Err(Fault::BadScript(line));
         }
-        self.accounts.add_user(user)?;
+        self.accounts.add_user(heap, user)?;
         Ok(())
     }
 
     #[tactic(auto, unfolding(crate::specs::Reading::with_item))]
-    fn add_group(&mut self, line: u32, group: Group) -> Result<(), Fault>
-        ensures { GivesNext line result self.new (with_item self.old line (Item.Group group)) }
+    fn add_group<H: Heap>(&mut self, heap: H, line: u32, group: Group) -> Result<(), Fault>
+        ensures ok { GivesNext line result self.new (with_item self.old line (Item.Group group)) }
+        ensures memory { OnOutOfMemory result H.Refused }
     {
         let is_right = self.calls.is_empty()
             && self.accounts.groups().len() < MOST_GROUPS
@@ -121,13 +126,20 @@ impl Script {
             drop(group);
             return Err(Fault::BadScript(line));
         }
-        self.accounts.add_group(group)?;
+        self.accounts.add_group(heap, group)?;
         Ok(())
     }
 
     #[tactic(auto, unfolding(crate::specs::Reading::with_item))]
-    fn add_call(&mut self, line: u32, process: ProcName, call: UnixCall) -> Result<(), Fault>
-        ensures { GivesNext line result self.new (with_item self.old line (Item.Call process call)) }
+    fn add_call<H: Heap>(
+        &mut self,
+        heap: H,
+        line: u32,
+        process: ProcName,
+        call: UnixCall,
+    ) -> Result<(), Fault>
+        ensures ok { GivesNext line result self.new (with_item self.old line (Item.Call process call)) }
+        ensures memory { OnOutOfMemory result H.Refused }
     {
         let added = CallLine {
             line,
@@ -138,19 +150,20 @@ impl Script {
             drop(added);
             return Err(Fault::BadScript(line));
         }
-        self.calls.push(added)?;
+        heap.push(&mut self.calls, added)?;
         Ok(())
     }
 
     // Adds what a line says, or returns its fault.
     #[tactic(auto, unfolding(crate::specs::Reading::with_line))]
-    fn add_line(&mut self, alloc: Global, number: u32, line: &[u8]) -> Result<(), Fault>
-        ensures { GivesNext number result self.new (with_line self.old number line.now) }
+    fn add_line<H: Heap>(&mut self, heap: H, number: u32, line: &[u8]) -> Result<(), Fault>
+        ensures ok { GivesNext number result self.new (with_line self.old number line.now) }
+        ensures memory { OnOutOfMemory result H.Refused }
     {
-        let Some(item) = read_item(alloc, line)? else {
+        let Some(item) = read_item(heap, line)? else {
             return Err(Fault::BadScript(number));
         };
-        self.add(number, item)
+        self.add(heap, number, item)
     }
 }
 
@@ -163,7 +176,7 @@ pub fn is_too_long(text: &[u8]) -> bool
 
 /// Reads the script that the bytes are. The whole text is read before anything is made of it. `OutOfMemory`
 /// implies nothing about the text; `ReadFailed` and `WriteFailed` are never returned here.
-pub fn read_script(alloc: Global, text: &[u8]) -> Result<Script, Fault>
+pub fn read_script<H: Heap>(heap: H, text: &[u8]) -> Result<Script, Fault>
     // The result is that of the text, unless memory runs out.
     ensures exact { Gives result (script_of text.now) }
     // The limits are checked first, which takes no memory.
@@ -179,25 +192,28 @@ pub fn read_script(alloc: Global, text: &[u8]) -> Result<Script, Fault>
     ensures numbered { IfOk result (λ script. IsNumbered (length (lines_of text.now)) script.calls) }
     // The bad line is the first one.
     ensures bad { (n : ℕ) → result ≡ Err (Fault.BadScript n) → IsFirstBad text.now n }
+    // Memory runs out only where a growth was refused.
+    ensures memory { OnOutOfMemory result H.Refused }
 {
     if is_too_long(text) {
         return Err(Fault::TooLong);
     }
-    read_lines(alloc, text)
+    read_lines(heap, text)
 }
 
 #[tactic(auto, unfolding(crate::specs::Reading::with_lines, crate::specs::Reading::with_line, crate::specs::Reading::reading))]
-fn read_lines(alloc: Global, text: &[u8]) -> Result<Script, Fault>
+fn read_lines<H: Heap>(heap: H, text: &[u8]) -> Result<Script, Fault>
     requires { length text.now ≤ most_script_bytes }
-    ensures { Gives result (reading text.now) }
+    ensures ok { Gives result (reading text.now) }
+    ensures memory { OnOutOfMemory result H.Refused }
 {
-    let mut script = Script::new(alloc);
+    let mut script = Script::new(heap.alloc());
     let mut rest = text;
     let mut count = 0u32;
     while !rest.is_empty() {
         let (line, after) = split_line(rest);
         count += 1;
-        script.add_line(alloc, count, line)?;
+        script.add_line(heap, count, line)?;
         rest = after;
     }
     if script.accounts().users().is_empty() {

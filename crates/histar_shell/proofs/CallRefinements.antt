@@ -28,12 +28,12 @@ use Rattle.histar_sim.proofs.Whoami.{whoami_refines}
 use Rattle.histar_sim.proofs.WrapCall.{wrap_refines}
 use Rattle.histar_shell.specs.Machine.{program_of}
 
--- the program of each call that a line can make refines the rule of the call
-abbrev pub CallsRefine : Type 0
-CallsRefine = (accounts : Accounts) → AreAccounts accounts → (call : UnixCall) → IsCall call
-    → CallerRefines accounts call (λ me caller. program_of accounts (roots_of (length accounts.users)) me caller call)
+-- the program of each call that a line can make refines the rule of the call; M says that memory ran out
+abbrev pub CallsRefine : Type 0 → Type 0
+CallsRefine M = (accounts : Accounts) → AreAccounts accounts → (call : UnixCall) → IsCall call
+    → CallerRefines M accounts call (λ me caller. program_of accounts (roots_of (length accounts.users)) me caller call)
 
-pub calls_refine : CallsRefine
+pub calls_refine : {M : Type 0} → CallsRefine M
 calls_refine accounts ok (Create path mode) can me caller old new f result ready at =
     create_refines accounts ok path mode can me old new f caller.thread result ready
 calls_refine accounts ok (Mkdir path mode) can me caller old new f result ready at =

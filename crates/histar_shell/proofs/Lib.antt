@@ -10,7 +10,9 @@ pub mod TraceRuns
 pub mod CallRefinements
 pub mod SameUsers
 pub mod SamePrograms
+pub mod Counters
 pub mod LineMeanings
+pub mod WantingMemory
 pub mod Starts
 pub mod ShallowPaths
 pub mod ShownTrees

@@ -1,7 +1,7 @@
 -- A line ends as the flat state says that the machine represents before it.
 use Rattle.std.proofs.Common.{◌≡◌, ℕ, Bool, true, false, List, [], ◌∷◌, length, Option, None, Some, Result, Ok, Err, refl, sym, ap, ◌∙◌, subst}
-use Rattle.std.proofs.Common.{append-nil}
-use Rattle.std.specs.Prelude.{is_some}
+use Rattle.std.proofs.Common.{◌≤◌, ◌⊎◌, inl, inr, append-nil}
+use Rattle.std.specs.Prelude.{IsTrue, is_some}
 use Rattle.std.specs.List.{AllByRecursion}
 use mathlib.Core.Bool.{true≢false}
 use Rattle.histar_flat.specs.declared.calls.UnixCall.{UnixCall}
@@ -33,13 +33,17 @@ use Rattle.histar_refinement.proofs.CallerFound.{caller_found, caller_there}
 use Rattle.histar_refinement.proofs.Renaming.{nothing_under}
 use Rattle.histar_refinement.proofs.StatusFound.{thread_led}
 use Rattle.histar_flat.specs.Calls.{IsCall}
-use Rattle.histar_sim.specs.Simulation.{IsLine, IsReady, FollowsRule, IsFirstFree, AreFilesSmall}
+use Rattle.histar_sim.specs.Simulation.{IsBrokenOff, IsLine, IsReady, IsSpent, FollowsRule, IsFirstFree, AreFilesSmall}
 use Rattle.histar_sim.specs.Reads.{HasReads}
 use Rattle.histar_sim.specs.Named.{DenialsAreNamed}
+use Rattle.histar_sim.specs.RawCalls.{AreItsRequests}
 use Rattle.histar_sim.proofs.FirstFree.{first_free_after}
-use Rattle.histar_shell.specs.Machine.{MachineModel, on_line, program_of, Makes, HasMade, AnswersFound, AnswersRunning, AnswersIf, AnswersLine}
+use Rattle.histar_shell.specs.Machine.{MachineModel, on_line, program_of, Makes, HasMade, IsTraced}
+use Rattle.histar_shell.specs.Machine.{AnswersFound, AnswersRunning, AnswersIf, AnswersLine, AnswersLineBy}
 use Rattle.histar_shell.specs.Meaning.{Shows, EndsAsMeant, FollowsMeaning}
-use Rattle.histar_shell.proofs.CallRefinements.{CallsRefine}
+use Rattle.histar_rules.specs.Rules.{greatest}
+use Rattle.histar_shell.proofs.CallRefinements.{CallsRefine, calls_refine}
+use Rattle.histar_shell.proofs.Counters.{not_spent}
 use Rattle.histar_shell.proofs.SamePrograms.{same_program}
 use Rattle.histar_readout.specs.Laws.{AreShallow}
 use Rattle.histar_shell.proofs.SmallFiles.{small_after}
@@ -51,7 +55,10 @@ none_of : {A : Type 0} (o : Option A) → is_some o ≡ false → o ≡ None
 none_of None e = refl
 none_of (Some x) e = absurd (true≢false e)
 
-module _ (refinements : CallsRefine) (accounts : Accounts) (old new : MachineModel) (f : Flat) (shows : Shows accounts old f) where
+-- W is what is said of a line that ends without an answer
+module _ {M W : Type 0} (refinements : CallsRefine M) (accounts : Accounts) (old new : MachineModel) (f : Flat) (shows : Shows accounts old f)
+    (why : (reply : Reply) (entries : List TraceEntry) → IsBrokenOff reply (state old.kernel) entries (state new.kernel)
+    → M ⊎ IsSpent (state new.kernel) → W) where
   ok : AreAccounts accounts
   ok = is_accounts accounts shows.declared
 
@@ -74,8 +81,8 @@ module _ (refinements : CallsRefine) (accounts : Accounts) (old new : MachineMod
 
     -- a call of the process refines its rule
     made_refined : (k : KernelModel) → state k ≡ state old.kernel → (call : UnixCall) (result : Result Reply Stopped) → IsCall call
-        → Makes accounts (roots_of (length accounts.users)) me caller k new.kernel call result
-        → FollowsRule accounts f me call k new.kernel caller.thread result
+        → Makes M accounts (roots_of (length accounts.users)) me caller k new.kernel call result
+        → FollowsRule M accounts f me call k new.kernel caller.thread result
     made_refined k same call result can made =
         let there : IsReady accounts (state k) f me caller.thread = subst (λ (s : State). IsReady accounts s f me caller.thread) (sym same) ready in
         let at : caller_at (state k) (roots_of (length accounts.users)).home me ≡ Some caller =
@@ -84,26 +91,26 @@ module _ (refinements : CallsRefine) (accounts : Accounts) (old new : MachineMod
 
     -- the program of a call reads no password
     made_of : (k : KernelModel) (call : UnixCall) (result : Result Reply Stopped)
-        → Makes old.users (roots_of (length accounts.users)) me caller k new.kernel call result
-        → Makes accounts (roots_of (length accounts.users)) me caller k new.kernel call result
+        → Makes M old.users (roots_of (length accounts.users)) me caller k new.kernel call result
+        → Makes M accounts (roots_of (length accounts.users)) me caller k new.kernel call result
     made_of k call result made =
         let roots = roots_of (length accounts.users) in
-        subst (λ (p : Program). Runs p k new.kernel caller.thread result)
+        subst (λ (p : Program). Runs M p k new.kernel caller.thread result)
         (ap (λ (users : Accounts). program_of users roots me caller call) shows.users
         ∙ same_program accounts roots me caller call) made
 
     -- a call of the machine refines its rule, at the places that boot made
-    refined_of_made : (line : ℕ) (call : UnixCall) (result : Result Reply Stopped) → IsCall call → HasMade old new line me caller call result
-        → FollowsRule accounts f me call (on_line line old.kernel) new.kernel caller.thread result
+    refined_of_made : (line : ℕ) (call : UnixCall) (result : Result Reply Stopped) → IsCall call → HasMade M old new line me caller call result
+        → FollowsRule M accounts f me call (on_line line old.kernel) new.kernel caller.thread result
     refined_of_made line call result can h =
         made_refined (on_line line old.kernel) refl call result can
         (made_of (on_line line old.kernel) call result (subst
-        (λ (roots : Roots). Makes old.users roots me caller (on_line line old.kernel) new.kernel call result)
+        (λ (roots : Roots). Makes M old.users roots me caller (on_line line old.kernel) new.kernel call result)
         shows.roots h.made))
 
     -- the machine after the line represents what its kernel represents
     still_shows : (line : ℕ) (call : UnixCall) (result : Result Reply Stopped) (g : Flat)
-        → HasMade old new line me caller call result → Represents accounts (state new.kernel) g → IsFirstFree g
+        → HasMade M old new line me caller call result → Represents accounts (state new.kernel) g → IsFirstFree g
         → AreFilesSmall g → AreShallow g
         → Shows accounts new g
     still_shows line call result g h represented first small shallow = record {
@@ -129,8 +136,8 @@ module _ (refinements : CallsRefine) (accounts : Accounts) (old new : MachineMod
 
     -- the call ends as is meant
     made_ends : (line : ℕ) (call : UnixCall) (result : Result Reply Stopped) → IsCall call
-        → HasMade old new line me caller call result
-        → EndsAsMeant accounts old new f (record { line = line; process = me; call = call }) result
+        → HasMade M old new line me caller call result
+        → EndsAsMeant W accounts old new f (record { line = line; process = me; call = call }) result
     made_ends line call (Ok reply) can h =
         let refined = refined_of_made line call (Ok reply) can h in
         record {
@@ -145,11 +152,17 @@ module _ (refinements : CallsRefine) (accounts : Accounts) (old new : MachineMod
         }
     made_ends line call (Err stopped) can h =
         let out = refined_of_made line call (Err stopped) can h in
-        record { entries = out.entries; trace = out.trace; run = out.run; own = own_thread line out.entries out.own }
+        record {
+          entries = out.entries;
+          trace = out.trace;
+          run = out.run;
+          own = own_thread line out.entries out.own;
+          because = inr (why (reply_to accounts f me call) out.entries out.run out.because);
+        }
 
   -- a line of a process that doesn't run is answered `gone`, and makes no raw call
   gone_ends : (line : ℕ) (me : ProcName) (call : UnixCall) → running f me ≡ None
-      → EndsAsMeant accounts old old f (record { line = line; process = me; call = call }) (Ok Gone)
+      → EndsAsMeant W accounts old old f (record { line = line; process = me; call = call }) (Ok Gone)
   gone_ends line me call none =
       let still = not_running_is_gone accounts f me call none in
       let is_line : IsLine accounts (state old.kernel) line me Gone [] (state old.kernel) = record {
@@ -171,6 +184,7 @@ module _ (refinements : CallsRefine) (accounts : Accounts) (old new : MachineMod
           reads = subst (λ (o : Option Process). HasReads accounts (state old.kernel) f o call (reply_to accounts f me call) []) (sym none) tt;
           named = subst (λ (o : Option Process). DenialsAreNamed accounts (state old.kernel) f me o call []) (sym none) tt;
           represents = subst (Represents accounts (state old.kernel)) (sym still.1) shows.represents;
+          requests = λ from. subst (λ (o : Option Process). AreItsRequests accounts from.matched me o call []) (sym none) refl;
           keeps = λ from. subst (RepresentsStill from (state old.kernel)) (sym still.1) (still_represents from (state old.kernel) refl);
         };
         shows = subst (Shows accounts old) (sym still.1) shows;
@@ -181,45 +195,59 @@ module _ (refinements : CallsRefine) (accounts : Accounts) (old new : MachineMod
   lost_is_gone me lost = none_of (running f me) (sym (caller_there accounts (state old.kernel) f shows.represents.matched me) ∙ ap is_some lost)
 
   runs_end : (line : ℕ) (me : ProcName) (call : UnixCall) (result : Result Reply Stopped) → IsCall call
-      → AnswersRunning old new line me call result
-      → EndsAsMeant accounts old new f (record { line = line; process = me; call = call }) result
+      → AnswersRunning M old new line me call result
+      → EndsAsMeant W accounts old new f (record { line = line; process = me; call = call }) result
   runs_end line me call result can h = by (caller_at (state old.kernel) (roots_of (length accounts.users)).home me) refl
-      (subst (λ (roots : Roots). AnswersFound (caller_at (state old.kernel) roots.home me) old new line me call result) shows.roots h)
+      (subst (λ (roots : Roots). AnswersFound M (caller_at (state old.kernel) roots.home me) old new line me call result) shows.roots h)
     where
       by : (o : Option Caller) → caller_at (state old.kernel) (roots_of (length accounts.users)).home me ≡ o
-          → AnswersFound o old new line me call result
-          → EndsAsMeant accounts old new f (record { line = line; process = me; call = call }) result
+          → AnswersFound M o old new line me call result
+          → EndsAsMeant W accounts old new f (record { line = line; process = me; call = call }) result
       by None lost k =
-          subst (λ (m : MachineModel). EndsAsMeant accounts old m f (record { line = line; process = me; call = call }) result) (sym k.1)
-          (subst (EndsAsMeant accounts old old f (record { line = line; process = me; call = call })) (sym k.0)
+          subst (λ (m : MachineModel). EndsAsMeant W accounts old m f (record { line = line; process = me; call = call }) result) (sym k.1)
+          (subst (EndsAsMeant W accounts old old f (record { line = line; process = me; call = call })) (sym k.0)
           (gone_ends line me call (lost_is_gone me lost)))
       by (Some caller) found made = made_ends me caller found line call result can made
 
   -- a machine that had stopped makes no raw call
   stopped_ends : (line : ℕ) (process : ProcName) (call : UnixCall) (result : Result Reply Stopped)
-      → AnswersIf true old new line process call result
-      → EndsAsMeant accounts old new f (record { line = line; process = process; call = call }) result
-  stopped_ends line process call (Ok reply) h = absurd cc
-  stopped_ends line process call (Err stopped) h = record {
+      → IsTrue old.is_stopped → AnswersIf M true old new line process call result
+      → EndsAsMeant W accounts old new f (record { line = line; process = process; call = call }) result
+  stopped_ends line process call (Ok reply) had_stopped h = absurd cc
+  stopped_ends line process call (Err stopped) had_stopped h = record {
     entries = [];
     trace = ap (λ (m : MachineModel). m.kernel.trace) h.1 ∙ sym (append-nil old.kernel.trace);
     run = ap (λ (m : MachineModel). state m.kernel) h.1;
     own = tt;
+    because = inl had_stopped;
   }
 
-  line_ends : (line : ℕ) (process : ProcName) (call : UnixCall) (result : Result Reply Stopped) → IsCall call
-      → AnswersLine old new line process call result
-      → EndsAsMeant accounts old new f (record { line = line; process = process; call = call }) result
-  line_ends line process call result can h = by old.is_stopped h
+  pub line_ends : (line : ℕ) (process : ProcName) (call : UnixCall) (result : Result Reply Stopped) → IsCall call
+      → AnswersLineBy M old new line process call result
+      → EndsAsMeant W accounts old new f (record { line = line; process = process; call = call }) result
+  line_ends line process call result can h = by old.is_stopped refl h
     where
-      by : (b : Bool) → AnswersIf b old new line process call result
-          → EndsAsMeant accounts old new f (record { line = line; process = process; call = call }) result
-      by true k = stopped_ends line process call result k
-      by false k = runs_end line process call result can k
+      by : (b : Bool) → old.is_stopped ≡ b → AnswersIf M b old new line process call result
+          → EndsAsMeant W accounts old new f (record { line = line; process = process; call = call }) result
+      by true is k = stopped_ends line process call result is k
+      by false is k = runs_end line process call result can k
 
--- a line follows the meaning
-pub line_follows : (refinements : CallsRefine) (old new : MachineModel) (line : ℕ) (process : ProcName)
+-- a line follows the meaning, whatever ends it without an answer
+pub line_follows : (refinements : CallsRefine (Unit {0})) (old new : MachineModel) (line : ℕ) (process : ProcName)
     (call : UnixCall) (result : Result Reply Stopped) → IsCall call
-    → AnswersLine old new line process call result → FollowsMeaning old new line process call result
+    → AnswersLine old new line process call result → FollowsMeaning (Unit {0}) old new line process call result
 line_follows refinements old new line process call result can h accounts f shows =
-    line_ends refinements accounts old new f shows line process call result can h
+    line_ends refinements accounts old new f shows (λ reply entries run why. tt) line process call result can h
+
+-- a line follows the meaning, and ends without an answer only where memory ran out: no counter is spent in a run that has no more
+-- entries than a number of 64 bits counts
+pub line_follows_by : (M : Type 0) (old new : MachineModel) (line : ℕ) (process : ProcName)
+    (call : UnixCall) (result : Result Reply Stopped) → IsCall call → IsTraced new.kernel → length new.kernel.trace ≤ greatest
+    → AnswersLineBy M old new line process call result → FollowsMeaning M old new line process call result
+line_follows_by M old new line process call result can traced few h accounts f shows =
+    line_ends {M = M} {W = M} calls_refine accounts old new f shows
+    (λ reply entries run why. elim why [
+      | inl memory ↦ memory
+      | inr spent ↦ absurd (not_spent accounts f old.kernel new.kernel shows.represents.matched reply entries run traced few spent)
+    ])
+    line process call result can h

@@ -43,7 +43,7 @@ module _ (options : Options) where
   -- ---- a text that is run
 
   -- the replies of a run are those of its script's meaning
-  pub runs_text : (refinements : CallsRefine) (text : List ℕ) (old new : Option (List ℕ)) (result : Answer)
+  pub runs_text : (refinements : CallsRefine (Unit {0})) (text : List ℕ) (old new : Option (List ℕ)) (result : Answer)
       → AgreesWith (script_of text) result → WritesAnswers options old new (script_of text) result
       → RunsText options text old new result
   runs_text refinements text old new result agrees answers =
@@ -66,14 +66,14 @@ module _ (options : Options) where
   script_fault_writes WriteFailed w read given = absurd given
 
   -- a text in which reading finds a fault
-  pub faulty_text : (refinements : CallsRefine) (text : List ℕ) (w : Option (List ℕ)) (f : Fault)
+  pub faulty_text : (refinements : CallsRefine (Unit {0})) (text : List ℕ) (w : Option (List ℕ)) (f : Fault)
       → Gives (Err f) (script_of text) → RunsText options text w w (Err f)
   faulty_text refinements text w f given =
       runs_text refinements text w w (Err f) (script_fault_agrees f (script_of text) given)
       (script_fault_writes f w (script_of text) given)
 
   -- a text for which no machine was booted
-  pub unbooted_text : (refinements : CallsRefine) (text : List ℕ) (w : Option (List ℕ)) → RunsText options text w w (Err OutOfMemory)
+  pub unbooted_text : (refinements : CallsRefine (Unit {0})) (text : List ℕ) (w : Option (List ℕ)) → RunsText options text w w (Err OutOfMemory)
   unbooted_text refinements text w = runs_text refinements text w w (Err OutOfMemory) tt (inl (Keeps-refl w))
 
   -- answering the calls fails by no fault of a script
@@ -137,7 +137,7 @@ module _ (options : Options) where
   }
 
   -- a text of which a beginning of the calls was answered
-  pub begun_text : (refinements : CallsRefine) (text : List ℕ) (old new : Option (List ℕ)) (f : Fault)
+  pub begun_text : (refinements : CallsRefine (Unit {0})) (text : List ℕ) (old new : Option (List ℕ)) (f : Fault)
       (script : ScriptModel) → script_of text ≡ Ok script → IsOutputFault f
       → BeginsScript options old new (script_of text) → RunsText options text old new (Err f)
   begun_text refinements text old new f script given h begun =
@@ -145,7 +145,7 @@ module _ (options : Options) where
       (answer_fault_writes f old new (script_of text) h begun)
 
   -- a text of which all calls were answered
-  pub answered_text : (refinements : CallsRefine) (text : List ℕ) (old new : Option (List ℕ)) (trace : List TraceEntry)
+  pub answered_text : (refinements : CallsRefine (Unit {0})) (text : List ℕ) (old new : Option (List ℕ)) (trace : List TraceEntry)
       (script : ScriptModel) → script_of text ≡ Ok script → AnswersScript options old new (script_of text) trace
       → RunsText options text old new (Ok trace)
   answered_text refinements text old new trace script given answers = runs_text refinements text old new (Ok trace) (ap is_ok given) answers

@@ -165,8 +165,7 @@ record AreAlike (m n : MachineModel) : Type 0 where
   users : n.users ≡ m.users
 
 made_alike : (m n o p : MachineModel) (line : ℕ) (me : ProcName) (caller : Caller) (call : UnixCall) (one other : Reply) → AreAlike m n
-    → HasMade m o line me caller call (Ok one) → HasMade n p line me caller call (Ok other) → AreAlike o p
-unfolding Runs
+    → HasMade (Unit {0}) m o line me caller call (Ok one) → HasMade (Unit {0}) n p line me caller call (Ok other) → AreAlike o p
 made_alike m n o p line me caller call one other alike first second = record {
   kernel =
       completed_alike (program_of m.users m.roots me caller call) (on_line line m.kernel) (on_line line n.kernel) o.kernel p.kernel
@@ -175,23 +174,23 @@ made_alike m n o p line me caller call one other alike first second = record {
         same = record { state = alike.kernel.same.state; trace = alike.kernel.same.trace; line = refl };
         sound = alike.kernel.sound;
       })
-      first.made
+      first.made.done
       (subst (λ (x : Program). Completes x (on_line line n.kernel) p.kernel caller.thread other)
-      (λ i. program_of (alike.users i) (alike.roots i) me caller call) second.made);
+      (λ i. program_of (alike.users i) (alike.roots i) me caller call) second.made.done);
   roots = second.roots ∙ alike.roots ∙ sym first.roots;
   users = second.users ∙ alike.users ∙ sym first.users;
 }
 
 found_alike : (found : Option Caller) (m n o p : MachineModel) (line : ℕ) (me : ProcName) (call : UnixCall) (one other : Reply) → AreAlike m n
-    → AnswersFound found m o line me call (Ok one) → AnswersFound found n p line me call (Ok other) → AreAlike o p
+    → AnswersFound (Unit {0}) found m o line me call (Ok one) → AnswersFound (Unit {0}) found n p line me call (Ok other) → AreAlike o p
 found_alike None m n o p line me call one other alike first second =
     subst (λ (x : MachineModel). AreAlike x p) (sym first.1) (subst (AreAlike m) (sym second.1) alike)
 found_alike (Some caller) m n o p line me call one other alike first second = made_alike m n o p line me caller call one other alike first second
 
 -- a machine that answers with a reply runs
 running : (stopped : Bool) (old new : MachineModel) (line : ℕ) (me : ProcName) (call : UnixCall) (reply : Reply)
-    → AnswersIf stopped old new line me call (Ok reply)
-    → AnswersFound (caller_at (state old.kernel) old.roots.home me) old new line me call (Ok reply)
+    → AnswersIf (Unit {0}) stopped old new line me call (Ok reply)
+    → AnswersFound (Unit {0}) (caller_at (state old.kernel) old.roots.home me) old new line me call (Ok reply)
 running true old new line me call reply h = absurd cc
 running false old new line me call reply h = h
 
@@ -203,7 +202,7 @@ line_alike m n o p line me call one other alike first second =
     let found : caller_at (state n.kernel) n.roots.home me ≡ caller_at (state m.kernel) m.roots.home me =
     λ i. caller_at (alike.kernel.same.state i) (alike.roots i).home me in
     found_alike (caller_at (state m.kernel) m.roots.home me) m n o p line me call one other alike here
-    (subst (λ (f : Option Caller). AnswersFound f n p line me call (Ok other)) found there)
+    (subst (λ (f : Option Caller). AnswersFound (Unit {0}) f n p line me call (Ok other)) found there)
 
 answered_alike : (ones others : List RepliedCall) (m n o p : MachineModel) → calls_of ones ≡ calls_of others → AreAlike m n
     → AnswersInTurn m ones o → AnswersInTurn n others p → AreAlike o p

@@ -73,7 +73,7 @@ module _ (declared : Accounts) where
   }
 
   -- lines that a script can have do what they mean
-  pub accounts_means : (refinements : CallsRefine) (m : MachineModel) (f : Flat) (answers : List RepliedCall)
+  pub accounts_means : (refinements : CallsRefine (Unit {0})) (m : MachineModel) (f : Flat) (answers : List RepliedCall)
       (end : MachineModel) → AnswersInTurn m answers end → Shows declared m f → AreScriptable (calls_of answers)
       → IsMeantSession declared m f answers end
   accounts_means refinements m f [] end accounts shows can = accounts_none m f end accounts shows
@@ -113,7 +113,7 @@ boot_trace accounts m booted =
           (chain_own boot_thread_number booted.first.line granted.0);
     }
 
-module _ (refinements : CallsRefine) (script : ScriptModel) (declared : IsDeclared script.accounts)
+module _ (refinements : CallsRefine (Unit {0})) (script : ScriptModel) (declared : IsDeclared script.accounts)
     (can : AreScriptable script.calls) (start : MachineModel) (starts : IsStart script.accounts start) where
   -- what the lines do from the start on
   from_start : (answers : List RepliedCall) (end : MachineModel) → AreScriptable (calls_of answers)
@@ -267,14 +267,14 @@ module _ (refinements : CallsRefine) (script : ScriptModel) (declared : IsDeclar
     begins_meaning old new read is_read (inr begun) = record { script = script; is_read = is_read; written = inr (ends_meaning old new begun) }
 
 -- the beginning of a script's answers is one of its meaning
-begun_script : (refinements : CallsRefine) (options : Options) (old new : Option (List ℕ)) (text : List ℕ)
+begun_script : (refinements : CallsRefine (Unit {0})) (options : Options) (old new : Option (List ℕ)) (text : List ℕ)
     → BeginsScript options old new (script_of text) → BeginsMeaning options old new (script_of text)
 begun_script refinements options old new text h =
     let says = script_says text h.script h.is_read in begins_meaning refinements h.script says.0 says.1 h.start h.starts
     options old new (script_of text) h.is_read h.begun
 
 -- at a fault
-meant_at_fault : (refinements : CallsRefine) (options : Options) (old new : Option (List ℕ)) (text : List ℕ)
+meant_at_fault : (refinements : CallsRefine (Unit {0})) (options : Options) (old new : Option (List ℕ)) (text : List ℕ)
     (fault : Fault) → WritesAtFault options old new (script_of text) fault
     → WritesMeaningAtFault options old new (script_of text) fault
 meant_at_fault refinements options old new text (BadScript n) h = h
@@ -285,7 +285,7 @@ meant_at_fault refinements options old new text ReadFailed h = h
 meant_at_fault refinements options old new text WriteFailed h = begun_script refinements options old new text h
 
 -- what a run answers is as its script means
-pub meant_run : (refinements : CallsRefine) (options : Options) (old new : Option (List ℕ)) (text : List ℕ)
+pub meant_run : (refinements : CallsRefine (Unit {0})) (options : Options) (old new : Option (List ℕ)) (text : List ℕ)
     (result : Result (List TraceEntry) Fault) → WritesAnswers options old new (script_of text) result
     → RunsAsMeant options old new (script_of text) result
 meant_run refinements options old new text (Ok trace) h =
@@ -295,7 +295,7 @@ meant_run refinements options old new text (Ok trace) h =
 meant_run refinements options old new text (Err fault) h = meant_at_fault refinements options old new text fault h
 
 -- a machine that answered all lines of a script has a tree
-pub tree_at_last : (refinements : CallsRefine) (text : List ℕ) (script : ScriptModel) → script_of text ≡ Ok script
+pub tree_at_last : (refinements : CallsRefine (Unit {0})) (text : List ℕ) (script : ScriptModel) → script_of text ≡ Ok script
     → (start end : MachineModel) → IsStart script.accounts start → (calls : List CallLine) → calls ≡ script.calls
     → (old replied : Option (List ℕ)) → AnswersCalls start end old replied calls → HasTree end
 tree_at_last refinements text script is_read start end starts calls listed old replied answered =

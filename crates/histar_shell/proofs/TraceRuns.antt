@@ -53,23 +53,23 @@ completed (Asks call next) old new t reply runs = by_outcome old runs.0 new t ca
 completed (Lists bytes next) old new t reply runs = completed (next runs.0) old new t reply runs.2
 completed Stops old new t reply runs = absurd runs
 
-begun : (p : Program) (old new : KernelModel) (t : ℕ) → Begins p old new t → GoesBy old new
-begun (Answers said) old new t runs = absurd runs
-begun (Asks call next) old new t (inl same) = by_nothing old new same
-begun (Asks call next) old new t (inr runs) = by_outcome old runs.0 new t call runs.1 runs.2 (begun (next runs.1) runs.0 new t runs.3)
-begun (Lists bytes next) old new t (inl same) = by_nothing old new same
-begun (Lists bytes next) old new t (inr runs) = begun (next runs.0) old new t runs.2
-begun Stops old new t runs = by_nothing old new runs
+begun : (M : Type 0) (p : Program) (old new : KernelModel) (t : ℕ) → Begins M p old new t → GoesBy old new
+begun M (Answers said) old new t runs = absurd runs
+begun M (Asks call next) old new t (inl same) = by_nothing old new same.1
+begun M (Asks call next) old new t (inr runs) = by_outcome old runs.0 new t call runs.1 runs.2 (begun M (next runs.1) runs.0 new t runs.3)
+begun M (Lists bytes next) old new t (inl same) = by_nothing old new same.1
+begun M (Lists bytes next) old new t (inr runs) = begun M (next runs.0) old new t runs.2
+begun M Stops old new t runs = by_nothing old new runs
 
-pub by_program : (p : Program) (old new : KernelModel) (t : ℕ) (result : Result Reply Stopped) → Runs p old new t result → GoesBy old new
-unfolding Runs
-by_program p old new t (Ok reply) runs = completed p old new t reply runs
-by_program p old new t (Err stopped) runs = begun p old new t runs
+pub by_program : {M : Type 0} (p : Program) (old new : KernelModel) (t : ℕ) (result : Result Reply Stopped)
+    → Runs M p old new t result → GoesBy old new
+by_program p old new t (Ok reply) runs = completed p old new t reply runs.done
+by_program {M} p old new t (Err stopped) runs = begun M p old new t runs.done
 
 -- the trace stays a run from the empty kernel
-pub traced_on : (accounts : Accounts) (roots : Roots) (me : ProcName) (caller : Caller) (old new : KernelModel)
+pub traced_on : {M : Type 0} (accounts : Accounts) (roots : Roots) (me : ProcName) (caller : Caller) (old new : KernelModel)
     (call : UnixCall) (result : Result Reply Stopped) → IsTraced old
-    → Makes accounts roots me caller old new call result → IsTraced new
+    → Makes M accounts roots me caller old new call result → IsTraced new
 traced_on accounts roots me caller old new call result traced made =
     let goes = by_program _ old new caller.thread result made in
     subst (λ (es : List TraceEntry). IsRun empty_state es (state new)) (sym goes.trace)

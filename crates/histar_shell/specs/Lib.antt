@@ -7,6 +7,7 @@ pub mod AnsweredCalls
 pub mod Ending
 pub mod Outcome
 pub mod Meaning
+pub mod Memory
 pub mod Run
 pub mod AllAnswers
 pub mod OneTrace

@@ -108,32 +108,39 @@ program_of accounts roots me caller Whoami = whoami_program accounts
 program_of accounts roots me caller (Login name password) = login_program accounts caller name password
 program_of accounts roots me caller (Wrap path) = wrap_program accounts roots me caller.home path
 
--- a call of a process runs its program, by the process's thread on the line that was begun
-abbrev pub Makes : Accounts → Roots → ProcName → Caller → KernelModel → KernelModel → UnixCall → Result Reply Stopped → Type 0
-Makes accounts roots me caller old new call result = Runs (program_of accounts roots me caller call) old new caller.thread result
+-- a call of a process runs its program, by the process's thread on the line that was begun; `M` says that memory ran out
+abbrev pub Makes : Type 0 → Accounts → Roots → ProcName → Caller → KernelModel → KernelModel → UnixCall
+    → Result Reply Stopped → Type 0
+Makes M accounts roots me caller old new call result = Runs M (program_of accounts roots me caller call) old new caller.thread result
 
 -- The call was made by the thread of the process on the line that was begun; the machine has the same places, users and groups as
 -- before, and has stopped if the call ended without an answer.
-pub record HasMade (old new : MachineModel) (line : ℕ) (me : ProcName) (caller : Caller) (call : UnixCall) (result : Result Reply Stopped) : Type 0 where
-  pub made : Makes old.users old.roots me caller (on_line line old.kernel) new.kernel call result
+pub record HasMade (M : Type 0) (old new : MachineModel) (line : ℕ) (me : ProcName) (caller : Caller) (call : UnixCall)
+    (result : Result Reply Stopped) : Type 0 where
+  pub made : Makes M old.users old.roots me caller (on_line line old.kernel) new.kernel call result
   pub roots : new.roots ≡ old.roots
   pub users : new.users ≡ old.users
   pub stops : new.is_stopped ≡ is_err result
 
 -- if the process is found, its call is made; if not, the answer is `gone`, and nothing changes
-abbrev pub AnswersFound : Option Caller → MachineModel → MachineModel → ℕ → ProcName → UnixCall → Result Reply Stopped → Type 0
-AnswersFound None old new line me call result = (result ≡ Ok Gone) × (new ≡ old)
-AnswersFound (Some caller) old new line me call result = HasMade old new line me caller call result
+abbrev pub AnswersFound : Type 0 → Option Caller → MachineModel → MachineModel → ℕ → ProcName → UnixCall
+    → Result Reply Stopped → Type 0
+AnswersFound M None old new line me call result = (result ≡ Ok Gone) × (new ≡ old)
+AnswersFound M (Some caller) old new line me call result = HasMade M old new line me caller call result
 
 -- a running machine: the process is looked for in the kernel's own table
-abbrev pub AnswersRunning : MachineModel → MachineModel → ℕ → ProcName → UnixCall → Result Reply Stopped → Type 0
-AnswersRunning old new line me call result = AnswersFound (caller_at (state old.kernel) old.roots.home me) old new line me call result
+abbrev pub AnswersRunning : Type 0 → MachineModel → MachineModel → ℕ → ProcName → UnixCall → Result Reply Stopped → Type 0
+AnswersRunning M old new line me call result = AnswersFound M (caller_at (state old.kernel) old.roots.home me) old new line me call result
 
 -- a machine that has stopped does nothing, and answers `Stopped`
-abbrev pub AnswersIf : Bool → MachineModel → MachineModel → ℕ → ProcName → UnixCall → Result Reply Stopped → Type 0
-AnswersIf true old new line process call result = IsErr result × (new ≡ old)
-AnswersIf false old new line process call result = AnswersRunning old new line process call result
+abbrev pub AnswersIf : Type 0 → Bool → MachineModel → MachineModel → ℕ → ProcName → UnixCall → Result Reply Stopped → Type 0
+AnswersIf M true old new line process call result = IsErr result × (new ≡ old)
+AnswersIf M false old new line process call result = AnswersRunning M old new line process call result
 
--- what a call line does to a machine
+-- what a call line does to a machine; `M` says that memory ran out
+abbrev pub AnswersLineBy : Type 0 → MachineModel → MachineModel → ℕ → ProcName → UnixCall → Result Reply Stopped → Type 0
+AnswersLineBy M old new line process call result = AnswersIf M old.is_stopped old new line process call result
+
+-- what a call line does to a machine, whatever ends it without an answer
 abbrev pub AnswersLine : MachineModel → MachineModel → ℕ → ProcName → UnixCall → Result Reply Stopped → Type 0
-AnswersLine old new line process call result = AnswersIf old.is_stopped old new line process call result
+AnswersLine old new line process call result = AnswersLineBy (Unit {0}) old new line process call result

@@ -1,5 +1,6 @@
 -- A run against the flat meaning of its script.
-use Rattle.std.specs.Prelude.{◌≡◌, ℕ, ◌⊎◌, List, [], ◌++◌, length, Option, Result, Ok, Err, MatchResult, if◌then◌else◌}
+use Rattle.std.specs.Prelude.{◌≡◌, ℕ, ◌⊎◌, IsTrue, List, [], ◌++◌, length, Option}
+use Rattle.std.specs.Prelude.{Result, Ok, Err, MatchResult, if◌then◌else◌}
 use Rattle.std.specs.List.{AllByRecursion}
 use Rattle.std.specs.Io.KnownBytes.{Appends, Keeps}
 use Rattle.histar_flat.specs.declared.replies.Reply.{Reply}
@@ -66,23 +67,26 @@ pub record AnswersAsMeant (accounts : Accounts) (old new : MachineModel) (f : Fl
   pub refined : SimulatesLine accounts (state old.kernel) f asked entries (state new.kernel)
   pub shows : Shows accounts new (flat_after accounts f asked.process asked.call)
 
--- The line ended without an answer: its raw calls are a run of the kernel by the thread of its process, broken off before the reply that
--- the flat state says.
-pub record StopsAsMeant (accounts : Accounts) (old new : MachineModel) (f : Flat) (asked : CallLine) : Type 0 where
+-- The line ended without an answer, since the machine had stopped before or memory ran out, which `M` says: its raw calls are a run of
+-- the kernel by the thread of its process, broken off before the reply that the flat state says.
+pub record StopsAsMeant (M : Type 0) (accounts : Accounts) (old new : MachineModel) (f : Flat) (asked : CallLine) : Type 0 where
   pub entries : List TraceEntry
   pub trace : new.kernel.trace ≡ old.kernel.trace ++ entries
   pub run : IsBrokenOff (reply_to accounts f asked.process asked.call) (state old.kernel) entries (state new.kernel)
   pub own : AllByRecursion (λ e. (e.line ≡ asked.line) × IsThreadOf accounts (state old.kernel) asked.process e.thread) entries
+  pub because : IsTrue old.is_stopped ⊎ M
 
 -- a line that ends in this way
-abbrev pub EndsAsMeant : Accounts → MachineModel → MachineModel → Flat → CallLine → Result Reply Stopped → Type 0
-EndsAsMeant accounts old new f asked (Ok reply) = AnswersAsMeant accounts old new f asked reply
-EndsAsMeant accounts old new f asked (Err stopped) = StopsAsMeant accounts old new f asked
+abbrev pub EndsAsMeant : Type 0 → Accounts → MachineModel → MachineModel → Flat → CallLine → Result Reply Stopped → Type 0
+EndsAsMeant M accounts old new f asked (Ok reply) = AnswersAsMeant accounts old new f asked reply
+EndsAsMeant M accounts old new f asked (Err stopped) = StopsAsMeant M accounts old new f asked
 
--- For each flat state that the machine represents before the line, with users and groups of its names, the line ends as that state says.
-abbrev pub FollowsMeaning : MachineModel → MachineModel → ℕ → ProcName → UnixCall → Result Reply Stopped → Type 0
-FollowsMeaning old new line process call result =
-    (accounts : Accounts) (f : Flat) → Shows accounts old f → EndsAsMeant accounts old new f (record { line = line; process = process; call = call }) result
+-- For each flat state that the machine represents before the line, with users and groups of its names, the line ends as that state says;
+-- `M` says that memory ran out.
+abbrev pub FollowsMeaning : Type 0 → MachineModel → MachineModel → ℕ → ProcName → UnixCall → Result Reply Stopped → Type 0
+FollowsMeaning M old new line process call result =
+    (accounts : Accounts) (f : Flat) → Shows accounts old f
+    → EndsAsMeant M accounts old new f (record { line = line; process = process; call = call }) result
 
 -- a machine represents the flat start
 abbrev pub ShowsStart : Accounts → MachineModel → Type 0

@@ -1,5 +1,6 @@
 //! The machine: a labelled kernel with its start state, and what each call line has it do.
-ghost use Rattle.std.specs.Prelude.{◌≡◌, IfOk};
+ghost use Rattle.std.specs.Prelude.{◌≡◌, ◌≤◌, ◌⊎◌, IfOk, IsTrue, OnErr, length};
+ghost use Rattle.histar_rules.specs.Rules.{greatest};
 ghost use Rattle.histar_programs.specs.Refusals.{settled};
 ghost use Rattle.histar_script.specs.Script.{IsDeclared};
 ghost use Rattle.histar_shell.specs.Machine.{AnswersLine, IsStart, IsTraced, Makes};
@@ -14,6 +15,7 @@ use crate::calls::{
 };
 use crate::raw::make_raw;
 use histar_flat::{Accounts, ProcName, Reply, UnixCall, each_call_is_right};
+use histar_heap::Heap;
 use histar_label::LabelStore;
 use histar_layout::UserTable;
 use histar_login::boot;
@@ -22,7 +24,7 @@ use histar_programs::{CallError, Roots, Stopped, Unix, find_caller, settle};
 use histar_readout::{TreeNode, bytes_of, tree_of};
 use histar_rules::{Denied, RawCall};
 use histar_syscall::{Answer, Kernel, Trace as KernelTrace};
-use std::alloc::{AllocError, Global};
+use std::alloc::AllocError;
 use std::marker::Model;
 
 /// The raw calls of a run, in their order.
@@ -84,13 +86,14 @@ impl<S: LabelStore + Drop> Machine<S> {
     /// Boots a machine with these users and groups by its raw calls, before the first call of a
     /// script: `/` is the first user's, readable and empty, and process 0 is nobody's. It keeps the names of
     /// the users and their groups, and none of the passwords.
-    pub fn boot(alloc: Global, store: S, accounts: Accounts) -> Result<Self, Stopped>
+    pub fn boot<H: Heap>(heap: H, store: S, accounts: Accounts) -> Result<Self, Stopped>
         requires { IsDeclared accounts }
         ensures starts { IfOk result (IsStart accounts) }
         ensures shows { IfOk result (ShowsStart accounts) }
+        ensures memory { OnErr result H.Refused }
     {
-        let users = UserTable::of(alloc, &accounts)?;
-        let (kernel, roots) = boot(alloc, store, &accounts)?;
+        let users = UserTable::of(heap, &accounts)?;
+        let (kernel, roots) = boot(heap, store, &accounts)?;
         Ok(Machine {
             kernel,
             roots,
@@ -101,15 +104,15 @@ impl<S: LabelStore + Drop> Machine<S> {
 
     /// Makes one call of a process, on this line of the script. `Gone` for a process that was never born,
     /// has exited or was killed. After the first `Stopped` it does nothing and answers `Stopped`.
-    pub fn step(
+    pub fn step<H: Heap>(
         &mut self,
-        alloc: Global,
+        heap: H,
         line: u32,
         process: &ProcName,
         call: UnixCall,
     ) -> Result<Reply, Stopped>
         ensures answers { AnswersLine self.old self.new line process.now call result }
-        ensures means { FollowsMeaning self.old self.new line process.now call result }
+        ensures means { FollowsMeaning H.Refused self.old self.new line process.now call result }
     {
         if self.is_stopped {
             drop(call);
@@ -127,7 +130,8 @@ impl<S: LabelStore + Drop> Machine<S> {
             process,
             caller: &caller,
         };
-        let outcome = make(alloc, &mut self.kernel, &unix, call);
+        let outcome = make(heap, &mut self.kernel, &unix, call);
+        entries_are_counted(&self.kernel);
         let result = settle(outcome);
         self.is_stopped = result.is_err();
         result
@@ -135,20 +139,21 @@ impl<S: LabelStore + Drop> Machine<S> {
 
     /// Makes a raw call of a thread as it stands, on this line of the script. It stops where memory runs out,
     /// and after the first `Stopped` it does nothing and answers `Stopped`.
-    pub fn raw_call(
+    pub fn raw_call<H: Heap>(
         &mut self,
-        alloc: Global,
+        heap: H,
         line: u32,
         thread: ObjId,
         call: RawCall,
     ) -> Result<Result<Answer, Denied>, Stopped>
-        ensures { MakesRaw self.old self.new line thread call result }
+        ensures makes { MakesRaw self.old self.new line thread call result }
+        ensures memory { OnErr result (IsTrue self.old.is_stopped ⊎ H.Refused) }
     {
         if self.is_stopped {
             drop(call);
             Err(Stopped)
         } else {
-            let result = make_raw(alloc, &mut self.kernel, line, thread, call);
+            let result = make_raw(heap, &mut self.kernel, line, thread, call);
             self.is_stopped = result.is_err();
             result
         }
@@ -163,11 +168,12 @@ impl<S: LabelStore + Drop> Machine<S> {
 
     /// Returns the files and directories, by rising paths, read off the kernel's own objects with no raw
     /// call.
-    pub fn tree(&self, alloc: Global) -> Result<Vec<TreeNode>, AllocError>
+    pub fn tree<H: Heap>(&self, heap: H) -> Result<Vec<TreeNode>, AllocError>
         requires { HasTree self.now }
-        ensures { IfOk result (λ tree. IsTreeIn self.now tree.items) }
+        ensures ok { IfOk result (λ tree. IsTreeIn self.now tree.items) }
+        ensures memory { OnErr result H.Refused }
     {
-        match tree_of(alloc, &self.kernel, &self.roots, &self.users)? {
+        match tree_of(heap, &self.kernel, &self.roots, &self.users)? {
             Some(tree) => Ok(tree),
             None => unreachable!(),
         }
@@ -214,20 +220,28 @@ impl<S: LabelStore + Drop> Machine<S> {
     }
 }
 
+/// Says that the entries of a kernel's trace are no more than a number of 64 bits counts. A kernel whose raw
+/// calls are these has not spent a counter.
+fn entries_are_counted<S: LabelStore + Drop>(kernel: &Kernel<S>)
+    ensures { length kernel.now.trace ≤ greatest }
+{
+    kernel.trace().len();
+}
+
 /// Makes one call of a process on the line that was begun.
-fn make<S: LabelStore + Drop>(
-    alloc: Global,
+fn make<H: Heap, S: LabelStore + Drop>(
+    heap: H,
     kernel: &mut Kernel<S>,
     unix: &Unix,
     call: UnixCall,
 ) -> Result<Reply, CallError>
-    ensures { Makes unix.now.users.now unix.now.roots.now unix.now.process.now unix.now.caller.now
+    ensures { Makes H.Refused unix.now.users.now unix.now.roots.now unix.now.process.now unix.now.caller.now
         kernel.old kernel.new call (settled result) }
 {
     match kind_of(&call) {
-        CallKind::Reading => make_reading_call(alloc, kernel, unix, call),
-        CallKind::Writing => make_writing_call(alloc, kernel, unix, call),
-        CallKind::Entries => make_entry_call(alloc, kernel, unix, call),
-        CallKind::Processes => make_process_call(alloc, kernel, unix, call),
+        CallKind::Reading => make_reading_call(heap, kernel, unix, call),
+        CallKind::Writing => make_writing_call(heap, kernel, unix, call),
+        CallKind::Entries => make_entry_call(heap, kernel, unix, call),
+        CallKind::Processes => make_process_call(heap, kernel, unix, call),
     }
 }

@@ -5,6 +5,8 @@ ghost use Rattle.histar_script.specs.Runs.{IsOutputFault, LeavesSink, is_read_fa
 ghost use Rattle.histar_shell.specs.AllAnswers.{AnswersAll, BeginsAll, EndsWithTree};
 ghost use Rattle.histar_shell.specs.AnsweredCalls.{AnswersCall, AnswersCalls, BeginsAnswer, BeginsAnswers};
 ghost use Rattle.histar_shell.specs.Run.{RunsText};
+ghost use Rattle.histar_shell.specs.Memory.{StillShows, WantsMemory};
+ghost use Rattle.histar_script.specs.Memory.{OnOutOfMemory};
 ghost use Rattle.histar_script.specs.Outcome.{Gives};
 ghost use Rattle.histar_script.specs.Reading.{script_of};
 ghost use Rattle.histar_script.specs.Script.{IsDeclared};
@@ -14,10 +16,10 @@ use crate::machine::{Machine, Trace};
 use crate::output::set_reply_line;
 use histar_command::{Command, run_command};
 use histar_flat::CallLine;
+use histar_heap::Heap;
 use histar_io::{Sink, Source, write_bytes};
 use histar_label::{InternStore, LabelStore};
 use histar_script::{Fault, Script, read_script};
-use std::alloc::Global;
 
 /// What a run writes beside the replies.
 #[derive(Clone, Copy)]
@@ -37,8 +39,8 @@ const REMEMBERED_ANSWERS: usize = 256;
 /// The whole script is read and checked before the first call. It doesn't flush the sink. Equal labels are
 /// kept once, and the answers of the latest comparisons are remembered. The kernel's objects are never freed,
 /// since a program ends behind its run.
-pub fn run<R: Source, W: Sink>(
-    alloc: Global,
+pub fn run<H: Heap, R: Source, W: Sink>(
+    heap: H,
     reader: &mut R,
     writer: &mut W,
     options: Options,
@@ -59,14 +61,17 @@ pub fn run<R: Source, W: Sink>(
     // If the input is known, the script of the whole input was run.
     ensures known { IfSome (R.left reader.old)
         (λ input. RunsText options input (W.written writer.old) (W.written writer.new) result) }
+
+    // The answer is out of memory only where the heap refused memory, in this run.
+    ensures memory { OnOutOfMemory result H.Refused }
 {
-    run_command(alloc, reader, writer, InternedRun { options })
+    run_command(heap, reader, writer, InternedRun { heap, options })
 }
 
 /// Does the same over any store of labels, which is passed with no label in use: whatever it remembers, the
 /// replies, the tree and the trace are the same.
-pub fn run_with<S: LabelStore + Drop, R: Source, W: Sink>(
-    alloc: Global,
+pub fn run_with<H: Heap, S: LabelStore + Drop, R: Source, W: Sink>(
+    heap: H,
     store: S,
     reader: &mut R,
     writer: &mut W,
@@ -79,31 +84,40 @@ pub fn run_with<S: LabelStore + Drop, R: Source, W: Sink>(
         (W.written writer.old) (W.written writer.new) result }
     ensures known { IfSome (R.left reader.old)
         (λ input. RunsText options input (W.written writer.old) (W.written writer.new) result) }
+    ensures memory { OnOutOfMemory result H.Refused }
 {
-    run_command(alloc, reader, writer, StoredRun { store, options })
+    run_command(
+        heap,
+        reader,
+        writer,
+        StoredRun {
+            heap,
+            store,
+            options,
+        },
+    )
 }
 
 /// The command that runs a script over a store of its own, which keeps each label once.
 #[derive(Drop)]
-struct InternedRun {
+struct InternedRun<H> {
+    heap: H,
     options: Options,
 }
 
-impl Command for InternedRun {
+impl<H: Heap> Command for InternedRun<H> {
     ghost use Rattle.std.proofs.Common.{rules};
 
     type Answer = Trace;
 
+    type Memory = H;
+
     ghost Runs = { λ command. RunsText command.options };
 
-    fn on_text<W: Sink>(
-        self,
-        alloc: Global,
-        text: Vec<u8>,
-        writer: &mut W,
-    ) -> Result<Trace, Fault> {
-        let store = InternStore::new(alloc, REMEMBERED_ANSWERS)?;
-        run_text(alloc, store, text, writer, self.options)
+    fn on_text<W: Sink>(self, _heap: H, text: Vec<u8>, writer: &mut W) -> Result<Trace, Fault> {
+        let InternedRun { heap, options } = self;
+        let store = InternStore::new(heap, REMEMBERED_ANSWERS)?;
+        run_text(heap, store, text, writer, options)
     }
 
     ghost unread = { Prim.search rules };
@@ -113,26 +127,28 @@ impl Command for InternedRun {
 
 /// The command that runs a script over a store of the caller's.
 #[derive(Drop)]
-struct StoredRun<S> {
+struct StoredRun<H, S> {
+    heap: H,
     store: S,
     options: Options,
 }
 
-impl<S: LabelStore + Drop> Command for StoredRun<S> {
+impl<H: Heap, S: LabelStore + Drop> Command for StoredRun<H, S> {
     ghost use Rattle.std.proofs.Common.{rules};
 
     type Answer = Trace;
 
+    type Memory = H;
+
     ghost Runs = { λ command. RunsText command.options };
 
-    fn on_text<W: Sink>(
-        self,
-        alloc: Global,
-        text: Vec<u8>,
-        writer: &mut W,
-    ) -> Result<Trace, Fault> {
-        let StoredRun { store, options } = self;
-        run_text(alloc, store, text, writer, options)
+    fn on_text<W: Sink>(self, _heap: H, text: Vec<u8>, writer: &mut W) -> Result<Trace, Fault> {
+        let StoredRun {
+            heap,
+            store,
+            options,
+        } = self;
+        run_text(heap, store, text, writer, options)
     }
 
     ghost unread = { Prim.search rules };
@@ -141,8 +157,8 @@ impl<S: LabelStore + Drop> Command for StoredRun<S> {
 }
 
 /// Runs the script of a text, which it keeps no longer than it reads it.
-fn run_text<S: LabelStore + Drop, W: Sink>(
-    alloc: Global,
+fn run_text<H: Heap, S: LabelStore + Drop, W: Sink>(
+    heap: H,
     store: S,
     text: Vec<u8>,
     writer: &mut W,
@@ -152,13 +168,14 @@ fn run_text<S: LabelStore + Drop, W: Sink>(
     ensures reads { is_read_failed result ≡ false }
     ensures writes { CountsFailure (W.failures writer.old) (W.failures writer.new) (is_write_failed result) }
     ensures runs { RunsText options text.items (W.written writer.old) (W.written writer.new) result }
+    ensures memory { OnOutOfMemory result H.Refused }
 {
-    let script = read_text(alloc, text)?;
+    let script = read_text(heap, text)?;
     let (accounts, calls) = script.into_parts();
-    let Ok(mut machine) = Machine::boot(alloc, store, accounts) else {
+    let Ok(mut machine) = Machine::boot(heap, store, accounts) else {
         return Err(Fault::OutOfMemory);
     };
-    match answer_all(alloc, &mut machine, calls, writer, options) {
+    match answer_all(heap, &mut machine, calls, writer, options) {
         Ok(()) => Ok(machine.leak_into_trace()),
         Err(fault) => {
             drop(machine);
@@ -168,16 +185,17 @@ fn run_text<S: LabelStore + Drop, W: Sink>(
 }
 
 /// Reads the script that a text is, and frees the text: a session's trace takes its room.
-fn read_text(alloc: Global, text: Vec<u8>) -> Result<Script, Fault>
+fn read_text<H: Heap>(heap: H, text: Vec<u8>) -> Result<Script, Fault>
     ensures exact { Gives result (script_of text.items) }
     ensures declared { IfOk result (λ script. IsDeclared script.accounts) }
+    ensures memory { OnOutOfMemory result H.Refused }
 {
-    read_script(alloc, text.as_slice())
+    read_script(heap, text.as_slice())
 }
 
 /// Makes the calls on the machine in their order, writes a line for each, and then what is asked for.
-fn answer_all<S: LabelStore + Drop, W: Sink>(
-    alloc: Global,
+fn answer_all<H: Heap, S: LabelStore + Drop, W: Sink>(
+    heap: H,
     machine: &mut Machine<S>,
     calls: Vec<CallLine>,
     writer: &mut W,
@@ -190,14 +208,15 @@ fn answer_all<S: LabelStore + Drop, W: Sink>(
         (W.written writer.new) calls.items) }
     ensures faults { IfErr result IsOutputFault }
     ensures count { CountsFailure (W.failures writer.old) (W.failures writer.new) (is_write_failed result) }
+    ensures memory { WantsMemory H.Refused machine.old result }
 {
-    answer_calls(alloc, machine, calls, writer)?;
-    write_ending(alloc, machine, writer, options)
+    answer_calls(heap, machine, calls, writer)?;
+    write_ending(heap, machine, writer, options)
 }
 
 /// Makes the calls on the machine in their order, and writes a line for each.
-fn answer_calls<S: LabelStore + Drop, W: Sink>(
-    alloc: Global,
+fn answer_calls<H: Heap, S: LabelStore + Drop, W: Sink>(
+    heap: H,
     machine: &mut Machine<S>,
     calls: Vec<CallLine>,
     writer: &mut W,
@@ -208,17 +227,18 @@ fn answer_calls<S: LabelStore + Drop, W: Sink>(
         (W.written writer.new) calls.items) }
     ensures faults { IfErr result IsOutputFault }
     ensures count { CountsFailure (W.failures writer.old) (W.failures writer.new) (is_write_failed result) }
+    ensures memory { WantsMemory H.Refused machine.old result }
 {
-    let mut line = Vec::new(alloc);
+    let mut line = Vec::new(heap.alloc());
     'calls: for call in calls {
-        answer_by(alloc, machine, call, &mut line, writer)?;
+        answer_by(heap, machine, call, &mut line, writer)?;
     }
     Ok(())
 }
 
 /// Makes one call on the machine, and writes its line.
-pub fn answer_call<S: LabelStore + Drop, W: Sink>(
-    alloc: Global,
+pub fn answer_call<H: Heap, S: LabelStore + Drop, W: Sink>(
+    heap: H,
     machine: &mut Machine<S>,
     call: CallLine,
     writer: &mut W,
@@ -229,14 +249,15 @@ pub fn answer_call<S: LabelStore + Drop, W: Sink>(
         (W.written writer.new) call) }
     ensures faults { IfErr result IsOutputFault }
     ensures count { CountsFailure (W.failures writer.old) (W.failures writer.new) (is_write_failed result) }
+    ensures memory { WantsMemory H.Refused machine.old result }
 {
-    let mut line = Vec::new(alloc);
-    answer_by(alloc, machine, call, &mut line, writer)
+    let mut line = Vec::new(heap.alloc());
+    answer_by(heap, machine, call, &mut line, writer)
 }
 
 /// Does the same, where the line is made in a buffer, whatever this holds.
-fn answer_by<S: LabelStore + Drop, W: Sink>(
-    alloc: Global,
+fn answer_by<H: Heap, S: LabelStore + Drop, W: Sink>(
+    heap: H,
     machine: &mut Machine<S>,
     call: CallLine,
     line: &mut Vec<u8>,
@@ -248,16 +269,18 @@ fn answer_by<S: LabelStore + Drop, W: Sink>(
         (W.written writer.new) call) }
     ensures faults { IfErr result IsOutputFault }
     ensures count { CountsFailure (W.failures writer.old) (W.failures writer.new) (is_write_failed result) }
+    ensures shows { OnOk result (StillShows machine.old machine.new) }
+    ensures memory { WantsMemory H.Refused machine.old result }
 {
     let CallLine {
         line: number,
         process,
         call,
     } = call;
-    let Ok(reply) = machine.step(alloc, number, &process, call) else {
+    let Ok(reply) = machine.step(heap, number, &process, call) else {
         return Err(Fault::OutOfMemory);
     };
-    let made = set_reply_line(line, number, &reply);
+    let made = set_reply_line(heap, line, number, &reply);
     drop(reply);
     made?;
     write_bytes(writer, line.as_slice())?;

@@ -18,7 +18,7 @@ use Rattle.histar_sim.proofs.Files.{WritesFile, slash_is_no_file, writing_step}
 
 -- then the file has the new bytes after its old ones
 append_writes : (accounts : Accounts) (f : Flat) (me : ProcName) (p : Process) (q : Path) (bytes : List ℕ)
-    → WritesFile accounts f me p q (calls.Append q bytes) (bytes_at f q ++ bytes)
+    → WritesFile accounts f me p q (calls.Append q bytes) (bytes_at f q ++ bytes) most_bytes bytes
 append_writes accounts f me p q bytes =
     record {
       reaches = record {
@@ -28,6 +28,7 @@ append_writes accounts f me p q bytes =
             orelse unless (nat_le (length (bytes_at f q ++ bytes)) most_bytes) (IsTooLong q (length (bytes_at f q ++ bytes)));
         explains = refl;
         reads = λ s reply entries walk. walk;
+        asks = λ s l. refl;
       };
       names = refl;
       changes = refl;
@@ -35,14 +36,14 @@ append_writes accounts f me p q bytes =
     }
 
 -- the program of `append` refines its rule
-pub append_refines : AppendRefines
+pub append_refines : {M : Type 0} → AppendRefines M
 unfolding append_program
-append_refines accounts ok [] bytes me old new f t result ready run =
-    from_each accounts f me (calls.Append [] bytes) old new t result ready (λ ready.
-    slash_is_no_file accounts old new f me t ready (calls.Append [] bytes) result _
+append_refines {M} accounts ok [] bytes me old new f t result ready run =
+    from_each M accounts f me (calls.Append [] bytes) old new t result ready (λ ready.
+    slash_is_no_file accounts old new f me t ready (calls.Append [] bytes) result _ _
     (append_writes accounts f me ready.caller.process [] bytes).reaches _ run)
-append_refines accounts ok (m ∷ d) bytes me old new f t result ready run =
-    from_each accounts f me (calls.Append (m ∷ d) bytes) old new t result ready (λ ready.
+append_refines {M} accounts ok (m ∷ d) bytes me old new f t result ready run =
+    from_each M accounts f me (calls.Append (m ∷ d) bytes) old new t result ready (λ ready.
     writing_step accounts ok old new f me t ready m d (calls.Append (m ∷ d) bytes) result most_bytes bytes
     (bytes_at f (m ∷ d) ++ bytes) (append_writes accounts f me ready.caller.process (m ∷ d) bytes)
     (λ few. ap (λ (xs : List ℕ). xs ++ bytes) (take_all most_bytes (bytes_at f (m ∷ d)) few)) run)

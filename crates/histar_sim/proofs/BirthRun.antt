@@ -34,7 +34,10 @@ use Rattle.histar_process.specs.Birth.{birth, outer_label, inner_label, thread_l
 use Rattle.histar_refinement.proofs.RawChecks.{object}
 use Rattle.histar_refinement.proofs.Spawned.{births}
 use Rattle.histar_refinement.proofs.Beside.{own_set}
-use Rattle.histar_sim.specs.Simulation.{IsReady, has_category}
+use Rattle.histar_sim.specs.Simulation.{has_category}
+use Rattle.histar_sim.specs.RawCalls.{Request, births_at, plain}
+use Rattle.histar_sim.proofs.Requests.{AreLeft, left_then}
+use Rattle.histar_sim.proofs.Ready.{Ready}
 use Rattle.histar_sim.specs.Reads.{AreAmong}
 use Rattle.histar_sim.proofs.Chains.{all_granted, entries_of, Chain}
 use Rattle.histar_sim.proofs.Steps.{Goal, granted_step}
@@ -73,10 +76,10 @@ spawned s t home status kin own own_clearance =
     (record { label = outer_label kin (s.next_category + 1); kind = Segment (status_bytes (started (s.next_object + 1) (s.next_object + 1 + 1))) })
     (status_bytes (with_child_listed s.next_object (s.next_object + 1 + 1 + 1) status))) own own_clearance
 
-module _ (accounts : Accounts) (f : Flat) (me : ProcName) (call : UnixCall)
-    (old new : KernelModel) (t : ℕ) (ready : IsReady accounts (state old) f me t) (result : Result Reply Stopped)
+module _ {M : Type 0} (accounts : Accounts) (f : Flat) (me : ProcName) (call : UnixCall)
+    (old new : KernelModel) (t : ℕ) (ready : Ready M accounts (state old) f me t) (result : Result Reply Stopped)
     (s : State) (home : Home) (status : ProcessStatus) (kin : Kin) (own own_clearance : Levels)
-    (fit : IsFit s t home status kin own own_clearance) (reply : Reply) (wanted : List RawCall) where
+    (fit : IsFit s t home status kin own own_clearance) (reply : Reply) (wanted : List RawCall) (requests : List Request) where
   abbrev Refined : Type 0
   Refined = Goal accounts f me call old new t ready result
 
@@ -156,24 +159,50 @@ module _ (accounts : Accounts) (f : Flat) (me : ProcName) (call : UnixCall)
   abbrev after_category : ℕ → Program
   after_category r = ask MakeCategory (after_categories r)
 
-  -- these raw calls were made before the birth, and so they are among all
-  abbrev AreKept : List RawCall → Type 0
-  AreKept calls = AreAmong wanted (entries_of old.line t (all_granted calls))
+  -- the raw calls of the birth, from each on
+  abbrev clearance_on : List RawCall
+  clearance_on = SetClearance own_clearance ∷ []
 
-  kept_then : (calls : List RawCall) (next : RawCall) → AreKept calls → AreKept (calls ++ next ∷ [])
-  kept_then calls next kept = among_then old.line t wanted calls (next ∷ []) kept
+  abbrev label_on : List RawCall
+  label_on = SetLabel own ∷ clearance_on
+
+  abbrev write_on : List RawCall
+  write_on = Write home.container home.segment 0 own_bytes ∷ label_on
+
+  abbrev segment_on : List RawCall
+  segment_on = MakeSegment m outer child_bytes ∷ write_on
+
+  abbrev thread_on : List RawCall
+  thread_on = MakeThread (m + 1) label clearance ∷ segment_on
+
+  abbrev internal_on : List RawCall
+  internal_on = MakeContainer m inner ∷ thread_on
+
+  abbrev container_on : List RawCall
+  container_on = MakeContainer home.container outer ∷ internal_on
+
+  -- the raw calls that were made before the birth are among all, and these are left
+  abbrev AreKept : List RawCall → List RawCall → Type 0
+  AreKept calls left = AreAmong wanted (entries_of old.line t (all_granted calls)) × AreLeft requests calls (plain left)
+
+  kept_then : (calls : List RawCall) (next : RawCall) (left : List RawCall) → AreKept calls (next ∷ left)
+      → AreKept (calls ++ next ∷ []) left
+  kept_then calls next left kept = (
+    among_then old.line t wanted calls (next ∷ []) kept.0,
+    left_then requests calls next (plain left) kept.1,
+  )
 
   -- what comes after all raw calls of the birth
   abbrev pub Ends : Type 0
   Ends =
       (calls : List RawCall) (later : KernelModel) → AreAmong wanted (entries_of old.line t (all_granted calls))
-      → Chain old t (all_granted calls) later → state later ≡ spawned s t home status kin own own_clearance
-      → s.next_object + 3 < greatest → Runs (Answers reply) later new t result
+      → AreLeft requests calls [] → Chain old t (all_granted calls) later → state later ≡ spawned s t home status kin own own_clearance
+      → s.next_object + 3 < greatest → Runs M (Answers reply) later new t result
       → Goal accounts f me call old new t ready result
 
   module _ (ends : Ends) where
-    clearance_set : s.next_object + 3 < greatest → (calls : List RawCall) (mid : KernelModel) → AreKept calls
-        → Chain old t (all_granted calls) mid → state mid ≡ eighth → Runs after_label mid new t result → Refined
+    clearance_set : s.next_object + 3 < greatest → (calls : List RawCall) (mid : KernelModel) → AreKept calls clearance_on
+        → Chain old t (all_granted calls) mid → state mid ≡ eighth → Runs M after_label mid new t result → Refined
     clearance_set few calls mid kept chain at runs =
         granted_step accounts f me call old new t ready result calls mid chain (SetClearance own_clearance) (λ _. Answers reply)
         (ap (λ (x : State). check x t (SetClearance own_clearance)) at
@@ -181,11 +210,12 @@ module _ (accounts : Accounts) (f : Flat) (me : ProcName) (call : UnixCall)
         fit.held u fit.around outer inner label clearance own own_clearance child_bytes own_bytes fit.under
         fit.seen fit.outer fit.inner fit.lesser fit.taken) runs
         (λ later done called right longer goes.
-        ends (calls ++ SetClearance own_clearance ∷ []) later (kept_then calls (SetClearance own_clearance) kept)
-        longer (called.state ∙ ap (λ (x : State). with_changed x t (with_clearance own_clearance)) at) few goes)
+        ends (calls ++ SetClearance own_clearance ∷ []) later (kept_then calls (SetClearance own_clearance) [] kept).0
+        (kept_then calls (SetClearance own_clearance) [] kept).1 longer
+        (called.state ∙ ap (λ (x : State). with_changed x t (with_clearance own_clearance)) at) few goes)
 
-    label_set : s.next_object + 3 < greatest → (calls : List RawCall) (mid : KernelModel) → AreKept calls
-        → Chain old t (all_granted calls) mid → state mid ≡ seventh → Runs after_write mid new t result → Refined
+    label_set : s.next_object + 3 < greatest → (calls : List RawCall) (mid : KernelModel) → AreKept calls label_on
+        → Chain old t (all_granted calls) mid → state mid ≡ seventh → Runs M after_write mid new t result → Refined
     label_set few calls mid kept chain at runs =
         granted_step accounts f me call old new t ready result calls mid chain (SetLabel own) (λ _. after_label)
         (ap (λ (x : State). check x t (SetLabel own)) at
@@ -193,12 +223,12 @@ module _ (accounts : Accounts) (f : Flat) (me : ProcName) (call : UnixCall)
         fit.around outer inner label clearance own own_clearance child_bytes own_bytes fit.under fit.seen
         fit.outer fit.inner fit.lesser fit.taken) runs
         (λ later done called right longer goes.
-        clearance_set few (calls ++ SetLabel own ∷ []) later (kept_then calls (SetLabel own) kept) longer
+        clearance_set few (calls ++ SetLabel own ∷ []) later (kept_then calls (SetLabel own) clearance_on kept) longer
         (called.state ∙ ap (λ (x : State). with_changed x t (with_label own)) at) goes)
 
-    segment_written : s.next_object + 3 < greatest → (calls : List RawCall) (mid : KernelModel) → AreKept calls
+    segment_written : s.next_object + 3 < greatest → (calls : List RawCall) (mid : KernelModel) → AreKept calls write_on
         → Chain old t (all_granted calls) mid → state mid ≡ sixth
-        → Runs (after_segment m (m + 1 + 1 + 1)) mid new t result → Refined
+        → Runs M (after_segment m (m + 1 + 1 + 1)) mid new t result → Refined
     segment_written few calls mid kept chain at runs =
         let next : RawCall = Write home.container home.segment 0 own_bytes in
         granted_step accounts f me call old new t ready result calls mid chain next (λ _. after_write)
@@ -207,11 +237,11 @@ module _ (accounts : Accounts) (f : Flat) (me : ProcName) (call : UnixCall)
         fit.around outer inner label clearance own own_clearance child_bytes own_bytes fit.under fit.seen
         fit.outer fit.inner fit.lesser fit.taken fit.own_few) runs
         (λ later done called right longer goes.
-        label_set few (calls ++ next ∷ []) later (kept_then calls next kept) longer
+        label_set few (calls ++ next ∷ []) later (kept_then calls next label_on kept) longer
         (called.state ∙ ap (λ (x : State). with_segment_bytes x home.segment own_bytes) at) goes)
 
-    segment_made : (calls : List RawCall) (mid : KernelModel) → AreKept calls → Chain old t (all_granted calls) mid
-        → state mid ≡ fifth → Runs (after_thread write m (m + 1) (m + 1 + 1)) mid new t result → Refined
+    segment_made : (calls : List RawCall) (mid : KernelModel) → AreKept calls segment_on → Chain old t (all_granted calls) mid
+        → state mid ≡ fifth → Runs M (after_thread write m (m + 1) (m + 1 + 1)) mid new t result → Refined
     segment_made calls mid kept chain at runs =
         let next : RawCall = MakeSegment m outer child_bytes in
         numbered_step accounts f me call old new t ready result calls mid chain next (after_segment m) refl
@@ -221,13 +251,13 @@ module _ (accounts : Accounts) (f : Flat) (me : ProcName) (call : UnixCall)
         fit.outer fit.inner fit.lesser fit.taken fit.child_few)) runs
         (λ more later number called right longer goes.
         let few = ltb-true (m + 1 + 1 + 1) greatest (sym (ap has_number at) ∙ more) in
-        segment_written (omega (arith, few)) (calls ++ next ∷ []) later (kept_then calls next kept) longer
+        segment_written (omega (arith, few)) (calls ++ next ∷ []) later (kept_then calls next write_on kept) longer
         (called.state
         ∙ ap (λ (x : State). with_object x m (record { label = outer; kind = Segment child_bytes })) at)
-        (subst (λ (q : ℕ). Runs (after_segment m q) later new t result) (right ∙ ap (λ (x : State). x.next_object) at) goes))
+        (subst (λ (q : ℕ). Runs M (after_segment m q) later new t result) (right ∙ ap (λ (x : State). x.next_object) at) goes))
 
-    thread_made : (calls : List RawCall) (mid : KernelModel) → AreKept calls → Chain old t (all_granted calls) mid
-        → state mid ≡ fourth → Runs (after_internal read write m (m + 1)) mid new t result → Refined
+    thread_made : (calls : List RawCall) (mid : KernelModel) → AreKept calls thread_on → Chain old t (all_granted calls) mid
+        → state mid ≡ fourth → Runs M (after_internal read write m (m + 1)) mid new t result → Refined
     thread_made calls mid kept chain at runs =
         let next : RawCall = MakeThread (m + 1) label clearance in
         numbered_step accounts f me call old new t ready result calls mid chain next (after_thread write m (m + 1)) refl
@@ -236,12 +266,12 @@ module _ (accounts : Accounts) (f : Flat) (me : ProcName) (call : UnixCall)
         u fit.around outer inner label clearance own own_clearance child_bytes own_bytes fit.under fit.seen
         fit.outer fit.inner fit.lesser fit.taken)) runs
         (λ more later number called right longer goes.
-        segment_made (calls ++ next ∷ []) later (kept_then calls next kept) longer
+        segment_made (calls ++ next ∷ []) later (kept_then calls next segment_on kept) longer
         (called.state ∙ ap (λ (x : State). with_object x (m + 1) (thread_of label clearance)) at)
-        (subst (λ (q : ℕ). Runs (after_thread write m (m + 1) q) later new t result) (right ∙ ap (λ (x : State). x.next_object) at) goes))
+        (subst (λ (q : ℕ). Runs M (after_thread write m (m + 1) q) later new t result) (right ∙ ap (λ (x : State). x.next_object) at) goes))
 
-    internal_made : (calls : List RawCall) (mid : KernelModel) → AreKept calls → Chain old t (all_granted calls) mid
-        → state mid ≡ third → Runs (after_container read write m) mid new t result → Refined
+    internal_made : (calls : List RawCall) (mid : KernelModel) → AreKept calls internal_on → Chain old t (all_granted calls) mid
+        → state mid ≡ third → Runs M (after_container read write m) mid new t result → Refined
     internal_made calls mid kept chain at runs =
         let next : RawCall = MakeContainer m inner in
         numbered_step accounts f me call old new t ready result calls mid chain next (after_internal read write m) refl
@@ -250,13 +280,13 @@ module _ (accounts : Accounts) (f : Flat) (me : ProcName) (call : UnixCall)
         fit.held u fit.around outer inner label clearance own own_clearance child_bytes own_bytes fit.under
         fit.seen fit.outer fit.inner fit.lesser fit.taken)) runs
         (λ more later number called right longer goes.
-        thread_made (calls ++ next ∷ []) later (kept_then calls next kept) longer
+        thread_made (calls ++ next ∷ []) later (kept_then calls next thread_on kept) longer
         (called.state
         ∙ ap (λ (x : State). with_object x m (record { label = inner; kind = Container set.empty })) at)
-        (subst (λ (q : ℕ). Runs (after_internal read write m q) later new t result) (right ∙ ap (λ (x : State). x.next_object) at) goes))
+        (subst (λ (q : ℕ). Runs M (after_internal read write m q) later new t result) (right ∙ ap (λ (x : State). x.next_object) at) goes))
 
-    container_made : (calls : List RawCall) (mid : KernelModel) → AreKept calls → Chain old t (all_granted calls) mid
-        → state mid ≡ u → Runs (after_categories read write) mid new t result → Refined
+    container_made : (calls : List RawCall) (mid : KernelModel) → AreKept calls container_on → Chain old t (all_granted calls) mid
+        → state mid ≡ u → Runs M (after_categories read write) mid new t result → Refined
     container_made calls mid kept chain at runs =
         let next : RawCall = MakeContainer home.container outer in
         numbered_step accounts f me call old new t ready result calls mid chain next (after_container read write) refl
@@ -265,45 +295,48 @@ module _ (accounts : Accounts) (f : Flat) (me : ProcName) (call : UnixCall)
         fit.held u fit.around outer inner label clearance own own_clearance child_bytes own_bytes fit.under
         fit.seen fit.outer fit.inner fit.lesser fit.taken)) runs
         (λ more later number called right longer goes.
-        internal_made (calls ++ next ∷ []) later (kept_then calls next kept) longer
+        internal_made (calls ++ next ∷ []) later (kept_then calls next internal_on kept) longer
         (called.state
         ∙ ap (λ (x : State).
         with_object x home.container (record { label = outer; kind = Container set.empty })) at)
-        (subst (λ (q : ℕ). Runs (after_container read write q) later new t result) (right ∙ ap (λ (x : State). x.next_object) at) goes))
+        (subst (λ (q : ℕ). Runs M (after_container read write q) later new t result) (right ∙ ap (λ (x : State). x.next_object) at) goes))
 
     -- the thread with the first category
     thread_then : (with_category s t).objects t ≡ object (with_level own s.next_category Star) (Thread (with_level own_clearance s.next_category L3))
     thread_then = changed_here s.objects t (with_star_at s.next_category) ∙ ap (option_map (with_star_at s.next_category)) fit.thread
 
-    write_made : (calls : List RawCall) (mid : KernelModel) → AreKept calls → Chain old t (all_granted calls) mid
-        → state mid ≡ with_category s t → Runs (after_category read) mid new t result → Refined
+    write_made : (calls : List RawCall) (mid : KernelModel) → AreKept calls (MakeCategory ∷ container_on) → Chain old t (all_granted calls) mid
+        → state mid ≡ with_category s t → Runs M (after_category read) mid new t result → Refined
     write_made calls mid kept chain at runs =
         category_step accounts f me call old new t ready result calls mid chain MakeCategory (after_categories read) refl
         (subst (λ (x : State). check x t MakeCategory ≡ unless (has_category x) TooBig) (sym at)
         (category_said (with_category s t) t (with_level own s.next_category Star)
         (with_level own_clearance s.next_category L3) thread_then)) runs
         (λ later number called right longer goes.
-        container_made (calls ++ MakeCategory ∷ []) later (kept_then calls MakeCategory kept) longer
+        container_made (calls ++ MakeCategory ∷ []) later (kept_then calls MakeCategory container_on kept) longer
         (called.state ∙ ap (λ (x : State). with_category x t) at)
-        (subst (λ (q : ℕ). Runs (after_categories read q) later new t result) (right ∙ ap (λ (x : State). x.next_category) at) goes))
+        (subst (λ (q : ℕ). Runs M (after_categories read q) later new t result) (right ∙ ap (λ (x : State). x.next_category) at) goes))
 
-    read_made : (calls : List RawCall) (mid : KernelModel) → AreKept calls → Chain old t (all_granted calls) mid
-        → state mid ≡ s → Runs (ask MakeCategory after_category) mid new t result → Refined
+    read_made : (calls : List RawCall) (mid : KernelModel) → AreKept calls (MakeCategory ∷ MakeCategory ∷ container_on)
+        → Chain old t (all_granted calls) mid
+        → state mid ≡ s → Runs M (ask MakeCategory after_category) mid new t result → Refined
     read_made calls mid kept chain at runs =
         category_step accounts f me call old new t ready result calls mid chain MakeCategory after_category refl
         (subst (λ (x : State). check x t MakeCategory ≡ unless (has_category x) TooBig) (sym at)
         (category_said s t own own_clearance fit.thread)) runs
         (λ later number called right longer goes.
-        write_made (calls ++ MakeCategory ∷ []) later (kept_then calls MakeCategory kept) longer
+        write_made (calls ++ MakeCategory ∷ []) later (kept_then calls MakeCategory (MakeCategory ∷ container_on) kept) longer
         (called.state ∙ ap (λ (x : State). with_category x t) at)
-        (subst (λ (q : ℕ). Runs (after_category q) later new t result) (right ∙ ap (λ (x : State). x.next_category) at) goes))
+        (subst (λ (q : ℕ). Runs M (after_category q) later new t result) (right ∙ ap (λ (x : State). x.next_category) at) goes))
 
     -- The birth, and the thread's own labels again.
     pub birth_made : (calls : List RawCall) (mid : KernelModel)
-        → AreAmong wanted (entries_of old.line t (all_granted calls)) → Chain old t (all_granted calls) mid
-        → state mid ≡ s
-        → Runs (birth home status kin
+        → AreAmong wanted (entries_of old.line t (all_granted calls))
+        → AreLeft requests calls (plain (births_at home status kin s.next_category s.next_object
+        ++ SetLabel own ∷ SetClearance own_clearance ∷ []))
+        → Chain old t (all_granted calls) mid → state mid ≡ s
+        → Runs M (birth home status kin
         (λ _. ask (SetLabel own) (λ _. ask (SetClearance own_clearance) (λ _. Answers reply)))) mid new t result
         → Refined
     unfolding birth
-    birth_made calls mid kept chain at runs = read_made calls mid kept chain at runs
+    birth_made calls mid kept left chain at runs = read_made calls mid (kept, left) chain at runs

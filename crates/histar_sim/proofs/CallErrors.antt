@@ -1,6 +1,7 @@
 -- How a call ends: it has replied what its flat rule says, or it was refused nowhere.
-use Rattle.std.proofs.Common.{◌≡◌, ◌≢◌, ℕ, ◌||◌, Bool, true, false, List, [], ◌∷◌, ◌++◌, Option, None, Some, Ok, refl, sym, ap, ◌∙◌, subst}
-use Rattle.std.proofs.lemmas.List.{map-append}
+use Rattle.std.proofs.Common.{◌≡◌, ◌≢◌, ◌⊎◌, ℕ, ◌||◌, Bool, true, false, List, [], ◌∷◌}
+use Rattle.std.proofs.Common.{◌++◌, Option, None, Some, Ok, refl, sym, ap, ◌∙◌, subst}
+use Rattle.std.proofs.lemmas.List.{map-append, append_cancel_left}
 use Rattle.std.specs.Prelude.{option_map, Result, Err}
 use Rattle.std.specs.List.{AllByRecursion}
 use Rattle.std.proofs.Math.Bool.{or-false}
@@ -30,9 +31,11 @@ use Rattle.histar_refinement.specs.Represents.{Represents}
 use Rattle.histar_refinement.specs.KeptNames.{RepresentsStill}
 use Rattle.histar_refinement.proofs.KeepingNames.{still_represents}
 use Rattle.histar_refinement.specs.Lines.{IsThreadOf}
-use Rattle.histar_sim.specs.Simulation.{IsReady, errno_by_rule, IsReplyOfDenial, EndsWithRead, IsLine, IsUnanswered}
-use Rattle.histar_sim.specs.Simulation.{IsBrokenOff, FollowsRule}
+use Rattle.histar_sim.specs.Simulation.{errno_by_rule, IsReplyOfDenial, EndsWithRead, IsLine, IsUnanswered}
+use Rattle.histar_sim.proofs.Ready.{Ready, ready_from}
+use Rattle.histar_sim.specs.Simulation.{IsBrokenOff, IsReady, IsSpent, FollowsRule}
 use Rattle.histar_sim.specs.Reads.{HasReads}
+use Rattle.histar_sim.specs.RawCalls.{AreItsRequests, AreMade, requests_of}
 use Rattle.histar_sim.specs.Named.{IsNamed, IsNamedDenial, DenialsAreNamed}
 use Rattle.histar_sim.proofs.ReadsByCall.{HasReadsByCall, reads_due}
 use Rattle.histar_sim.proofs.Chains.{Step, all_granted, entries_of, Chain, chain_run, chain_own, all_restoring}
@@ -140,40 +143,49 @@ module _ (accounts : Accounts) (f : Flat) (me : ProcName) (call : UnixCall) (old
     pub is_line : IsLine accounts (state old) old.line me (reply_to accounts f me call) entries (state new)
     pub reads : HasReads accounts (state old) f (running f me) call (reply_to accounts f me call) entries
     pub named : DenialsAreNamed accounts (state old) f me (running f me) call entries
+    pub requests : AreItsRequests accounts from.matched me (running f me) call entries
     pub still : RepresentsStill from (state new) (flat_after accounts f me call)
 
-  -- it is answered so, or it ends without a reply
-  abbrev pub FollowsFrom : Represents accounts (state old) f → Result Reply Stopped → Type 0
-  FollowsFrom from (Ok reply) = (reply ≡ reply_to accounts f me call) × IsAnsweredFrom from
-  FollowsFrom from (Err stopped) = IsUnanswered accounts f me call old new t
+-- it is answered so, or it ends without a reply: memory ran out, which M says, or a counter has its greatest value
+abbrev pub FollowsFrom : (M : Type 0) (accounts : Accounts) (f : Flat) (me : ProcName) (call : UnixCall) (old new : KernelModel) (t : ℕ)
+    → Represents accounts (state old) f → Result Reply Stopped → Type 0
+FollowsFrom M accounts f me call old new t from (Ok reply) =
+    (reply ≡ reply_to accounts f me call) × IsAnsweredFrom accounts f me call old new t from
+FollowsFrom M accounts f me call old new t from (Err stopped) = IsUnanswered M accounts f me call old new t
 
-  -- a call follows its rule if it does so from each representation, with names that keep their numbers
-  pub from_each : (result : Result Reply Stopped) → IsReady accounts (state old) f me t
-      → ((ready : IsReady accounts (state old) f me t) → FollowsFrom ready.represents result)
-      → FollowsRule accounts f me call old new t result
-  from_each (Ok reply) ready each =
-      let here = (each ready).1 in (
-        (each ready).0,
-        record {
-          entries = here.entries;
-          trace = here.trace;
-          line = here.line;
-          refined = record {
-            line = here.is_line;
-            reads = here.reads;
-            named = here.named;
-            represents = here.still.represents;
-            keeps = λ from. (each (record ready { represents = from })).1.still;
-          };
-        },
-      )
-  from_each (Err stopped) ready each = each ready
+-- a call follows its rule if it does so from each representation, with names that keep their numbers
+pub from_each : (M : Type 0) (accounts : Accounts) (f : Flat) (me : ProcName) (call : UnixCall) (old new : KernelModel) (t : ℕ)
+    (result : Result Reply Stopped) → IsReady accounts (state old) f me t
+    → ((ready : Ready M accounts (state old) f me t) → FollowsFrom M accounts f me call old new t ready.represents result)
+    → FollowsRule M accounts f me call old new t result
+from_each M accounts f me call old new t (Ok reply) ready each =
+    let from = ready_from M accounts (state old) f me t ready in
+    let here = (each (from ready.represents)).1 in (
+      (each (from ready.represents)).0,
+      record {
+        entries = here.entries;
+        trace = here.trace;
+        line = here.line;
+        refined = record {
+          line = here.is_line;
+          reads = here.reads;
+          named = here.named;
+          represents = here.still.represents;
+          requests = λ represents.
+              let there = (each (from represents)).1 in
+              subst (AreItsRequests accounts represents.matched me (running f me) call)
+              (append_cancel_left old.trace there.entries here.entries (sym there.trace ∙ here.trace)) there.requests;
+          keeps = λ represents. (each (from represents)).1.still;
+        };
+      },
+    )
+from_each M accounts f me call old new t (Err stopped) ready each = each (ready_from M accounts (state old) f me t ready ready.represents)
 
-module _ (accounts : Accounts) (f : Flat) (me : ProcName) (call : UnixCall)
-    (old new : KernelModel) (t : ℕ) (ready : IsReady accounts (state old) f me t) where
-  -- what is to be shown, with this result
-  abbrev Follows : Result Reply Stopped → Type 0
-  Follows = FollowsFrom accounts f me call old new t ready.represents
+module _ {M : Type 0} (accounts : Accounts) (f : Flat) (me : ProcName) (call : UnixCall)
+    (old new : KernelModel) (t : ℕ) (ready : Ready M accounts (state old) f me t) where
+  -- what is to be shown, with this reply
+  abbrev Follows : Reply → Type 0
+  Follows reply = (reply ≡ reply_to accounts f me call) × IsAnsweredFrom accounts f me call old new t ready.represents
 
   -- the process runs
   runs : running f me ≡ Some ready.caller.process
@@ -198,8 +210,8 @@ module _ (accounts : Accounts) (f : Flat) (me : ProcName) (call : UnixCall)
   -- a chain that was broken off before that reply ends without one
   pub chain_unanswered : (steps : List Step) → Chain old t steps new
       → IsBrokenOff (reply_to accounts f me call) (state old) (entries_of old.line t steps) (state new)
-      → IsUnanswered accounts f me call old new t
-  chain_unanswered steps chain run =
+      → M ⊎ IsSpent (state new) → IsUnanswered M accounts f me call old new t
+  chain_unanswered steps chain run why =
       let part = chain_run t old new steps chain in
       record {
         entries = entries_of old.line t steps;
@@ -207,11 +219,18 @@ module _ (accounts : Accounts) (f : Flat) (me : ProcName) (call : UnixCall)
         line = part.line;
         run = run;
         own = chain_own t old.line steps;
+        because = why;
       }
 
   -- the reads that the call cannot do without, given this reply, are among these raw calls
   abbrev pub ReadsAmong : List Step → Reply → Type 0
   ReadsAmong steps r = HasReadsByCall accounts (state old) f ready.caller.process call r (entries_of old.line t steps)
+
+  -- these raw calls are those of the call, and the reads that it cannot do without, given this reply, are among them
+  abbrev pub AreItsCalls : List Step → Reply → Type 0
+  AreItsCalls steps r =
+      ReadsAmong steps r
+      × AreMade (requests_of accounts ready.represents.matched me ready.caller.process call) (entries_of old.line t steps)
 
   -- what the flat rules answer where they allow the call
   abbrev pub allowed : Reply
@@ -248,10 +267,10 @@ module _ (accounts : Accounts) (f : Flat) (me : ProcName) (call : UnixCall)
       → refused accounts f me ready.caller.process call ≡ refusal → (r : Reply) → reply_or refusal allowed ≡ r
       → Agrees r (entries_of old.line t steps)
       → ((bytes : List ℕ) → r ≡ Data bytes → EndsWithRead (state old) (entries_of old.line t steps) bytes)
-      → ReadsAmong steps r → AreNamed steps → r ≢ Gone
+      → AreItsCalls steps r → AreNamed steps → r ≢ Gone
       → RepresentsStill ready.represents (state new) (flat_or refusal f (changed accounts f me ready.caller.process call))
-      → Follows (Ok r)
-  agreed_refined steps chain refusal is r r_is reply_agrees revealed reads named lives still =
+      → Follows r
+  agreed_refined steps chain refusal is r r_is reply_agrees revealed its named lives still =
       let part = chain_run t old new steps chain in
       let reply = reply_is refusal is ∙ r_is in
       let entries = entries_of old.line t steps in
@@ -273,8 +292,9 @@ module _ (accounts : Accounts) (f : Flat) (me : ProcName) (call : UnixCall)
           is_line = subst (λ (x : Reply). IsLine accounts (state old) old.line me x entries (state new)) (sym reply) is_line;
           reads = subst (λ (o : Option Process). HasReads accounts (state old) f o call (reply_to accounts f me call) entries) (sym runs)
               (reads_due accounts (state old) f ready.caller.process call (reply_to accounts f me call) entries
-              (subst (λ (x : Reply). HasReadsByCall accounts (state old) f ready.caller.process call x entries) (sym reply) reads));
+              (subst (λ (x : Reply). HasReadsByCall accounts (state old) f ready.caller.process call x entries) (sym reply) its.0));
           named = subst (λ (o : Option Process). DenialsAreNamed accounts (state old) f me o call entries) (sym runs) named;
+          requests = subst (λ (o : Option Process). AreItsRequests accounts ready.represents.matched me o call entries) (sym runs) its.1;
           still = subst (RepresentsStill ready.represents (state new)) (sym (after_is refusal is)) still;
         },
       )
@@ -283,13 +303,13 @@ module _ (accounts : Accounts) (f : Flat) (me : ProcName) (call : UnixCall)
   pub granted_refined : (calls : List RawCall) → Chain old t (all_granted calls) new
       → refused accounts f me ready.caller.process call ≡ None
       → IsBacked (state old) (entries_of old.line t (all_granted calls)) allowed
-      → ReadsAmong (all_granted calls) allowed
-      → RepresentsStill ready.represents (state new) (changed accounts f me ready.caller.process call) → Follows (Ok allowed)
-  granted_refined calls chain is backed reads still =
+      → AreItsCalls (all_granted calls) allowed
+      → RepresentsStill ready.represents (state new) (changed accounts f me ready.caller.process call) → Follows allowed
+  granted_refined calls chain is backed its still =
       let entries = entries_of old.line t (all_granted calls) in
       agreed_refined (all_granted calls) chain None is allowed refl
       (granted_agree old.line t allowed (backed_plain (state old) entries allowed backed) calls)
-      (backed_revealed (state old) entries allowed backed) reads (granted_named calls)
+      (backed_revealed (state old) entries allowed backed) its (granted_named calls)
       (backed_runs (state old) entries allowed backed) still
 
   -- Where one raw call was refused, those after it give the thread labels, and the state still represents the flat state, a call that the
@@ -298,12 +318,12 @@ module _ (accounts : Accounts) (f : Flat) (me : ProcName) (call : UnixCall)
       → AllByRecursion (λ (c : RawCall). sets_labels c ≡ true) restoring
       → Chain old t (all_granted calls ++ (last, Some denied) ∷ all_granted restoring) new → (errno : Errno)
       → errno_by_rule denied ≡ Some errno → refused accounts f me ready.caller.process call ≡ Some errno
-      → IsDenialNamed last → ReadsAmong (all_granted calls ++ (last, Some denied) ∷ all_granted restoring) (Refused errno)
-      → RepresentsStill ready.represents (state new) f → Follows (Ok (Refused errno))
-  given_back_refined calls last denied restoring sets chain errno revealed is named reads still =
+      → IsDenialNamed last → AreItsCalls (all_granted calls ++ (last, Some denied) ∷ all_granted restoring) (Refused errno)
+      → RepresentsStill ready.represents (state new) f → Follows (Refused errno)
+  given_back_refined calls last denied restoring sets chain errno revealed is named its still =
       agreed_refined (all_granted calls ++ (last, Some denied) ∷ all_granted restoring) chain (Some errno) is
       (Refused errno) refl (refused_agree old.line t last denied errno revealed restoring sets calls)
-      (λ bytes e. absurd cc) reads (refused_named last denied restoring named calls) (λ e. absurd cc) still
+      (λ bytes e. absurd cc) its (refused_named last denied restoring named calls) (λ e. absurd cc) still
 
   module _ (stays : state new ≡ state old) where
     unchanged : RepresentsStill ready.represents (state new) f
@@ -312,16 +332,16 @@ module _ (accounts : Accounts) (f : Flat) (me : ProcName) (call : UnixCall)
     -- where every raw call was granted and nothing has changed, a call that the flat rules refuse otherwise than by label is answered their errno
     pub unchanged_refined : (calls : List RawCall) → Chain old t (all_granted calls) new → (errno : Errno)
         → is_access errno ≡ false → is_permission errno ≡ false → refused accounts f me ready.caller.process call ≡ Some errno
-        → ReadsAmong (all_granted calls) (Refused errno) → Follows (Ok (Refused errno))
-    unchanged_refined calls chain errno no_access no_permission is reads =
+        → AreItsCalls (all_granted calls) (Refused errno) → Follows (Refused errno)
+    unchanged_refined calls chain errno no_access no_permission is its =
         agreed_refined (all_granted calls) chain (Some errno) is (Refused errno) refl
-        (granted_agree old.line t (Refused errno) (no_access, no_permission) calls) (λ bytes e. absurd cc) reads
+        (granted_agree old.line t (Refused errno) (no_access, no_permission) calls) (λ bytes e. absurd cc) its
         (granted_named calls) (λ e. absurd cc) unchanged
 
     -- where only the last raw call was refused and nothing has changed, a call that the flat rules refuse with its errno refines its rule
     pub refused_refined : (calls : List RawCall) (last : RawCall) (denied : Denied) → Chain old t (all_granted calls ++ (last, Some denied) ∷ []) new
         → (errno : Errno) → errno_by_rule denied ≡ Some errno → refused accounts f me ready.caller.process call ≡ Some errno
-        → IsDenialNamed last → ReadsAmong (all_granted calls ++ (last, Some denied) ∷ []) (Refused errno)
-        → Follows (Ok (Refused errno))
-    refused_refined calls last denied chain errno revealed is named reads =
-        given_back_refined calls last denied [] tt chain errno revealed is named reads unchanged
+        → IsDenialNamed last → AreItsCalls (all_granted calls ++ (last, Some denied) ∷ []) (Refused errno)
+        → Follows (Refused errno)
+    refused_refined calls last denied chain errno revealed is named its =
+        given_back_refined calls last denied [] tt chain errno revealed is named its unchanged

@@ -1,6 +1,7 @@
 -- Room for a child: the name has fewer than 8 numbers, the process's own segment is read, and fewer than 64 children were born; or the call is
 -- refused.
 use Rattle.std.proofs.Common.{◌≡◌, ℕ, Bool, true, false, List, [], ◌∷◌, ◌++◌, length, Option, None, Some, Result, refl, sym, ap, ◌∙◌, subst}
+use Rattle.std.proofs.Common.{if◌then◌else◌}
 use Rattle.std.specs.Prelude.{nat_lt}
 use Rattle.std.proofs.lemmas.Option.{same_Some}
 use Rattle.histar_base.specs.Refusals.{◌orelse◌, unless}
@@ -46,7 +47,9 @@ use Rattle.histar_refinement.proofs.ClassTests.{sees_process}
 use Rattle.histar_refinement.proofs.MakingRanges.{all_known}
 use Rattle.histar_refinement.proofs.RawChecks.{read_check}
 use Rattle.histar_refinement.proofs.StatusFound.{thread_back}
-use Rattle.histar_sim.specs.Simulation.{IsReady}
+use Rattle.histar_sim.specs.RawCalls.{Request, home_of, plain, reads_status, requests_of, with_room}
+use Rattle.histar_sim.proofs.Requests.{AreLeft, all_made}
+use Rattle.histar_sim.proofs.Ready.{Ready}
 use Rattle.histar_sim.proofs.ReadsByCall.{HasReadsByCall}
 use Rattle.histar_sim.proofs.Chains.{Step, all_granted, entries_of, Chain}
 use Rattle.histar_sim.proofs.Steps.{Goal, granted_step, refused_at_once}
@@ -58,8 +61,8 @@ pub record NeedsChild (accounts : Accounts) (f : Flat) (me : ProcName) (p : Proc
   pub refuses : refused accounts f me p call ≡ (no_child me p orelse behind)
   pub reads : (steps : List Step) (line t : ℕ) (s : State) → HasReadsByCall accounts s f p call (Refused EAGAIN) (entries_of line t steps)
 
-module _ (accounts : Accounts) (me : ProcName) (caller : Caller) (old new : KernelModel) (f : Flat) (result : Result Reply Stopped)
-    (ready : IsReady accounts (state old) f me caller.thread)
+module _ {M : Type 0} (accounts : Accounts) (me : ProcName) (caller : Caller) (old new : KernelModel) (f : Flat) (result : Result Reply Stopped)
+    (ready : Ready M accounts (state old) f me caller.thread)
     (found : caller_at (state old) (roots_of (length accounts.users)).home me ≡ Some caller) where
   abbrev t : ℕ
   t = caller.thread
@@ -118,6 +121,10 @@ module _ (accounts : Accounts) (me : ProcName) (caller : Caller) (old new : Kern
       ap (λ (q : ℕ). status_in (bytes_in ((state old).objects q))) (sym (ap or_zero at_status))
       ∙ status_held accounts (state old) f l me p ready.caller.agrees
 
+  -- where the process is found by the names of its objects
+  pub home_is : home_of accounts ready.represents.matched me ≡ caller.home
+  home_is = λ i. record { container = or_zero (at_home i); segment = or_zero (at_status i) }
+
   read_said : check (state old) t reads ≡ None
   read_said =
       read_check (state old) t own_of own_clearance_of around.thread caller.home.container home_label around.home.0
@@ -127,9 +134,9 @@ module _ (accounts : Accounts) (me : ProcName) (caller : Caller) (old new : Kern
   -- the thread asks for its own labels
   pub own_label_step : (call : UnixCall) (calls : List RawCall) (mid : KernelModel)
       → Chain old t (all_granted calls) mid → state mid ≡ state old → (rest : Levels × Levels → Program)
-      → Runs (ask OwnLabel rest) mid new t result
+      → Runs M (ask OwnLabel rest) mid new t result
       → ((after : KernelModel) → Chain old t (all_granted (calls ++ OwnLabel ∷ [])) after → state after ≡ state old
-      → Runs (rest (own_of, own_clearance_of)) after new t result
+      → Runs M (rest (own_of, own_clearance_of)) after new t result
       → Goal accounts f me call old new t ready result)
       → Goal accounts f me call old new t ready result
   own_label_step call calls mid chain stays rest runs go_on =
@@ -140,9 +147,12 @@ module _ (accounts : Accounts) (me : ProcName) (caller : Caller) (old new : Kern
       let clearance = reveals.1 ∙ ap (λ (s : State). clearance_there (s.objects t)) stays ∙ ap clearance_there around.thread in
       let revealed_is : revealed ≡ (own_of, own_clearance_of) =
       λ i. (same_Some revealed.0 own_of label i, same_Some revealed.1 own_clearance_of clearance i) in
-      go_on after longer (called.state ∙ stays) (subst (λ (x : Levels × Levels). Runs (rest x) after new t result) revealed_is goes))
+      go_on after longer (called.state ∙ stays) (subst (λ (x : Levels × Levels). Runs M (rest x) after new t result) revealed_is goes))
 
-  module _ (call : UnixCall) (behind : Option Errno) (needs : NeedsChild accounts f me p call behind) (rest : ProcessStatus → Program) where
+  module _ (call : UnixCall) (behind : Option Errno) (needs : NeedsChild accounts f me p call behind) (after : List Request)
+      (asks : requests_of accounts ready.represents.matched me ready.caller.process call
+      ≡ with_room accounts ready.represents.matched me ready.caller.process after)
+      (rest : ProcessStatus → Program) where
     abbrev Refined : Type 0
     Refined = Goal accounts f me call old new t ready result
 
@@ -151,7 +161,8 @@ module _ (accounts : Accounts) (me : ProcName) (caller : Caller) (old new : Kern
     GoesOn =
         nat_lt (length me) most_numbers ≡ true → nat_lt p.born most_children ≡ true → (mid : KernelModel)
         → Chain old t (all_granted (reads ∷ [])) mid → state mid ≡ state old
-        → Runs (rest status_of) mid new t result → Refined
+        → AreLeft (requests_of accounts ready.represents.matched me ready.caller.process call) (reads ∷ []) after
+        → Runs M (rest status_of) mid new t result → Refined
 
     -- what the flat rules refuse
     refused_is : (born long : Bool) → nat_lt p.born most_children ≡ born → nat_lt (length me) most_numbers ≡ long
@@ -166,38 +177,48 @@ module _ (accounts : Accounts) (me : ProcName) (caller : Caller) (old new : Kern
     abbrev with_status : ProcessStatus → Program
     with_status revealed = given (must_have_room (nat_lt revealed.born most_children)) (λ _. rest revealed)
 
+    -- what is left once the process's own segment is read
+    left_read : (b : Bool) → nat_lt p.born most_children ≡ b → nat_lt (length me) most_numbers ≡ true
+        → AreLeft (requests_of accounts ready.represents.matched me ready.caller.process call) (reads ∷ []) (if b then after else [])
+    left_read b is long =
+        asks ∙ λ i. if long i then plain (Read (home_is i).container (home_is i).segment ∷ []) ++ (if is i then after else []) else []
+
     -- the process has 64 children, or there is room
     by_born : (b : Bool) → nat_lt p.born most_children ≡ b → nat_lt (length me) most_numbers ≡ true
         → (mid : KernelModel) → Chain old t (all_granted (reads ∷ [])) mid → state mid ≡ state old
-        → Runs (given (must_have_room b) (λ _. rest status_of)) mid new t result → GoesOn → Refined
+        → Runs M (given (must_have_room b) (λ _. rest status_of)) mid new t result → GoesOn → Refined
     by_born false is long mid chain stays runs go_on =
         refused_at_once accounts f me call old new t ready result (reads ∷ []) mid chain stays
         EAGAIN (refused_is false true is long) refl refl
-        (needs.reads (all_granted (reads ∷ [])) old.line t (state old)) runs
-    by_born true is long mid chain stays runs go_on = go_on long is mid chain stays runs
+        (needs.reads (all_granted (reads ∷ [])) old.line t (state old), all_made _ old.line t (reads ∷ []) (left_read false is long)) runs
+    by_born true is long mid chain stays runs go_on = go_on long is mid chain stays (left_read true is long) runs
 
     -- the process's own segment is read
     abbrev with_bytes : List ℕ → Program
     with_bytes bytes = if_there ESRCH with_status (status_in bytes)
 
-    read : nat_lt (length me) most_numbers ≡ true → Runs (ask reads with_bytes) old new t result → GoesOn → Refined
+    read : nat_lt (length me) most_numbers ≡ true → Runs M (ask reads with_bytes) old new t result → GoesOn → Refined
     read long runs go_on =
         granted_step accounts f me call old new t ready result [] old (same_kernel old) reads with_bytes read_said runs
         (λ later bytes called right longer goes.
         by_born (nat_lt p.born most_children) refl long later longer called.state
-        (subst (λ (o : Option ProcessStatus). Runs (if_there ESRCH with_status o) later new t result)
+        (subst (λ (o : Option ProcessStatus). Runs M (if_there ESRCH with_status o) later new t result)
         (ap status_in right ∙ status_revealed) goes) go_on)
 
     -- the name has 8 numbers, or there is room
     by_length : (b : Bool) → nat_lt (length me) most_numbers ≡ b
-        → Runs (given (must_have_room b) (λ _. read_status caller.home with_status)) old new t result → GoesOn → Refined
+        → Runs M (given (must_have_room b) (λ _. read_status caller.home with_status)) old new t result → GoesOn → Refined
     unfolding read_status
     by_length false is runs go_on =
         refused_at_once accounts f me call old new t ready result [] old (same_kernel old) refl EAGAIN
-        (refused_is (nat_lt p.born most_children) false refl is ∙ either_again (nat_lt p.born most_children)) refl refl
-        (needs.reads [] old.line t (state old)) runs
+        (refused_is (nat_lt p.born most_children) false refl is ∙ either_again (nat_lt p.born most_children)) refl refl (
+          needs.reads [] old.line t (state old),
+          all_made _ old.line t [] (asks ∙ ap (λ (b : Bool).
+              if b then plain (reads_status accounts ready.represents.matched me ∷ []) ++ (if nat_lt p.born most_children then after else [])
+              else []) is),
+        ) runs
     by_length true is runs go_on = read is runs go_on
 
     -- There is room for a child, or the call is refused.
-    pub child_room_step : Runs (room_for_child me caller.home rest) old new t result → GoesOn → Refined
+    pub child_room_step : Runs M (room_for_child me caller.home rest) old new t result → GoesOn → Refined
     child_room_step runs go_on = by_length (nat_lt (length me) most_numbers) refl runs go_on

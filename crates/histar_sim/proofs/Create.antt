@@ -1,5 +1,5 @@
 -- The program of `create` refines its rule.
-use Rattle.std.proofs.Common.{ℕ, [], ◌∷◌, ◌++◌, Result, arith, refl, ap, ◌∙◌, subst, length}
+use Rattle.std.proofs.Common.{ℕ, List, [], ◌∷◌, ◌++◌, Result, arith, refl, ap, ◌∙◌, subst, length}
 use Rattle.std.specs.Prelude.{IsTrue, is_some}
 use Rattle.std.specs.FinMap as map
 use Rattle.std.proofs.lemmas.Bool.{ltb-true}
@@ -36,11 +36,12 @@ use Rattle.histar_refinement.specs.Accounts.{AreAccounts}
 use Rattle.histar_refinement.specs.Guards.{guard_label}
 use Rattle.histar_refinement.specs.Addresses.{address_of}
 use Rattle.histar_refinement.proofs.Creating.{matched_created, names_created}
-use Rattle.histar_sim.specs.Simulation.{IsReady}
+use Rattle.histar_sim.specs.RawCalls.{writes_entries}
+use Rattle.histar_sim.proofs.Ready.{Ready}
 use Rattle.histar_sim.specs.Laws.{CreateRefines}
 use Rattle.histar_sim.proofs.CallErrors.{from_each}
 use Rattle.histar_sim.proofs.FoundObjects.{container, listing, directory_agrees, directory_class, container_numbered, listing_numbered, below}
-use Rattle.histar_sim.proofs.FoundObjects.{listing_still, segment_made}
+use Rattle.histar_sim.proofs.FoundObjects.{entries, listing_still, segment_made}
 use Rattle.histar_sim.proofs.FoundRoom.{slash_agrees, the_room}
 use Rattle.histar_sim.proofs.MadeEntries.{MakesEntry, asked, among_asked, GoesOn, entry_step, entry_written}
 use Rattle.histar_sim.proofs.NewEntries.{last_name}
@@ -69,8 +70,8 @@ make container x = raw.MakeSegment container x []
 abbrev within : Room → Levels → ℕ → Program
 within room x file = write_entries room.place (map.insert room.entries room.name (targets.File file)) (λ _. Answers Done)
 
-module _ (accounts : Accounts) (ok : AreAccounts accounts) (old new : KernelModel) (f : Flat) (me : ProcName) (t : ℕ)
-    (ready : IsReady accounts (state old) f me t) (m : Name) (named : IsTrue (is_name m)) (d : Path) (mode : Mode)
+module _ {M : Type 0} (accounts : Accounts) (ok : AreAccounts accounts) (old new : KernelModel) (f : Flat) (me : ProcName) (t : ℕ)
+    (ready : Ready M accounts (state old) f me t) (m : Name) (named : IsTrue (is_name m)) (d : Path) (mode : Mode)
     (result : Result Reply Stopped) where
   abbrev call : UnixCall
   call = calls.Create (m ∷ d) mode
@@ -78,9 +79,14 @@ module _ (accounts : Accounts) (ok : AreAccounts accounts) (old new : KernelMode
   makes : MakesEntry accounts f me ready.caller.process (m ∷ d) mode (File []) call
   makes = create_makes accounts f me ready.caller.process (m ∷ d) mode
 
+  -- then the directory is written with the file
+  abbrev more : Levels → List RawCall
+  more x = writes_entries accounts ready.represents.matched d (map.insert (entries accounts ok (state old) f me t ready d) m
+      (targets.File (state old).next_object)) ∷ []
+
   -- once the file is made the directory is written
-  goes_on : GoesOn accounts ok old new f me t ready m d mode (File []) call result makes make within
-  goes_on open_so_far absent room made is_may has mid stays linked number called number_is chain rest =
+  goes_on : GoesOn accounts ok old new f me t ready m d mode (File []) call result makes make within more refl
+  goes_on open_so_far absent room made is_may has mid stays linked number called number_is chain left rest =
       let above = container accounts ok (state old) f me t ready d in
       let file : Object Levels = record { label = guard_label ready.represents.matched.category made.guard; kind = Segment [] } in
       let at_container = container_numbered accounts ok (state old) f me t ready d open_so_far in
@@ -105,21 +111,22 @@ module _ (accounts : Accounts) (ok : AreAccounts accounts) (old new : KernelMode
       (targets.File (state old).next_object) (omega (arith, low), omega (arith, next_below))
       (with_object (state old) above file) (listing_still accounts ok (state old) f me t ready d open_so_far file)
       (asked accounts ok (state old) f me t ready d ++ making ∷ []) (among_asked accounts ok (state old) f me t ready d old.line (making ∷ []))
-      linked (called.state ∙ ap (λ (s : State). with_object s above file) stays) chain later.0 names
-      (subst (λ (q : ℕ). Runs (within (the_room accounts ok (state old) f me t ready d m)
+      left linked (called.state ∙ ap (λ (s : State). with_object s above file) stays) chain later.0 names
+      (subst (λ (q : ℕ). Runs M (within (the_room accounts ok (state old) f me t ready d m)
       (guard_label ready.represents.matched.category made.guard) q) linked new t result)
       (number_is ∙ ap (λ (s : State). s.next_object) stays) rest)
 
 -- the program of `create` refines its rule
-pub create_refines : CreateRefines
+pub create_refines : {M : Type 0} → CreateRefines M
 unfolding create_program
-create_refines accounts ok [] mode right me old new f t result ready run =
-    from_each accounts f me (calls.Create [] mode) old new t result ready (λ ready.
+create_refines {M} accounts ok [] mode right me old new f t result ready run =
+    from_each M accounts f me (calls.Create [] mode) old new t result ready (λ ready.
     slash_agrees accounts old new f me t ready (calls.Create [] mode) result _
-    (create_makes accounts f me ready.caller.process [] mode).needs [] old refl (same_kernel old) _ run)
-create_refines accounts ok (m ∷ d) mode right me old new f t result ready run =
-    from_each accounts f me (calls.Create (m ∷ d) mode) old new t result ready (λ ready.
+    (create_makes accounts f me ready.caller.process [] mode).needs [] old refl (same_kernel old) refl _ run)
+create_refines {M} accounts ok (m ∷ d) mode right me old new f t result ready run =
+    from_each M accounts f me (calls.Create (m ∷ d) mode) old new t result ready (λ ready.
     entry_step accounts ok old new f me t ready m d mode (File []) (calls.Create (m ∷ d) mode) result
     (create_makes accounts f me ready.caller.process (m ∷ d) mode) make within
+    (more accounts ok old new f me t ready m (last_name m d right) d mode result) refl
     (λ open_so_far. segment_made accounts ok (state old) f me t ready d open_so_far) run
     (goes_on accounts ok old new f me t ready m (last_name m d right) d mode result))

@@ -1,5 +1,6 @@
 -- A call that removes or renames an entry: the entry is found, or the call is refused as the flat rules refuse it.
-use Rattle.std.proofs.Common.{◌≡◌, ℕ, true, false, ◌&&◌, List, ◌∷◌, Option, None, Some, Result, refl, sym, ap, ◌∙◌, subst, length}
+use Rattle.std.proofs.Common.{◌≡◌, ℕ, inl, true, false, ◌&&◌, List, ◌∷◌, Option, None, Some, Result}
+use Rattle.std.proofs.Common.{refl, sym, ap, ◌∙◌, subst, length}
 use Rattle.std.specs.Prelude.{not, is_some}
 use Rattle.std.specs.FinMap as map
 use Rattle.histar_base.specs.Refusals.{◌orelse◌, unless}
@@ -38,10 +39,12 @@ use Rattle.histar_refinement.specs.Lines.{IsObjectAt}
 use Rattle.histar_refinement.specs.Processes.{or_zero}
 use Rattle.histar_refinement.proofs.ListedFiles.{numbered_path}
 use Rattle.histar_refinement.proofs.Agreeing.{some_of}
-use Rattle.histar_sim.specs.Simulation.{IsReady}
+use Rattle.histar_sim.proofs.Ready.{Ready}
 use Rattle.histar_sim.specs.Reads.{AreAmong}
 use Rattle.histar_sim.proofs.Chains.{Step, all_granted, entries_of, Chain}
-use Rattle.histar_sim.proofs.CallErrors.{ReadsAmong}
+use Rattle.histar_sim.specs.RawCalls.{Request, requests_of, unless_refused}
+use Rattle.histar_sim.proofs.Requests.{AreLeft, EndWith, made_to_end}
+use Rattle.histar_sim.proofs.CallErrors.{AreItsCalls, ReadsAmong}
 use Rattle.histar_sim.proofs.Steps.{Goal, refused_at_once}
 use Rattle.histar_sim.proofs.Walks.{numbers, place_at, walk_reads, found, holds, nothing_there, file_there, directory_there, among_granted_all}
 use Rattle.histar_sim.proofs.Walks.{way_clear, Explains, walk_step}
@@ -53,8 +56,8 @@ pub entry_explained : (accounts : Accounts) (f : Flat) (me : ProcName) (p : Proc
 entry_explained accounts f me p m d call named explains reason is =
     explains ∙ ap (λ (o : Option Reason). (o orelse unless (is_there f (m ∷ d)) (IsMissing (m ∷ d))) orelse named) is
 
-module _ (accounts : Accounts) (ok : AreAccounts accounts) (s : State) (f : Flat) (me : ProcName) (t : ℕ)
-    (ready : IsReady accounts s f me t) (m : Name) (d : Path) where
+module _ {M : Type 0} (accounts : Accounts) (ok : AreAccounts accounts) (s : State) (f : Flat) (me : ProcName) (t : ℕ)
+    (ready : Ready M accounts s f me t) (m : Name) (d : Path) where
   -- where the way is open and something is at the path, the need of an entry has no reason
   pub entry_clear : into accounts f ready.caller.process d ≡ None → (node : Node) → get f.files (m ∷ d) ≡ Some node
       → why_need accounts f me ready.caller.process (m ∷ d) entry_needed ≡ None
@@ -116,8 +119,8 @@ module _ (accounts : Accounts) (ok : AreAccounts accounts) (s : State) (f : Flat
       sym (object_led_to content),
     )
 
-module _ (accounts : Accounts) (ok : AreAccounts accounts) (old new : KernelModel) (f : Flat) (me : ProcName) (t : ℕ)
-    (ready : IsReady accounts (state old) f me t) (m : Name) (d : Path) (call : UnixCall)
+module _ {M : Type 0} (accounts : Accounts) (ok : AreAccounts accounts) (old new : KernelModel) (f : Flat) (me : ProcName) (t : ℕ)
+    (ready : Ready M accounts (state old) f me t) (m : Name) (d : Path) (call : UnixCall)
     (result : Result Reply Stopped) (later : Option Errno)
     (split : refused accounts f me ready.caller.process call ≡ (no_entry accounts f ready.caller.process (m ∷ d) orelse later))
     (has_reads : (not (is_some (into accounts f ready.caller.process d)) && is_dir_at f (m ∷ d)) ≡ false → (steps : List Step) (r : Reply)
@@ -142,7 +145,19 @@ module _ (accounts : Accounts) (ok : AreAccounts accounts) (old new : KernelMode
       → refused accounts f me ready.caller.process call ≡ later
   reached open_so_far node at = refused_is None (Some node) open_so_far at
 
-  module _ (rest : FoundEntry → Program) where
+  module _ (after : List Request) (left : (not (is_some (into accounts f ready.caller.process d)) && is_dir_at f (m ∷ d)) ≡ false
+      → AreLeft (requests_of accounts ready.represents.matched me ready.caller.process call)
+      (walk_reads accounts ok (state old) f me t ready d)
+      (unless_refused (refused accounts f me ready.caller.process call) after))
+      (rest : FoundEntry → Program) where
+    -- the raw calls of a call that is refused by what the walk has read, or by a denial of a read
+    ended : (errno : Errno) (steps : List Step) → refused accounts f me ready.caller.process call ≡ Some errno
+        → (not (is_some (into accounts f ready.caller.process d)) && is_dir_at f (m ∷ d)) ≡ false
+        → AreAmong walk (entries_of old.line t steps) → EndWith errno walk steps
+        → AreItsCalls accounts f me call old new t ready steps (Refused errno)
+    ended errno steps is none among end =
+        (has_reads none steps (Refused errno) among, made_to_end _ old.line t errno walk steps _ after is (left none) end)
+
     -- once the entry was looked up
     abbrev at_entry : Option Target → Program
     at_entry target =
@@ -159,22 +174,21 @@ module _ (accounts : Accounts) (ok : AreAccounts accounts) (old new : KernelMode
         into accounts f ready.caller.process d ≡ None → (class : Class) (content : Content)
         → get f.files (m ∷ d) ≡ Some (record { class = class; content = content })
         → (mid : KernelModel) → state mid ≡ state old → Chain old t (all_granted walk) mid
-        → Runs (rest (entry_of accounts ok (state old) f me t ready m d content)) mid new t result → Refined
+        → Runs M (rest (entry_of accounts ok (state old) f me t ready m d content)) mid new t result → Refined
 
     module _ (go_on : GoesOn) (open_so_far : into accounts f ready.caller.process d ≡ None) (mid : KernelModel)
         (stays : state mid ≡ state old) (chain : Chain old t (all_granted walk) mid)
-        (on : Runs (at_entry (map.get (directory_of f.files ready.represents.matched.naming.number d) m)) mid new t result) where
+        (on : Runs M (at_entry (map.get (directory_of f.files ready.represents.matched.naming.number d) m)) mid new t result) where
       leads : (target : Option Target)
           → map.get (directory_of f.files ready.represents.matched.naming.number d) m ≡ target
-          → Runs (at_entry target) mid new t result
-      leads target is = subst (λ (target : Option Target). Runs (at_entry target) mid new t result) is on
+          → Runs M (at_entry target) mid new t result
+      leads target is = subst (λ (target : Option Target). Runs M (at_entry target) mid new t result) is on
 
       by_agrees : (o : Option Node) → get f.files (m ∷ d) ≡ o → Refined
       by_agrees None is =
           refused_at_once accounts f me call old new t ready result walk mid chain stays ENOENT
-          (refused_is None None open_so_far is) refl refl (has_reads
-          (λ i. not (is_some (open_so_far i)) && is_some_and (is i) is_dir) (all_granted walk) (Refused ENOENT)
-          (among_granted_all old.line t walk))
+          (refused_is None None open_so_far is) refl refl (ended ENOENT (all_granted walk) (refused_is None None open_so_far is)
+          (λ i. not (is_some (open_so_far i)) && is_some_and (is i) is_dir) (among_granted_all old.line t walk) (inl (refl, refl)))
           (leads None (nothing_there accounts ok (state old) f me t ready m d is))
       by_agrees (Some node) is =
           go_on open_so_far node.class node.content is mid stays chain (leads
@@ -183,17 +197,18 @@ module _ (accounts : Accounts) (ok : AreAccounts accounts) (old new : KernelMode
 
     -- the entry is found, or the call is refused
     pub entry_step : Explains accounts ok old new f me t ready call result d
-        → Runs (find_entry (roots_of (length accounts.users)) (m ∷ d) rest) old new t result → GoesOn → Refined
+        → Runs M (find_entry (roots_of (length accounts.users)) (m ∷ d) rest) old new t result → GoesOn → Refined
     unfolding find_entry
     entry_step explains runs go_on =
         walk_step accounts ok old new f me t ready call result d
         (λ directory. given (entry_at (map.get directory.entries m)) (λ target.
         rest (record { place = directory.place; entries = directory.entries; name = m; target = target })))
         runs (
-          λ errno is steps among. (
-            refused_is (Some errno) (get f.files (m ∷ d)) is refl,
-            has_reads (ap (λ (o : Option Errno). not (is_some o) && is_dir_at f (m ∷ d)) is) steps (Refused errno) among,
-          ),
+          λ errno is steps among end.
+              let refuses = refused_is (Some errno) (get f.files (m ∷ d)) is refl in (
+                refuses,
+                ended errno steps refuses (ap (λ (o : Option Errno). not (is_some o) && is_dir_at f (m ∷ d)) is) among end,
+              ),
           explains,
         )
         (λ open_so_far mid stays chain on. by_agrees go_on open_so_far mid stays chain on (get f.files (m ∷ d)) refl)

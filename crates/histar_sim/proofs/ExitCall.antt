@@ -44,7 +44,8 @@ use Rattle.histar_refinement.proofs.MakingRanges.{all_known}
 use Rattle.histar_refinement.proofs.RawChecks.{object}
 use Rattle.histar_layout.proofs.Declared.{equal_tested}
 use Rattle.histar_refinement.proofs.StatusFound.{numbered_runner, zero_there}
-use Rattle.histar_sim.specs.Simulation.{IsReady}
+use Rattle.histar_sim.proofs.Requests.{all_made}
+use Rattle.histar_sim.proofs.Ready.{Ready}
 use Rattle.histar_sim.proofs.CallErrors.{from_each}
 use Rattle.histar_sim.proofs.Chains.{all_granted, Chain}
 use Rattle.histar_sim.proofs.Steps.{Goal, granted_step, answered_step}
@@ -54,8 +55,8 @@ use Rattle.histar_sim.proofs.OwnSegment.{status_few, listed_few, segment_apart, 
 use Rattle.histar_sim.proofs.Searches.{runs_as, status_of, read_of, status_step}
 use Rattle.histar_refinement.proofs.Agreement.{agreement}
 
-module _ (accounts : Accounts) (ok : AreAccounts accounts) (number : ℕ) (small : number ≤ greatest_status)
-    (old new : KernelModel) (f : Flat) (me : ProcName) (t : ℕ) (ready : IsReady accounts (state old) f me t)
+module _ {M : Type 0} (accounts : Accounts) (ok : AreAccounts accounts) (number : ℕ) (small : number ≤ greatest_status)
+    (old new : KernelModel) (f : Flat) (me : ProcName) (t : ℕ) (ready : Ready M accounts (state old) f me t)
     (result : Result Reply Stopped) where
   abbrev call : UnixCall
   call = calls.Exit number
@@ -180,22 +181,23 @@ module _ (accounts : Accounts) (ok : AreAccounts accounts) (number : ℕ) (small
   module _ (mid : KernelModel) (stays : state mid ≡ state old) (chain : Chain old t (all_granted (read ∷ [])) mid) where
     -- the internal container is unlinked, and the call is answered
     unlinked : (later : KernelModel) → state later ≡ exited → Chain old t (all_granted (read ∷ writing ∷ [])) later
-        → Runs call_error later new t result → Refined
+        → Runs M call_error later new t result → Refined
     unlinked later is so_far on =
         granted_step accounts f me call old new t ready result (read ∷ writing ∷ []) later so_far
         unlinking (λ _. Answers Done) (ap (λ (s : State). check s t unlinking) is ∙ unlink_said) on
         (λ end done cut right whole last.
-        answered_step accounts f me call old new t ready result (read ∷ writing ∷ unlinking ∷ []) end whole Done refl refl tt tt
+        answered_step accounts f me call old new t ready result (read ∷ writing ∷ unlinking ∷ []) end whole Done refl refl tt
+        (tt, all_made _ old.line t (read ∷ writing ∷ unlinking ∷ []) refl)
         (matched_after (state end) (subst (λ (s : State). CutsOff s C o (state end)) is cut.state)) last)
 
     -- the segment is written
-    wrote : Runs (ask writing (λ _. call_error)) mid new t result → Refined
+    wrote : Runs M (ask writing (λ _. call_error)) mid new t result → Refined
     wrote on =
         granted_step accounts f me call old new t ready result (read ∷ []) mid chain writing
         (λ _. call_error) (ap (λ (s : State). check s t writing) stays ∙ write_said) on
         (λ later done called right so_far rest. unlinked later (called.state ∙ ap (λ (s : State). with_segment_bytes s S bytes) stays) so_far rest)
 
-  exit_is_refined : Runs (exit_program (where_is accounts (state old) f l me) number) old new t result → Refined
+  exit_is_refined : Runs M (exit_program (where_is accounts (state old) f l me) number) old new t result → Refined
   unfolding exit_program
   exit_is_refined run =
       status_step accounts ok old new f me t ready call result me p here [] old refl (same_kernel old)
@@ -206,11 +208,11 @@ module _ (accounts : Accounts) (ok : AreAccounts accounts) (number : ℕ) (small
       (λ seen mid stays chain on. wrote mid stays chain on)
 
 -- the program of `exit` refines its rule
-pub exit_refines : ExitRefines
-exit_refines accounts ok number small me caller old new f result ready found run =
-    from_each accounts f me (calls.Exit number) old new caller.thread result ready (λ ready.
+pub exit_refines : {M : Type 0} → ExitRefines M
+exit_refines {M} accounts ok number small me caller old new f result ready found run =
+    from_each M accounts f me (calls.Exit number) old new caller.thread result ready (λ ready.
     let is = (caller_found accounts (state old) f ready.represents.matched me caller found).1 in
     let home_is : where_is accounts (state old) f ready.represents.matched me ≡ caller.home =
     λ i. record { container = or_zero (is.home i); segment = or_zero (is.segment i) } in
     exit_is_refined accounts ok number small old new f me caller.thread ready result
-    (subst (λ (home : Home). Runs (exit_program home number) old new caller.thread result) (sym home_is) run))
+    (subst (λ (home : Home). Runs M (exit_program home number) old new caller.thread result) (sym home_is) run))

@@ -46,48 +46,62 @@ use Rattle.histar_refinement.specs.Addresses.{address_of}
 use Rattle.histar_refinement.specs.Directories.{directory_of}
 use Rattle.histar_refinement.specs.Processes.{or_zero}
 use Rattle.histar_refinement.specs.KeptNames.{RepresentsStill}
+use Rattle.histar_refinement.specs.Represents.{ObjectsMatch}
 use Rattle.histar_refinement.proofs.Writing.{still_overwritten}
-use Rattle.histar_sim.specs.Simulation.{errno_by_rule, IsReady}
+use Rattle.histar_sim.specs.Simulation.{errno_by_rule}
+use Rattle.histar_sim.proofs.Ready.{Ready}
 use Rattle.histar_sim.specs.Reads.{AreAmong}
 use Rattle.histar_sim.specs.Named.{IsFileAt}
 use Rattle.histar_sim.proofs.FirstReasons.{unwritten_at, written_at, named_by}
 use Rattle.histar_sim.proofs.ReadsByCall.{HasWalk, HasReadsByCall}
 use Rattle.histar_sim.proofs.Chains.{Step, all_granted, entries_of, Chain}
-use Rattle.histar_sim.proofs.CallErrors.{IsDenialNamed, ReadsAmong, IsBacked}
+use Rattle.histar_sim.specs.RawCalls.{in_directory, is_of_denial, number_at, plain, requests_of, unless_refused}
+use Rattle.histar_sim.proofs.Requests.{AreLeft, EndWith, request, left_allowed, left_by_denial, left_then, of_denial}
+use Rattle.histar_sim.proofs.Requests.{all_made, made_to_denial, made_to_end}
+use Rattle.histar_sim.proofs.CallErrors.{IsDenialNamed, AreItsCalls, ReadsAmong, IsBacked}
 use Rattle.histar_sim.proofs.Steps.{Goal, refused_at_once, granted_step, refused_step, answered_step}
 use Rattle.histar_sim.proofs.Walks.{numbers, place_at, walk_reads, nothing_there, file_there, directory_there, among_granted_all, has_walk, look_step}
 use Rattle.histar_sim.proofs.Walks.{among_then, among_also, way_clear}
 use Rattle.histar_sim.proofs.FoundObjects.{container, segment, file_numbered, file_led_to, holds_bytes, writes_is, held_there, write_said}
 
 -- What the flat rules say of a call on a file: what they refuse once it is reached, with its reason, and that the call cannot do without the
--- reads of the walk.
+-- reads of the walk; and what it asks for after these of the file's container and segment.
 pub record ReachesFile (accounts : Accounts) (f : Flat) (me : ProcName) (p : Process) (q : Path) (call : UnixCall)
-    (later : Option Errno) : Type 0 where
+    (later : Option Errno) (last : ℕ → ℕ → RawCall) : Type 0 where
   pub refuses : refused accounts f me p call ≡ (no_file accounts f p q orelse later)
   pub named : Option Reason
   pub explains : why accounts f me p call ≡ (why_need accounts f me p q file_needed orelse named)
   pub reads : (s : State) (reply : Reply) (entries : List TraceEntry) → HasWalk accounts s f p q entries
       → HasReadsByCall accounts s f p call reply entries
+  pub asks : (s : State) (l : ObjectsMatch accounts s f)
+      → requests_of accounts l me p call
+      ≡ in_directory accounts l me p (refused accounts f me p call) q
+      (λ d name. plain (last (number_at accounts l (address_of d)) (number_at accounts l (address_of (name ∷ d))) ∷ []))
 
 -- a call on `/`, which is no file
-pub slash_is_no_file : (accounts : Accounts) (old new : KernelModel) (f : Flat) (me : ProcName) (t : ℕ)
-    (ready : IsReady accounts (state old) f me t) (call : UnixCall) (result : Result Reply Stopped)
-    (later : Option Errno)
-    → ReachesFile accounts f me ready.caller.process [] call later → (rest : FoundFile → Program)
-    → Runs (find_file (roots_of (length accounts.users)) [] rest) old new t result
+pub slash_is_no_file : {M : Type 0} → (accounts : Accounts) (old new : KernelModel) (f : Flat) (me : ProcName) (t : ℕ)
+    (ready : Ready M accounts (state old) f me t) (call : UnixCall) (result : Result Reply Stopped)
+    (later : Option Errno) (last : ℕ → ℕ → RawCall)
+    → ReachesFile accounts f me ready.caller.process [] call later last → (rest : FoundFile → Program)
+    → Runs M (find_file (roots_of (length accounts.users)) [] rest) old new t result
     → Goal accounts f me call old new t ready result
 unfolding find_file
-slash_is_no_file accounts old new f me t ready call result later file rest run =
+slash_is_no_file accounts old new f me t ready call result later last file rest run =
     refused_at_once accounts f me call old new t ready result [] old (same_kernel old) refl
-    EISDIR file.refuses refl refl (file.reads (state old) (Refused EISDIR) [] tt) run
+    EISDIR file.refuses refl refl (
+      file.reads (state old) (Refused EISDIR) [] tt,
+      all_made _ old.line t [] (file.asks (state old) ready.represents.matched),
+    ) run
 
 -- what the flat rules refuse of a file that is written
 abbrev pub refusal : Bool → Bool → Option Errno
 refusal may fits = unless may EACCES orelse unless fits EFBIG
 
--- What the flat rules say of a call that leaves these bytes in a file.
-pub record WritesFile (accounts : Accounts) (f : Flat) (me : ProcName) (p : Process) (q : Path) (call : UnixCall) (whole : List ℕ) : Type 0 where
+-- What the flat rules say of a call that leaves these bytes in a file, by writing these bytes behind so many of the old ones.
+pub record WritesFile (accounts : Accounts) (f : Flat) (me : ProcName) (p : Process) (q : Path) (call : UnixCall) (whole : List ℕ)
+    (keep : ℕ) (bytes : List ℕ) : Type 0 where
   pub reaches : ReachesFile accounts f me p q call (refusal (writes accounts f p q) (nat_le (length whole) most_bytes))
+      (λ container segment. raw.Write container segment keep bytes)
   pub names : reaches.named ≡ (not_written accounts f p q orelse unless (nat_le (length whole) most_bytes) (IsTooLong q (length whole)))
   pub changes : changed accounts f me p call ≡ with_file_bytes f q whole
   pub answers : flat.answer f me p call ≡ Done
@@ -101,8 +115,8 @@ kept_length keep held bytes whole is =
     ∙ ap length is in
     ap (λ (k : ℕ). nat_le k most_bytes) total
 
-module _ (accounts : Accounts) (ok : AreAccounts accounts) (old new : KernelModel) (f : Flat) (me : ProcName) (t : ℕ)
-    (ready : IsReady accounts (state old) f me t) (m : Name) (d : Path) (call : UnixCall)
+module _ {M : Type 0} (accounts : Accounts) (ok : AreAccounts accounts) (old new : KernelModel) (f : Flat) (me : ProcName) (t : ℕ)
+    (ready : Ready M accounts (state old) f me t) (m : Name) (d : Path) (call : UnixCall)
     (result : Result Reply Stopped) where
   abbrev Refined : Type 0
   Refined = Goal accounts f me call old new t ready result
@@ -113,7 +127,7 @@ module _ (accounts : Accounts) (ok : AreAccounts accounts) (old new : KernelMode
   abbrev walk : List RawCall
   walk = walk_reads accounts ok (state old) f me t ready d
 
-  module _ (later : Option Errno) (file : ReachesFile accounts f me p (m ∷ d) call later) where
+  module _ (later : Option Errno) (last : ℕ → ℕ → RawCall) (file : ReachesFile accounts f me p (m ∷ d) call later last) where
     -- the reads of the walk are reads that the call cannot do without
     pub has_reads : (steps : List Step) (reply : Reply)
         → AreAmong (walk_reads accounts ok (state old) f me t ready d) (entries_of old.line t steps)
@@ -121,6 +135,44 @@ module _ (accounts : Accounts) (ok : AreAccounts accounts) (old new : KernelMode
     has_reads steps reply among =
         file.reads (state old) reply (entries_of old.line t steps)
         (has_walk accounts ok (state old) f me t ready m d (entries_of old.line t steps) among)
+
+    -- what is asked of the file
+    abbrev asked : RawCall
+    asked = last (container accounts ok (state old) f me t ready d) (segment accounts ok (state old) f me t ready d m)
+
+    left_walked : AreLeft (requests_of accounts ready.represents.matched me p call) walk
+        (unless_refused (refused accounts f me p call) (request asked ∷ []))
+    left_walked = file.asks (state old) ready.represents.matched
+
+    -- the raw calls of a call that is refused by what the walk has read, or by a denial of a read
+    ended : (errno : Errno) (steps : List Step) → refused accounts f me p call ≡ Some errno → AreAmong walk (entries_of old.line t steps)
+        → EndWith errno walk steps → AreItsCalls accounts f me call old new t ready steps (Refused errno)
+    ended errno steps is among end = (
+      has_reads steps (Refused errno) among,
+      made_to_end _ old.line t errno walk steps (refused accounts f me p call) (request asked ∷ []) is left_walked end,
+    )
+
+    -- the raw calls of a call that is refused by a denial at the file
+    pub denied_there : (errno : Errno) (denied : Denied) → refused accounts f me p call ≡ Some errno → is_of_denial errno ≡ true
+        → AreItsCalls accounts f me call old new t ready
+        (all_granted (walk_reads accounts ok (state old) f me t ready d)
+        ++ (last (container accounts ok (state old) f me t ready d) (segment accounts ok (state old) f me t ready d m), Some denied) ∷ [])
+        (Refused errno)
+    denied_there errno denied is by_denial = (
+      has_reads _ (Refused errno) (among_also old.line t walk walk ((asked, Some denied) ∷ []) (among_granted_all old.line t walk)),
+      made_to_denial _ old.line t walk (request asked) [] denied (left_by_denial _ walk _ errno (request asked ∷ []) is by_denial left_walked),
+    )
+
+    -- the raw calls of a call that is answered
+    pub granted_there : (reply : Reply) → refused accounts f me p call ≡ None
+        → AreItsCalls accounts f me call old new t ready
+        (all_granted (walk_reads accounts ok (state old) f me t ready d
+        ++ last (container accounts ok (state old) f me t ready d) (segment accounts ok (state old) f me t ready d m) ∷ [])) reply
+    granted_there reply is = (
+      has_reads _ reply (among_then old.line t walk walk (asked ∷ []) (among_granted_all old.line t walk)),
+      all_made _ old.line t (walk ++ asked ∷ [])
+          (left_then _ walk asked [] (left_allowed _ walk _ (request asked ∷ []) is left_walked)),
+    )
 
     -- the tests of reaching the file in its directory, in their order
     abbrev tests : Option Node → Option Errno
@@ -166,24 +218,26 @@ module _ (accounts : Accounts) (ok : AreAccounts accounts) (old new : KernelMode
       GoesOn =
           into accounts f p d ≡ None → (class : Class) (bytes : List ℕ)
           → get f.files (m ∷ d) ≡ Some (record { class = class; content = File bytes })
-          → (mid : KernelModel) → state mid ≡ state old → Chain old t (all_granted walk) mid → Runs (rest the_file) mid new t result → Refined
+          → (mid : KernelModel) → state mid ≡ state old → Chain old t (all_granted walk) mid
+          → Runs M (rest the_file) mid new t result → Refined
 
       module _ (go_on : GoesOn) (open_so_far : into accounts f p d ≡ None) (mid : KernelModel)
           (stays : state mid ≡ state old) (chain : Chain old t (all_granted walk) mid)
-          (on : Runs (at_entry (map.get (directory_of f.files ready.represents.matched.naming.number d) m)) mid new t result) where
+          (on : Runs M (at_entry (map.get (directory_of f.files ready.represents.matched.naming.number d) m)) mid new t result) where
         among : AreAmong walk (entries_of old.line t (all_granted walk))
         among = among_granted_all old.line t walk
 
         leads : (target : Option Target)
             → map.get (directory_of f.files ready.represents.matched.naming.number d) m ≡ target
-            → Runs (at_entry target) mid new t result
-        leads target is = subst (λ (target : Option Target). Runs (at_entry target) mid new t result) is on
+            → Runs M (at_entry target) mid new t result
+        leads target is = subst (λ (target : Option Target). Runs M (at_entry target) mid new t result) is on
 
         by_content : (class : Class) (c : Content) → get f.files (m ∷ d) ≡ Some (record { class = class; content = c }) → Refined
         by_content class Dir is =
             refused_at_once accounts f me call old new t ready result walk mid chain stays EISDIR
             (refused_is None (Some (record { class = class; content = Dir })) open_so_far is) refl refl
-            (has_reads (all_granted walk) (Refused EISDIR) among)
+            (ended EISDIR (all_granted walk) (refused_is None (Some (record { class = class; content = Dir })) open_so_far is) among
+            (inl (refl, refl)))
             (leads _ (directory_there accounts ok (state old) f me t ready m d class is))
         by_content class (File bytes) is =
             go_on open_so_far class bytes is mid stays chain
@@ -192,18 +246,20 @@ module _ (accounts : Accounts) (ok : AreAccounts accounts) (old new : KernelMode
         by_agrees : (o : Option Node) → get f.files (m ∷ d) ≡ o → Refined
         by_agrees None is =
             refused_at_once accounts f me call old new t ready result walk mid chain stays ENOENT
-            (refused_is None None open_so_far is) refl refl (has_reads (all_granted walk) (Refused ENOENT) among)
+            (refused_is None None open_so_far is) refl refl
+            (ended ENOENT (all_granted walk) (refused_is None None open_so_far is) among (inl (refl, refl)))
             (leads _ (nothing_there accounts ok (state old) f me t ready m d is))
         by_agrees (Some node) is = by_content node.class node.content is
 
       -- the file is found, or the call is refused
-      pub file_step : Runs (find_file (roots_of (length accounts.users)) (m ∷ d) rest) old new t result → GoesOn → Refined
+      pub file_step : Runs M (find_file (roots_of (length accounts.users)) (m ∷ d) rest) old new t result → GoesOn → Refined
       unfolding find_file
       file_step runs go_on =
           look_step accounts ok old new f me t ready call result d m (λ place target.
           given (file_at target) (λ segment. rest (record { container = place.container; segment = segment })))
           runs (
-            λ errno is steps among. (refused_is (Some errno) (get f.files (m ∷ d)) is refl, has_reads steps (Refused errno) among),
+            λ errno is steps among end.
+                let refuses = refused_is (Some errno) (get f.files (m ∷ d)) is refl in (refuses, ended errno steps refuses among end),
             λ reason is. file.explains ∙ ap (λ (o : Option Reason). (o orelse unless (is_there f (m ∷ d)) (IsMissing (m ∷ d))
                 orelse unless (is_file_at f (m ∷ d)) (HasDirectory (m ∷ d))) orelse file.named) is,
           )
@@ -211,7 +267,7 @@ module _ (accounts : Accounts) (ok : AreAccounts accounts) (old new : KernelMode
 
   -- ---- a call that writes the file, as `write` and `append` do
 
-  module _ (keep : ℕ) (bytes whole : List ℕ) (writing : WritesFile accounts f me p (m ∷ d) call whole) where
+  module _ (keep : ℕ) (bytes whole : List ℕ) (writing : WritesFile accounts f me p (m ∷ d) call whole keep bytes) where
     -- the segment of the file, and the write of it
     abbrev file : ℕ
     file = segment accounts ok (state old) f me t ready d m
@@ -233,7 +289,7 @@ module _ (accounts : Accounts) (ok : AreAccounts accounts) (old new : KernelMode
         (at : get f.files (m ∷ d) ≡ Some (record { class = class; content = File held }))
         (mid : KernelModel) (stays : state mid ≡ state old) (chain : Chain old t (all_granted walk) mid) where
       refused_by : (is_may is_fits : Bool) → may ≡ is_may → fits ≡ is_fits → refused accounts f me p call ≡ refusal is_may is_fits
-      refused_by is_may is_fits e more = reached (refusal may fits) writing.reaches open_so_far class held at ∙ (λ i. refusal (e i) (more i))
+      refused_by is_may is_fits e more = reached (refusal may fits) _ writing.reaches open_so_far class held at ∙ (λ i. refusal (e i) (more i))
 
       -- the kernel's check is the flat rule
       said_by : (is_may is_fits : Bool) → may ≡ is_may → fits ≡ is_fits
@@ -245,7 +301,7 @@ module _ (accounts : Accounts) (ok : AreAccounts accounts) (old new : KernelMode
 
       -- the reasons why the file is not written
       reason_is : why accounts f me p call ≡ (not_written accounts f p (m ∷ d) orelse unless fits (IsTooLong (m ∷ d) (length whole)))
-      reason_is = reached_reason (refusal may fits) writing.reaches open_so_far class held at ∙ writing.names
+      reason_is = reached_reason (refusal may fits) _ writing.reaches open_so_far class held at ∙ writing.names
 
       -- the segments lead to the file that is written
       there : IsFileAt accounts (state old) (m ∷ d) (container accounts ok (state old) f me t ready d) file
@@ -273,12 +329,11 @@ module _ (accounts : Accounts) (ok : AreAccounts accounts) (old new : KernelMode
       -- a denial is replied
       denied : (d : Denied) (errno : Errno) → check (state mid) t next ≡ Some d → write_errno_of d ≡ Some errno → errno_by_rule d ≡ Some errno
           → IsDenialNamed accounts f me call old new t ready next
-          → refused accounts f me p call ≡ Some errno → Runs (ask next (λ _. Answers Done)) mid new t result → Refined
+          → refused accounts f me p call ≡ Some errno → Runs M (ask next (λ _. Answers Done)) mid new t result → Refined
       denied d errno fails revealed by_rule named is on =
           refused_step accounts f me call old new t ready result walk mid chain stays
           errno is next (λ _. Answers Done) d fails revealed by_rule named
-          (has_reads (refusal may fits) writing.reaches _ _
-          (among_also old.line t walk walk ((next, Some d) ∷ []) (among_granted_all old.line t walk))) on
+          (denied_there (refusal may fits) _ writing.reaches errno d is (of_denial d errno by_rule)) on
 
       -- the kernel has the objects of the flat state with the new bytes
       matched_after : RepresentsStill ready.represents (with_segment_bytes (state old) file whole) (changed accounts f me p call)
@@ -294,7 +349,8 @@ module _ (accounts : Accounts) (ok : AreAccounts accounts) (old new : KernelMode
           (λ i. with_segment_bytes (same i) file (take keep (bytes_in ((same i).objects file)) ++ bytes))
           ∙ (λ i. with_segment_bytes (state old) file (take keep (there i) ++ bytes)) ∙ ap (with_segment_bytes (state old) file) kept
 
-      by_right : (is_may is_fits : Bool) → may ≡ is_may → fits ≡ is_fits → Runs (ask next (λ _. Answers Done)) mid new t result → Refined
+      by_right : (is_may is_fits : Bool) → may ≡ is_may → fits ≡ is_fits → Runs M (ask next (λ _. Answers Done)) mid new t result
+          → Refined
       by_right false is_fits e more on =
           denied Modify EACCES (said_by false is_fits e more) refl refl (unwritten_named e) (refused_by false is_fits e more) on
       by_right true false e more on =
@@ -307,16 +363,16 @@ module _ (accounts : Accounts) (ok : AreAccounts accounts) (old new : KernelMode
           answered_step accounts f me call old new t ready result (walk ++ next ∷ []) later longer
           Done (sym writing.answers) (refused_by true true e more)
           (subst (λ (r : Reply). IsBacked (state old) (entries_of old.line t (all_granted (walk ++ next ∷ []))) r) (sym writing.answers) tt)
-          (has_reads (refusal may fits) writing.reaches _ _ (among_then old.line t walk walk (next ∷ []) (among_granted_all old.line t walk)))
+          (granted_there (refusal may fits) _ writing.reaches _ (refused_by true true e more))
           (subst (λ (s : State). RepresentsStill ready.represents s (changed accounts f me p call)) (sym new_state) matched_after) end)
 
     -- The file is found and written, or the call is refused.
     pub writing_step : (length (bytes_at f (m ∷ d)) ≤ most_bytes → take keep (bytes_at f (m ∷ d)) ++ bytes ≡ whole)
-        → Runs (find_file (roots_of (length accounts.users)) (m ∷ d)
+        → Runs M (find_file (roots_of (length accounts.users)) (m ∷ d)
         (λ found. ask (raw.Write found.container found.segment keep bytes) (λ _. Answers Done))) old new t
         result → Refined
     writing_step kept run =
-        file_step (refusal may fits) writing.reaches _ run
+        file_step (refusal may fits) _ writing.reaches _ run
         (λ open_so_far class held at mid stays chain on.
         by_right (kept (subst (λ (xs : List ℕ). length xs ≤ most_bytes)
         (sym (holds_bytes accounts ok (state old) f me t ready d open_so_far m class held at))

@@ -43,13 +43,14 @@ use Rattle.histar_refinement.proofs.ListedFiles.{AreKnown}
 use Rattle.histar_refinement.proofs.MakingRanges.{is_made_within}
 use Rattle.histar_layout.proofs.Declared.{equal_tested}
 use Rattle.histar_refinement.proofs.Agreeing.{thread_found, guard_at, container_found, listing_found, file_found, step_linked}
-use Rattle.histar_sim.specs.Simulation.{IsReady}
+use Rattle.histar_sim.proofs.Ready.{Ready}
 use Rattle.histar_sim.specs.Named.{IsMaking, IsFileAt}
 use Rattle.histar_sim.proofs.Walks.{runs, place_at, agrees, at_container, at_listing, dir, seen, file_number, file_is_at}
 use Rattle.histar_sim.proofs.NewEntries.{HasSegment, still_there, there_then, making_inside}
 use Rattle.histar_refinement.proofs.Agreement.{agreement}
 
-module _ (accounts : Accounts) (ok : AreAccounts accounts) (s : State) (f : Flat) (me : ProcName) (t : ℕ) (ready : IsReady accounts s f me t) where
+module _ {M : Type 0} (accounts : Accounts) (ok : AreAccounts accounts) (s : State) (f : Flat) (me : ProcName) (t : ℕ)
+    (ready : Ready M accounts s f me t) where
   abbrev p : Process
   p = ready.caller.process
 

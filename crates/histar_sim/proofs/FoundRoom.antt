@@ -39,13 +39,15 @@ use Rattle.histar_programs.specs.Replies.{is_access, is_permission}
 use Rattle.histar_programs.specs.Start.{roots_of}
 use Rattle.histar_refinement.specs.Accounts.{AreAccounts}
 use Rattle.histar_refinement.proofs.Making.{count_entries}
-use Rattle.histar_sim.specs.Simulation.{IsReady}
+use Rattle.histar_sim.proofs.Ready.{Ready}
 use Rattle.histar_sim.specs.Reads.{AreAmong}
 use Rattle.histar_sim.specs.Named.{IsMaking, MakesAt, IsAbout}
 use Rattle.histar_sim.proofs.FirstReasons.{unwritten_at, written_at, named_by}
 use Rattle.histar_sim.proofs.ReadsByCall.{HasWalk, HasReadsByCall}
 use Rattle.histar_sim.proofs.Chains.{all_granted, entries_of, Chain, Step}
-use Rattle.histar_sim.proofs.CallErrors.{IsDenialNamed, ReadsAmong}
+use Rattle.histar_sim.specs.RawCalls.{Request, is_of_denial, plain, requests_of, unless_refused}
+use Rattle.histar_sim.proofs.Requests.{AreLeft, EndWith, all_made, left_after, made_to_end}
+use Rattle.histar_sim.proofs.CallErrors.{IsDenialNamed, AreItsCalls, ReadsAmong}
 use Rattle.histar_sim.proofs.Steps.{Goal, refused_at_once}
 use Rattle.histar_sim.proofs.Walks.{place_at, walk_reads, holds, among_granted_behind, nothing_there, file_there, directory_there, has_walk}
 use Rattle.histar_sim.proofs.Walks.{found, way_clear, walk_step_behind}
@@ -63,27 +65,28 @@ pub record NeedsRoom (accounts : Accounts) (f : Flat) (me : ProcName) (p : Proce
       → HasReadsByCall accounts s f p call reply entries
 
 -- there is no room for `/`, which is there already
-pub slash_agrees : (accounts : Accounts) (old new : KernelModel) (f : Flat) (me : ProcName) (t : ℕ)
-    (ready : IsReady accounts (state old) f me t) (call : UnixCall) (result : Result Reply Stopped)
+pub slash_agrees : {M : Type 0} → (accounts : Accounts) (old new : KernelModel) (f : Flat) (me : ProcName) (t : ℕ)
+    (ready : Ready M accounts (state old) f me t) (call : UnixCall) (result : Result Reply Stopped)
     (behind : Option Errno)
     → NeedsRoom accounts f me ready.caller.process [] call behind → (before : List RawCall) (start : KernelModel)
     → state start ≡ state old → Chain old t (all_granted before) start
-    → (rest : Room → Program) → Runs (find_room (roots_of (length accounts.users)) [] rest) start new t result
+    → AreLeft (requests_of accounts ready.represents.matched me ready.caller.process call) before []
+    → (rest : Room → Program) → Runs M (find_room (roots_of (length accounts.users)) [] rest) start new t result
     → Goal accounts f me call old new t ready result
 unfolding find_room
-slash_agrees accounts old new f me t ready call result behind needs before start unchanged begun rest run =
+slash_agrees accounts old new f me t ready call result behind needs before start unchanged begun left rest run =
     refused_at_once accounts f me call old new t ready result before start begun unchanged
     EEXIST needs.refuses refl refl
-    (needs.reads (state old) (Refused EEXIST) (entries_of old.line t (all_granted before)) tt) run
+    (needs.reads (state old) (Refused EEXIST) (entries_of old.line t (all_granted before)) tt, all_made _ old.line t before left) run
 
 -- the place of a new entry in a directory
-abbrev pub the_room : (accounts : Accounts) (ok : AreAccounts accounts) (s : State) (f : Flat) (me : ProcName) (t : ℕ)
-    (ready : IsReady accounts s f me t) → Path → Name → Room
+abbrev pub the_room : {M : Type 0} → (accounts : Accounts) (ok : AreAccounts accounts) (s : State) (f : Flat) (me : ProcName) (t : ℕ)
+    (ready : Ready M accounts s f me t) → Path → Name → Room
 the_room accounts ok s f me t ready d m =
     record { place = place_at accounts ok s f me t ready d; entries = entries accounts ok s f me t ready d; name = m }
 
-module _ (accounts : Accounts) (ok : AreAccounts accounts) (old new : KernelModel) (f : Flat) (me : ProcName) (t : ℕ)
-    (ready : IsReady accounts (state old) f me t) (m : Name) (d : Path) (call : UnixCall)
+module _ {M : Type 0} (accounts : Accounts) (ok : AreAccounts accounts) (old new : KernelModel) (f : Flat) (me : ProcName) (t : ℕ)
+    (ready : Ready M accounts (state old) f me t) (m : Name) (d : Path) (call : UnixCall)
     (result : Result Reply Stopped)
     (behind : Option Errno) (needs : NeedsRoom accounts f me ready.caller.process (m ∷ d) call behind) where
   abbrev Refined : Type 0
@@ -173,10 +176,25 @@ module _ (accounts : Accounts) (ok : AreAccounts accounts) (old new : KernelMode
         (about (subst (λ (q : Path). MakesAt accounts (state old) q next) (sym (ap parent needs.path)) makes_here))
 
   module _ (before : List RawCall) (start : KernelModel) (unchanged : state start ≡ state old)
-      (begun : Chain old t (all_granted before) start) (rest : Room → Program) where
+      (begun : Chain old t (all_granted before) start) (after : List Request)
+      (left : AreLeft (requests_of accounts ready.represents.matched me ready.caller.process call) before
+      (plain (walk_reads accounts ok (state old) f me t ready d)
+      ++ unless_refused (refused accounts f me ready.caller.process call) after)) (rest : Room → Program) where
     -- the raw calls up to the end of the walk
     abbrev reached : List RawCall
     reached = before ++ reads
+
+    -- after the walk
+    pub left_walked : AreLeft (requests_of accounts ready.represents.matched me ready.caller.process call)
+        (before ++ walk_reads accounts ok (state old) f me t ready d)
+        (unless_refused (refused accounts f me ready.caller.process call) after)
+    left_walked = left_after _ before reads _ left
+
+    -- the raw calls of a call that is refused by what the walk has read, or by a denial of a read
+    ended : (errno : Errno) (steps : List Step) → refused accounts f me p call ≡ Some errno → AreAmong reads (entries_of old.line t steps)
+        → EndWith errno (before ++ reads) steps → AreItsCalls accounts f me call old new t ready steps (Refused errno)
+    ended errno steps is among end =
+        (has_reads steps (Refused errno) among, made_to_end _ old.line t errno (before ++ reads) steps _ after is left_walked end)
 
     -- once the name was looked up
     abbrev at_entry : Option Target → Bool → Program
@@ -188,11 +206,11 @@ module _ (accounts : Accounts) (ok : AreAccounts accounts) (old new : KernelMode
         into accounts f p d ≡ None → get f.files (m ∷ d) ≡ None → nat_lt (length (entries_in f d)) most_entries ≡ true
         → (mid : KernelModel) → state mid ≡ state old
         → Chain old t (all_granted (before ++ walk_reads accounts ok (state old) f me t ready d)) mid
-        → Runs (rest (the_room accounts ok (state old) f me t ready d m)) mid new t result → Refined
+        → Runs M (rest (the_room accounts ok (state old) f me t ready d m)) mid new t result → Refined
 
     module _ (go_on : GoesOnWithRoom) (open_so_far : into accounts f p d ≡ None) (mid : KernelModel)
         (stays : state mid ≡ state old) (chain : Chain old t (all_granted reached) mid)
-        (on : Runs (at_entry (map.get listed m) (map.len listed == most_entries)) mid new t result) where
+        (on : Runs M (at_entry (map.get listed m) (map.len listed == most_entries)) mid new t result) where
       -- the directory is full exactly where it has no room
       few : map.len listed ≤ most_entries
       few = (holds accounts ok (state old) f me t ready d (is_dir accounts ok (state old) f me t ready d open_so_far)).listable.few
@@ -202,47 +220,47 @@ module _ (accounts : Accounts) (ok : AreAccounts accounts) (old new : KernelMode
       full_test false e = let count = count_entries accounts (state old) f ready.represents.matched d in grind (arith, nat_tests, count, few, e)
 
       -- the call is refused with no raw call more
-      ends_here : (errno : Errno) → is_access errno ≡ false → is_permission errno ≡ false
-          → refused accounts f me p call ≡ Some errno → Runs (Answers (Refused errno)) mid new t result → Refined
-      ends_here errno no_access no_permission is end =
+      ends_here : (errno : Errno) → is_access errno ≡ false → is_permission errno ≡ false → is_of_denial errno ≡ false
+          → refused accounts f me p call ≡ Some errno → Runs M (Answers (Refused errno)) mid new t result → Refined
+      ends_here errno no_access no_permission no_denial is end =
           refused_at_once accounts f me call old new t ready result reached mid chain stays
           errno is no_access no_permission
-          (has_reads (all_granted reached) (Refused errno) (among_granted_behind old.line t before reads)) end
+          (ended errno (all_granted reached) is (among_granted_behind old.line t before reads) (inl (refl, no_denial))) end
 
-      looked_up : (target : Option Target) → map.get listed m ≡ target → Runs (at_entry target (map.len listed == most_entries)) mid new t result
-      looked_up target is = subst (λ (o : Option Target). Runs (at_entry o (map.len listed == most_entries)) mid new t result) is on
+      looked_up : (target : Option Target) → map.get listed m ≡ target
+          → Runs M (at_entry target (map.len listed == most_entries)) mid new t result
+      looked_up target is = subst (λ (o : Option Target). Runs M (at_entry o (map.len listed == most_entries)) mid new t result) is on
 
       by_content : (class : Class) (c : Content) → get f.files (m ∷ d) ≡ Some (record { class = class; content = c }) → Refined
       by_content class Dir is =
-          ends_here EEXIST refl refl (refused_is None _ roomy (writes accounts f p d) open_so_far is refl refl)
+          ends_here EEXIST refl refl refl (refused_is None _ roomy (writes accounts f p d) open_so_far is refl refl)
           (looked_up _ (directory_there accounts ok (state old) f me t ready m d class is))
       by_content class (File bytes) is =
-          ends_here EEXIST refl refl (refused_is None _ roomy (writes accounts f p d) open_so_far is refl refl)
+          ends_here EEXIST refl refl refl (refused_is None _ roomy (writes accounts f p d) open_so_far is refl refl)
           (looked_up _ (file_there accounts ok (state old) f me t ready m d class bytes is))
 
-      by_room : (b : Bool) → roomy ≡ b → get f.files (m ∷ d) ≡ None → Runs (at_entry None (not b)) mid new t result → Refined
+      by_room : (b : Bool) → roomy ≡ b → get f.files (m ∷ d) ≡ None → Runs M (at_entry None (not b)) mid new t result → Refined
       by_room false no_room absent full =
-          ends_here ENOSPC refl refl
+          ends_here ENOSPC refl refl refl
           (refused_is None None false (writes accounts f p d) open_so_far absent no_room refl) full
       by_room true room absent free = go_on open_so_far absent room mid stays chain free
 
       by_agrees : (o : Option Node) → get f.files (m ∷ d) ≡ o → Refined
       by_agrees None absent =
-          by_room roomy refl absent (subst (λ (b : Bool). Runs (at_entry None b) mid new t result) (full_test roomy refl)
+          by_room roomy refl absent (subst (λ (b : Bool). Runs M (at_entry None b) mid new t result) (full_test roomy refl)
           (looked_up None (nothing_there accounts ok (state old) f me t ready m d absent)))
       by_agrees (Some node) is = by_content node.class node.content is
 
     -- There is room, or the call is refused.
-    pub room_step : Runs (find_room (roots_of (length accounts.users)) (m ∷ d) rest) start new t result → GoesOnWithRoom → Refined
+    pub room_step : Runs M (find_room (roots_of (length accounts.users)) (m ∷ d) rest) start new t result → GoesOnWithRoom → Refined
     unfolding find_room
     room_step runs go_on =
         walk_step_behind accounts ok old new f me t ready call result before start unchanged begun d
         (λ directory. given (room_at (map.get directory.entries m) (map.len directory.entries == most_entries))
         (λ _. rest (record { place = directory.place; entries = directory.entries; name = m }))) runs (
-          λ errno is steps among. (
-            refused_is (Some errno) (get f.files (m ∷ d)) roomy (writes accounts f p d) is refl refl refl,
-            has_reads steps (Refused errno) among,
-          ),
+          λ errno is steps among end.
+              let refuses = refused_is (Some errno) (get f.files (m ∷ d)) roomy (writes accounts f p d) is refl refl refl in
+              (refuses, ended errno steps refuses among end),
           λ reason is. needs.explains ∙ ap (λ (o : Option Reason). (o orelse unless (not (is_there f (m ∷ d))) (IsTaken (m ∷ d))
               orelse unless roomy (IsFull d (length (entries_in f d))) orelse not_written accounts f p d) orelse needs.named) is,
         )

@@ -30,13 +30,14 @@ use Rattle.histar_programs.specs.Programs.Program.{Answers, Asks}
 use Rattle.histar_wrap.specs.Scratch.{or_stops, give_back, gives_back_with, or_given_back, ask_or_give_back}
 use Rattle.histar_refinement.specs.KeptNames.{RepresentsStill}
 use Rattle.histar_refinement.proofs.Beside.{own_set}
-use Rattle.histar_sim.specs.Simulation.{IsReady, errno_by_rule, IsReplyOfDenial}
+use Rattle.histar_sim.specs.Simulation.{errno_by_rule, IsReplyOfDenial}
+use Rattle.histar_sim.proofs.Ready.{Ready}
 use Rattle.histar_sim.proofs.Chains.{Step, all_granted, Chain, chain_after, refused_broken_off}
-use Rattle.histar_sim.proofs.CallErrors.{FollowsFrom, IsDenialNamed, ReadsAmong, reply_is, chain_unanswered, given_back_refined}
+use Rattle.histar_sim.proofs.CallErrors.{FollowsFrom, IsDenialNamed, AreItsCalls, reply_is, chain_unanswered, given_back_refined}
 use Rattle.histar_sim.proofs.Steps.{EndsHere, Goal, replied, granted_so, denied_step}
 
-module _ (accounts : Accounts) (f : Flat) (me : ProcName) (call : UnixCall)
-    (old new : KernelModel) (t : ℕ) (ready : IsReady accounts (state old) f me t) (result : Result Reply Stopped) where
+module _ {M : Type 0} (accounts : Accounts) (f : Flat) (me : ProcName) (call : UnixCall)
+    (old new : KernelModel) (t : ℕ) (ready : Ready M accounts (state old) f me t) (result : Result Reply Stopped) where
   abbrev Refined : Type 0
   Refined = Goal accounts f me call old new t ready result
 
@@ -56,7 +57,7 @@ module _ (accounts : Accounts) (f : Flat) (me : ProcName) (call : UnixCall)
     module _ (restoring : List RawCall) (sets : AllByRecursion (λ (c : RawCall). sets_labels c ≡ true) restoring)
         (mid : KernelModel) (so_far : Chain old t (steps restoring) mid) where
       -- the call ends here without a reply
-      ended : EndsHere mid new result → Refined
+      ended : EndsHere M mid new result → Refined
       ended ends = by result ends.unanswered
         where
           chain : Chain old t (steps restoring) new
@@ -64,12 +65,12 @@ module _ (accounts : Accounts) (f : Flat) (me : ProcName) (call : UnixCall)
               subst (λ (all : List Step). Chain old t all new) (append-nil (steps restoring))
               (chain_after t old mid new (steps restoring) [] so_far ends.unchanged)
 
-          by : (r : Result Reply Stopped) → IsErr r → FollowsFrom accounts f me call old new t ready.represents r
+          by : (r : Result Reply Stopped) → IsErr r → FollowsFrom M accounts f me call old new t ready.represents r
           by (Ok reply) err = absurd cc
           by (Err stopped) err =
               chain_unanswered accounts f me call old new t ready (steps restoring) chain
               (refused_broken_off t (reply_to accounts f me call) old new old.line calls last denied restoring
-              reveals sets chain)
+              reveals sets chain) (inl ends.because)
 
       -- one step more
       longer : (next : RawCall) (later : KernelModel) → Called mid later t next None → Chain old t (steps (restoring ++ next ∷ [])) later
@@ -81,9 +82,9 @@ module _ (accounts : Accounts) (f : Flat) (me : ProcName) (call : UnixCall)
 
       -- the thread is given a label or a clearance more
       restored_step : (next : RawCall) (rest : Outcome next → Program) → check (state mid) t next ≡ None
-          → Runs (Asks next rest) mid new t result
+          → Runs M (Asks next rest) mid new t result
           → ((later : KernelModel) (answer : AnswerOf next) → Called mid later t next None
-          → Chain old t (steps (restoring ++ next ∷ [])) later → Runs (rest (Ok answer)) later new t result
+          → Chain old t (steps (restoring ++ next ∷ [])) later → Runs M (rest (Ok answer)) later new t result
           → Refined) → Refined
       restored_step next rest passes runs go_on = elim (granted_so t mid new next rest passes result runs) [
         | inl ends ↦ ended ends
@@ -92,11 +93,11 @@ module _ (accounts : Accounts) (f : Flat) (me : ProcName) (call : UnixCall)
 
       -- the call replies the errno
       revealed_at_last : RepresentsStill ready.represents (state mid) f
-          → ReadsAmong accounts f me call old new t ready (steps restoring) (Refused errno)
-          → Runs (Answers (Refused errno)) mid new t result → Refined
+          → AreItsCalls accounts f me call old new t ready (steps restoring) (Refused errno)
+          → Runs M (Answers (Refused errno)) mid new t result → Refined
       revealed_at_last represents reads runs =
           let end = replied t mid new (Refused errno) result runs in
-          subst (FollowsFrom accounts f me call old new t ready.represents) (sym end.1)
+          subst (FollowsFrom M accounts f me call old new t ready.represents) (sym end.1)
           (given_back_refined accounts f me call old new t ready calls last denied restoring sets
           (subst (λ (all : List Step). Chain old t all new) (append-nil (steps restoring))
           (chain_after t old mid new (steps restoring) [] so_far end.0))
@@ -112,8 +113,8 @@ module _ (accounts : Accounts) (f : Flat) (me : ProcName) (call : UnixCall)
           → check (state mid) t (SetLabel own.0) ≡ None
           → check (with_changed (state mid) t (with_label own.0)) t (SetClearance own.1) ≡ None
           → RepresentsStill ready.represents (own_set t (state mid) own.0 own.1) f
-          → ReadsAmong accounts f me call old new t ready (steps taken_again) (Refused errno)
-          → Runs (give_back own errno) mid new t result → Refined
+          → AreItsCalls accounts f me call old new t ready (steps taken_again) (Refused errno)
+          → Runs M (give_back own errno) mid new t result → Refined
       give_back_step mid so_far label_passes clearance_passes represents reads runs =
           restored_step [] tt mid so_far (SetLabel own.0)
           (or_stops (λ _. Asks (SetClearance own.1) (or_stops (λ _. Answers (Refused errno))))) label_passes runs
@@ -135,10 +136,10 @@ module _ (accounts : Accounts) (f : Flat) (me : ProcName) (call : UnixCall)
       → check (state mid) t (SetLabel own.0) ≡ None
       → check (with_changed (state mid) t (with_label own.0)) t (SetClearance own.1) ≡ None
       → RepresentsStill ready.represents (own_set t (state mid) own.0 own.1) f
-      → ReadsAmong accounts f me call old new t ready
+      → AreItsCalls accounts f me call old new t ready
       (all_granted calls ++ (next, Some denied) ∷ all_granted (SetLabel own.0 ∷ SetClearance own.1 ∷ []))
       (Refused errno)
-      → Runs (ask_or_give_back own next rest) mid new t result → Refined
+      → Runs M (ask_or_give_back own next rest) mid new t result → Refined
   given_back_step calls mid so_far errno is own next rest denied fails revealed by_rule named label_passes clearance_passes represents reads runs =
       denied_step accounts f me call old new t ready result calls mid so_far next (or_given_back own (errno_for next) rest) denied fails runs
       (λ later called chain on.
@@ -148,4 +149,4 @@ module _ (accounts : Accounts) (f : Flat) (me : ProcName) (call : UnixCall)
       (ap (λ (s : State). check (with_changed s t (with_label own.0)) t (SetClearance own.1)) same
       ∙ clearance_passes)
       (subst (λ (s : State). RepresentsStill ready.represents (own_set t s own.0 own.1) f) (sym same) represents) reads
-      (subst (λ (o : Option Errno). Runs (gives_back_with own o) later new t result) revealed on))
+      (subst (λ (o : Option Errno). Runs M (gives_back_with own o) later new t result) revealed on))

@@ -65,7 +65,9 @@ use Rattle.histar_refinement.proofs.RawChecks.{object}
 use Rattle.histar_refinement.proofs.AccountLemmas.{not_nobody}
 use Rattle.histar_refinement.proofs.Wrapping as wrapping
 use Rattle.histar_refinement.proofs.Wrapping.{Wrapper}
-use Rattle.histar_sim.specs.Simulation.{IsReady}
+use Rattle.histar_sim.specs.RawCalls.{Request, births_at, plain, requests_of, writes_entries}
+use Rattle.histar_sim.proofs.Requests.{AreLeft, all_granted_made, calls_of, left_then}
+use Rattle.histar_sim.proofs.Ready.{Ready}
 use Rattle.histar_sim.specs.Reads.{AreAmong}
 use Rattle.histar_sim.proofs.Chains.{all_granted, entries_of, Chain}
 use Rattle.histar_sim.proofs.Steps.{Goal, granted_step, answered_step}
@@ -81,9 +83,9 @@ use Rattle.histar_sim.proofs.ScratchCalls.{with_segment, make_said, write_said, 
 use Rattle.histar_sim.proofs.JobFit.{fit, held_is}
 use Rattle.histar_sim.proofs.JobRights.{JobParent}
 
-module _ (accounts : Accounts) (ok : AreAccounts accounts) (me : ProcName) (caller : Caller) (old new : KernelModel)
+module _ {M : Type 0} (accounts : Accounts) (ok : AreAccounts accounts) (me : ProcName) (caller : Caller) (old new : KernelModel)
     (f : Flat) (result : Result Reply Stopped)
-    (ready : IsReady accounts (state old) f me caller.thread)
+    (ready : Ready M accounts (state old) f me caller.thread)
     (found : caller_at (state old) (roots_of (length accounts.users)).home me ≡ Some caller) (m : Name)
     (named : IsTrue (is_name m)) (d : Path) where
   abbrev t : ℕ
@@ -126,6 +128,22 @@ module _ (accounts : Accounts) (ok : AreAccounts accounts) (me : ProcName) (call
       (λ _. birth caller.home status (kin_in accounts own job)
       (λ _. hold_job (own, own_clearance) job (λ _. Answers (Child ((status.born + 1) ∷ me))))))
 
+  -- the raw calls of the birth of the job's first process, and those that give the thread its labels with the job
+  abbrev pub born_calls : ProcessStatus → Levels → Levels → List RawCall
+  born_calls revealed label clearance =
+      births_at caller.home revealed (kin_in accounts own job) (job + 1) ((state old).next_object + 1 + 1)
+      ++ SetLabel label ∷ SetClearance clearance ∷ []
+
+  -- what is left once the directory segment is made, and before it
+  abbrev pub write_on : List RawCall
+  write_on =
+      writes_entries accounts ready.represents.matched d (map.insert (entries accounts ok (state old) f me t ready d) m
+      (targets.Directory (state old).next_object ((state old).next_object + 1)))
+      ∷ born_calls status (with_level own job Star) (with_level own_clearance job L3)
+
+  abbrev pub segment_on : List RawCall
+  segment_on = MakeSegment (state old).next_object due [] ∷ write_on
+
   -- where nothing refuses the call and the container is made, the call refines its rule
   abbrev pub JobBegun : Type 0
   JobBegun =
@@ -134,9 +152,10 @@ module _ (accounts : Accounts) (ok : AreAccounts accounts) (me : ProcName) (call
       → may_write accounts p (directory_class accounts ok (state old) f me t ready d open_so_far) ≡ true
       → (i : ℕ) → user_number accounts p.user ≡ Some i → has_number (state old) ≡ true
       → (calls : List RawCall) → AreAmong (walk_reads accounts ok (state old) f me t ready d) (entries_of old.line t (all_granted calls))
+      → AreLeft (plain (calls_of (requests_of accounts ready.represents.matched me p (Wrap (m ∷ d))))) calls (plain segment_on)
       → (linked : KernelModel) → state linked ≡ with_object (with_category (state old) t) place.container container
       → Chain old t (all_granted calls) linked
-      → Runs (within (state old).next_object) linked new t result → Refined
+      → Runs M (within (state old).next_object) linked new t result → Refined
 
   -- ---- the call as a whole
 
@@ -145,6 +164,9 @@ module _ (accounts : Accounts) (ok : AreAccounts accounts) (me : ProcName) (call
 
   abbrev child : ProcName
   child = (p.born + 1) ∷ me
+
+  abbrev requests : List Request
+  requests = plain (calls_of (requests_of accounts ready.represents.matched me p (Wrap (m ∷ d))))
 
   abbrev reads : List RawCall
   reads = walk_reads accounts ok (state old) f me t ready d
@@ -388,26 +410,31 @@ module _ (accounts : Accounts) (ok : AreAccounts accounts) (me : ProcName) (call
 
       -- with all raw calls the call is answered
       answered : (calls : List RawCall) (end : KernelModel) → AreAmong reads (entries_of old.line t (all_granted calls))
-          → Chain old t (all_granted calls) end
+          → AreLeft requests calls [] → Chain old t (all_granted calls) end
           → state end
           ≡ spawned before t caller.home (status_by f.processes later.naming.number me p) kin own_then
-          later_clearance → before.next_object + 3 < greatest → Runs (Answers (Child child)) end new t result
+          later_clearance → before.next_object + 3 < greatest → Runs M (Answers (Child child)) end new t result
           → Refined
-      answered calls end kept chain is few_born runs =
+      answered calls end kept left chain is few_born runs =
           answered_step accounts f me call old new t ready result calls end chain (Child child) refl
-          refused_nowhere tt
-          (has_walk accounts ok (state old) f me t ready m d (entries_of old.line t (all_granted calls)) kept)
+          refused_nowhere tt (
+            has_walk accounts ok (state old) f me t ready m d (entries_of old.line t (all_granted calls)) kept,
+            all_granted_made (requests_of accounts ready.represents.matched me p (Wrap (m ∷ d))) old.line t calls left,
+          )
           (subst (λ (s : State). RepresentsStill ready.represents s (changed accounts f me p call)) (sym is) (matched_then few_born)) runs
 
       -- the job's first process is born
       born : (calls : List RawCall) (mid : KernelModel) → AreAmong reads (entries_of old.line t (all_granted calls))
+          → AreLeft requests calls (plain (born_calls status (with_level own job Star) (with_level own_clearance job L3)))
           → Chain old t (all_granted calls) mid → state mid ≡ before
-          → Runs (birth_then status (with_level own job Star) (with_level own_clearance job L3)) mid new t result → Refined
-      born calls mid kept chain at runs =
+          → Runs M (birth_then status (with_level own job Star) (with_level own_clearance job L3)) mid new t result → Refined
+      born calls mid kept left chain at runs =
           birth_made accounts f me call old new t ready result before caller.home
           (status_by f.processes later.naming.number me p) kin own_then later_clearance fits
-          (Child child) reads answered calls mid kept chain at
-          (subst (λ (x : ProcessStatus × Levels × Levels). Runs (birth_then x.0 x.1 x.2) mid new t result)
+          (Child child) reads requests answered calls mid kept
+          (subst (λ (x : ProcessStatus × Levels × Levels). AreLeft requests calls (plain (born_calls x.0 x.1 x.2)))
+          (λ j. (status_is j, own_is j, own_clearance_is j)) left) chain at
+          (subst (λ (x : ProcessStatus × Levels × Levels). Runs M (birth_then x.0 x.1 x.2) mid new t result)
           (λ j. (status_is j, own_is j, own_clearance_is j)) runs)
 
       -- the directory is written
@@ -424,10 +451,11 @@ module _ (accounts : Accounts) (ok : AreAccounts accounts) (me : ProcName) (call
           (named, is_target))
 
       directory_written : (calls : List RawCall) (mid : KernelModel)
-          → AreAmong reads (entries_of old.line t (all_granted calls)) → Chain old t (all_granted calls) mid
+          → AreAmong reads (entries_of old.line t (all_granted calls)) → AreLeft requests calls (plain write_on)
+          → Chain old t (all_granted calls) mid
           → state mid ≡ with_segment accounts ok (state old) f me t ready d open_so_far unused i declared
-          → Runs (after_segment (number + 1)) mid new t result → Refined
-      directory_written calls mid kept chain at runs =
+          → Runs M (after_segment (number + 1)) mid new t result → Refined
+      directory_written calls mid kept left chain at runs =
           let write : RawCall = Write place.container place.listing 0 written in
           let guard = directory_guard accounts ok (state old) f me t ready d open_so_far in
           let apart =
@@ -439,13 +467,14 @@ module _ (accounts : Accounts) (ok : AreAccounts accounts) (me : ProcName) (call
           ∙ write_said accounts ok (state old) f me t ready d open_so_far unused i declared may stranger apart.0
           apart.1 written few_written) runs
           (λ end done called right longer goes.
-          born (calls ++ write ∷ []) end (among_then old.line t reads calls (write ∷ []) kept) longer
+          born (calls ++ write ∷ []) end (among_then old.line t reads calls (write ∷ []) kept)
+          (left_then requests calls write _ left) longer
           (called.state ∙ ap (λ (s : State). with_segment_bytes s place.listing written) at ∙ state_is) goes)
 
   -- A wrap whose container is made refines its rule.
   pub job_begun : JobBegun
   unfolding hold_job
-  job_begun long room open_so_far absent room_above may i declared has calls kept linked at chain runs =
+  job_begun long room open_so_far absent room_above may i declared has calls kept left linked at chain runs =
       let next : RawCall = MakeSegment number due [] in
       numbered_step accounts f me call old new t ready result calls linked chain next after_segment refl
       (subst (λ (s : State). check s t next ≡ unless (has_number s) TooBig) (sym at)
@@ -453,6 +482,6 @@ module _ (accounts : Accounts) (ok : AreAccounts accounts) (me : ProcName) (call
       (λ more mid listing called right longer goes.
       let few = ltb-true (number + 1) greatest (sym (ap has_number at) ∙ more) in
       directory_written long room open_so_far absent room_above may i declared few (calls ++ next ∷ []) mid
-      (among_then old.line t reads calls (next ∷ []) kept) longer
+      (among_then old.line t reads calls (next ∷ []) kept) (left_then requests calls next (plain write_on) left) longer
       (called.state ∙ ap (λ (s : State). with_object s number (record { label = due; kind = Segment [] })) at)
-      (subst (λ (q : ℕ). Runs (after_segment q) mid new t result) (right ∙ ap (λ (s : State). s.next_object) at) goes))
+      (subst (λ (q : ℕ). Runs M (after_segment q) mid new t result) (right ∙ ap (λ (s : State). s.next_object) at) goes))

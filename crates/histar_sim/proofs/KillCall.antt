@@ -35,7 +35,7 @@ use Rattle.histar_rules.specs.declared.raw.RawCall.TheVariants as raw
 use Rattle.histar_rules.specs.Rules.{check}
 use Rattle.histar_rules.specs.Sound.{root_number}
 use Rattle.histar_syscall.specs.KernelModel.{KernelModel, state}
-use Rattle.histar_layout.specs.Status.{child_at, status_bytes, without_child}
+use Rattle.histar_layout.specs.Status.{ProcessStatus, child_at, status_bytes, without_child}
 use Rattle.histar_programs.specs.declared.call_error.Stopped.{Stopped}
 use Rattle.histar_programs.specs.Programs.{Program, Runs}
 use Rattle.histar_programs.specs.Programs.Program.{Answers}
@@ -53,7 +53,7 @@ use Rattle.histar_refinement.specs.Labels.{boot_guard, process_guard, reading, w
 use Rattle.histar_refinement.specs.Represents.{ObjectsMatch}
 use Rattle.histar_refinement.specs.KeptNames.{RepresentsStill}
 use Rattle.histar_refinement.specs.Laws.{RunsAs}
-use Rattle.histar_refinement.specs.Processes.{process_bytes}
+use Rattle.histar_refinement.specs.Processes.{process_bytes, status_by, or_zero}
 use Rattle.histar_refinement.proofs.CallerFound.{where_is}
 use Rattle.histar_refinement.proofs.CategoryTests.{among-append, among_none}
 use Rattle.histar_refinement.proofs.ClassTests.{sees_unguarded, jobs_apart}
@@ -64,7 +64,10 @@ use Rattle.histar_layout.proofs.Declared.{equal_names}
 use Rattle.histar_refinement.proofs.Agreeing.{thread_found, step_linked}
 use Rattle.histar_refinement.proofs.Steps.{step_tests_equality}
 use Rattle.histar_refinement.proofs.Tested.{below_by_names}
-use Rattle.histar_sim.specs.Simulation.{IsReady}
+use Rattle.std.proofs.lemmas.Option.{same_Some}
+use Rattle.histar_sim.specs.RawCalls.{Request, number_at, own_status, plain, requests_of, writes_status}
+use Rattle.histar_sim.proofs.Requests.{AreLeft, request, left_allowed, left_by_denial, left_then, all_made, made_to_denial, made_to_end}
+use Rattle.histar_sim.proofs.Ready.{Ready}
 use Rattle.histar_sim.proofs.FirstReasons.{named_by}
 use Rattle.histar_sim.proofs.CallErrors.{IsDenialNamed, from_each}
 use Rattle.histar_sim.proofs.Chains.{all_granted, Chain}
@@ -75,6 +78,7 @@ use Rattle.histar_sim.proofs.FoundProcesses.{at_container, at_segment, led_to, c
 use Rattle.histar_sim.proofs.KilledChild.{killed_bytes, killed_few, thread_then, segment_then, holder_then, linked_then}
 use Rattle.histar_sim.proofs.OwnSegment.{write_granted}
 use Rattle.histar_sim.proofs.Searches.{Refuses, runs_as, status_of, search_reads, has_search, search_clear, parent_refuses, child_step, search_step}
+use Rattle.histar_sim.proofs.Searches.{read_of}
 
 -- the test of names is symmetric
 same_turned : (a b : ProcName) → same a b ≡ same b a
@@ -140,8 +144,8 @@ module _ (accounts : Accounts) (s : State) (f : Flat) (l : ObjectsMatch accounts
       home_linked
       ∙ ap (λ (b : Bool). unless (b && is_below_raised root_due own_label) Modify) root_unwritten
 
-module _ (accounts : Accounts) (ok : AreAccounts accounts) (old new : KernelModel) (f : Flat) (me : ProcName) (t : ℕ)
-    (ready : IsReady accounts (state old) f me t) (result : Result Reply Stopped) where
+module _ {M : Type 0} (accounts : Accounts) (ok : AreAccounts accounts) (old new : KernelModel) (f : Flat) (me : ProcName) (t : ℕ)
+    (ready : Ready M accounts (state old) f me t) (result : Result Reply Stopped) where
   abbrev p : Process
   p = ready.caller.process
 
@@ -154,19 +158,31 @@ module _ (accounts : Accounts) (ok : AreAccounts accounts) (old new : KernelMode
   abbrev Refined : ProcName → Type 0
   Refined name = Goal accounts f me (calls.Kill name) old new t ready result
 
+  -- what is left after the search
+  abbrev kills : ℕ → ProcName → List Request
+  kills n above =
+      plain (raw.Unlink (number_at accounts ready.represents.matched (home_address above))
+      (number_at accounts ready.represents.matched (home_address (n ∷ above)))
+      ∷ writes_status accounts ready.represents.matched above
+      (without_child n (own_status accounts ready.represents.matched me ready.caller.process)) ∷ [])
+
   -- what refuses the search refuses the kill
   kill_refuses : (name : ProcName) → Refuses accounts ok old new f me t ready (calls.Kill name) result name
-  kill_refuses [] = (λ errno is steps among. absurd cc, λ reason is. absurd cc)
+  kill_refuses [] = (λ errno is steps among end. absurd cc, λ reason is. absurd cc)
   kill_refuses (n ∷ above) = (
-    λ errno is steps among. (
-      ap (λ (o : Option Errno). o orelse unless (same me above) EACCES) is,
-      has_search accounts (state old) f me t ready (n ∷ above) _ among,
-    ),
+    λ errno is steps among end.
+        let refuses = ap (λ (o : Option Errno). o orelse unless (same me above) EACCES) is in (
+          refuses,
+          (
+            has_search accounts (state old) f me t ready (n ∷ above) _ among,
+            made_to_end _ old.line t errno (calls_to (n ∷ above)) steps _ (kills n above) refuses refl end,
+          ),
+        ),
     λ reason is. ap (λ (o : Option Reason). o orelse unless (same me above) (IsNoChild (n ∷ above))) is,
   )
 
   -- process 0 is read, and its container is kept
-  kill_of_first : Runs (kill_program (roots_of (length accounts.users)) []) old new t result → Refined []
+  kill_of_first : Runs M (kill_program (roots_of (length accounts.users)) []) old new t result → Refined []
   unfolding kill_program find_home
   kill_of_first run =
       let unlinks : RawCall = raw.Unlink root_number (home_number (length accounts.users)) in
@@ -177,9 +193,12 @@ module _ (accounts : Accounts) (ok : AreAccounts accounts) (old new : KernelMode
       refused_step accounts f me (calls.Kill []) old new t ready result (calls_to []) mid chain
       stays EACCES refl unlinks (λ _. Answers Done) Modify
       (ap (λ (s : State). check s t unlinks) stays ∙ first_kept accounts (state old) f l me p t (runs_as accounts (state old) f me t ready)) refl refl
-      (named_by accounts (state old) f me p (calls.Kill []) unlinks (IsNoChild []) refl refl)
-      (has_search accounts (state old) f me t ready [] _ (among_also old.line t (calls_to []) (calls_to []) ((unlinks, Some Modify) ∷ [])
-      (among_granted_all old.line t (calls_to [])))) on)
+      (named_by accounts (state old) f me p (calls.Kill []) unlinks (IsNoChild []) refl refl) (
+        has_search accounts (state old) f me t ready [] _ (among_also old.line t (calls_to []) (calls_to []) ((unlinks, Some Modify) ∷ [])
+            (among_granted_all old.line t (calls_to []))),
+        made_to_denial _ old.line t (calls_to []) (request unlinks) [] Modify (λ i. request (read_of accounts (state old) f me t ready [])
+            ∷ request (raw.Unlink root_number (or_zero (l.as_booted (Home ∷ []) (home_number (length accounts.users)) refl i))) ∷ []),
+      ) on)
 
   -- ---- another process
 
@@ -217,6 +236,19 @@ module _ (accounts : Accounts) (ok : AreAccounts accounts) (old new : KernelMode
         (chain : Chain old t (all_granted (calls_to (n ∷ above))) mid) where
       refused_by : (b : Bool) → same above me ≡ b → refused accounts f me p call ≡ unless b EACCES
       refused_by b is = λ i. found i orelse unless ((same_turned me above ∙ is) i) EACCES
+
+      -- where the parent is the process itself, its own segment is written after the child was unlinked
+      left_granted : same above me ≡ true
+          → AreLeft (requests_of accounts ready.represents.matched me p call) (calls_to name) (request unlinking ∷ request writing_call ∷ [])
+      left_granted is =
+          let mine : Some p ≡ Some parent =
+          sym ready.caller.agrees ∙ ap f.processes (sym (equal_names above me is)) ∙ here in
+          let itself : own_status accounts l me p ≡ status_of accounts (state old) f me t ready above parent =
+          (λ i. status_by f.processes l.naming.number (sym (equal_names above me is) i) p)
+          ∙ ap (status_by f.processes l.naming.number above) (same_Some p parent mine) in
+          left_allowed _ (calls_to name) _ (kills n above) (refused_by true is) refl
+          ∙ ap (λ (status : ProcessStatus). plain (calls_to name) ++ request unlinking
+          ∷ request (writes_status accounts l above (without_child n status)) ∷ []) itself
 
       -- the raw call is on what the reason names that the process is no child of the caller
       unlinking_named : same above me ≡ false → IsDenialNamed accounts f me call old new t ready unlinking
@@ -284,25 +316,31 @@ module _ (accounts : Accounts) (ok : AreAccounts accounts) (old new : KernelMode
             (state cut) cuts ready.represents.jobs_given)
 
         -- the parent's segment is written, and the call is answered
-        written : Runs call_error cut new t result → Refined name
+        written : Runs M call_error cut new t result → Refined name
         written on =
             granted_step accounts f me call old new t ready result (calls_to name ++ unlinking ∷ [])
             cut so_far writing_call (λ _. Answers Done) write_said on
             (λ end done wrote right whole last.
             let all = (calls_to name ++ unlinking ∷ []) ++ writing_call ∷ [] in
-            answered_step accounts f me call old new t ready result all end whole Done refl (refused_by true mine) tt
-            (has_search accounts (state old) f me t ready name _
-            (among_then old.line t (calls_to name) (calls_to name ++ unlinking ∷ []) (writing_call ∷ [])
-            (among_then old.line t (calls_to name) (calls_to name) (unlinking ∷ [])
-            (among_granted_all old.line t (calls_to name)))))
+            answered_step accounts f me call old new t ready result all end whole Done refl (refused_by true mine) tt (
+              has_search accounts (state old) f me t ready name _
+                  (among_then old.line t (calls_to name) (calls_to name ++ unlinking ∷ []) (writing_call ∷ [])
+                  (among_then old.line t (calls_to name) (calls_to name) (unlinking ∷ [])
+                  (among_granted_all old.line t (calls_to name)))),
+              all_made _ old.line t all (left_then _ (calls_to name ++ unlinking ∷ []) writing_call []
+                  (left_then _ (calls_to name) unlinking (request writing_call ∷ []) (left_granted mine))),
+            )
             (subst (λ (s : State). RepresentsStill ready.represents s (without_process f name)) (sym wrote.state) matched_after) last)
 
-      by_kin : (b : Bool) → same above me ≡ b → Runs (ask unlinking (λ _. call_error)) mid new t result → Refined name
+      by_kin : (b : Bool) → same above me ≡ b → Runs M (ask unlinking (λ _. call_error)) mid new t result → Refined name
       by_kin false is on =
           refused_step accounts f me call old new t ready result (calls_to name) mid chain stays
-          EACCES (refused_by false is) unlinking (λ _. call_error) Modify (said false is) refl refl (unlinking_named is)
-          (has_search accounts (state old) f me t ready name _ (among_also old.line t (calls_to name) (calls_to name)
-          ((unlinking, Some Modify) ∷ []) (among_granted_all old.line t (calls_to name)))) on
+          EACCES (refused_by false is) unlinking (λ _. call_error) Modify (said false is) refl refl (unlinking_named is) (
+            has_search accounts (state old) f me t ready name _ (among_also old.line t (calls_to name) (calls_to name)
+                ((unlinking, Some Modify) ∷ []) (among_granted_all old.line t (calls_to name))),
+            made_to_denial _ old.line t (calls_to name) (request unlinking) _ Modify
+                (left_by_denial _ (calls_to name) _ EACCES (kills n above) (refused_by false is) refl refl),
+          ) on
       by_kin true is on =
           granted_step accounts f me call old new t ready result (calls_to name) mid chain unlinking
           (λ _. call_error) (said true is) on
@@ -310,7 +348,7 @@ module _ (accounts : Accounts) (ok : AreAccounts accounts) (old new : KernelMode
 
   -- the parent is found, then the child, which is killed
   kill_is_refined : (n : ℕ) (above : ProcName)
-      → Runs (kill_program (roots_of (length accounts.users)) (n ∷ above)) old new t result → Refined (n ∷ above)
+      → Runs M (kill_program (roots_of (length accounts.users)) (n ∷ above)) old new t result → Refined (n ∷ above)
   unfolding kill_program
   kill_is_refined n above run =
       search_step accounts ok old new f me t ready (calls.Kill (n ∷ above)) result above
@@ -329,10 +367,10 @@ module _ (accounts : Accounts) (ok : AreAccounts accounts) (old new : KernelMode
       found parent here mid stays chain on)
 
 -- the program of `kill` refines its rule
-pub kill_refines : KillRefines
-kill_refines accounts ok [] me old new f t result ready run =
-    from_each accounts f me (calls.Kill []) old new t result ready (λ ready.
+pub kill_refines : {M : Type 0} → KillRefines M
+kill_refines {M} accounts ok [] me old new f t result ready run =
+    from_each M accounts f me (calls.Kill []) old new t result ready (λ ready.
     kill_of_first accounts ok old new f me t ready result run)
-kill_refines accounts ok (n ∷ above) me old new f t result ready run =
-    from_each accounts f me (calls.Kill (n ∷ above)) old new t result ready (λ ready.
+kill_refines {M} accounts ok (n ∷ above) me old new f t result ready run =
+    from_each M accounts f me (calls.Kill (n ∷ above)) old new t result ready (λ ready.
     kill_is_refined accounts ok old new f me t ready result n above run)

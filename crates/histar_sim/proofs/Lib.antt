@@ -2,6 +2,8 @@
 pub mod ReadsByCall
 pub mod Chains
 pub mod FirstReasons
+pub mod Ready
+pub mod Requests
 pub mod CallErrors
 pub mod Steps
 pub mod Walks

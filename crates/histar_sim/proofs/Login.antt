@@ -1,5 +1,6 @@
 -- A login refines its rule: the gate keeps out processes in a job; else its raw calls are granted, and it ends as the user or as it was.
 use Rattle.std.proofs.Common.{◌≡◌, ℕ, ◌+◌, ◌≤◌, Bool, true, false, List, [], ◌∷◌, ◌++◌, length, Option, None, Some, Result, inl, inr, refl, sym, ap}
+use Rattle.std.proofs.Common.{if◌then◌else◌}
 use Rattle.std.proofs.Common.{◌∙◌, subst}
 use Rattle.std.specs.Prelude.{option_map, is_some}
 use Rattle.std.specs.Str.{bytes_eq}
@@ -61,11 +62,13 @@ use Rattle.histar_refinement.proofs.LoginChecks.{set_label_said, relabelled_stat
 use Rattle.histar_refinement.proofs.LoggingIn.{still_login}
 use Rattle.histar_refinement.proofs.GateLabels.{gate_label_is, gate_clearance_is}
 use Rattle.histar_refinement.proofs.CallLabels.{equal_bytes, number_by_place, user_label_is, user_clearance_is}
+use Rattle.histar_sim.specs.RawCalls.{is_password_of, logs_in, plain, requests_of, takes_labels_of}
+use Rattle.histar_sim.proofs.Requests.{request, all_made, made_to_denial}
 use Rattle.histar_sim.proofs.FirstReasons.{value_of, named_by}
 use Rattle.histar_sim.proofs.CallErrors.{FollowsFrom, IsDenialNamed, from_each}
 use Rattle.histar_sim.proofs.TakenLabels.{labels_taken, labels_back, kept_bytes}
 use Rattle.histar_sim.specs.Laws.{LoginRefines}
-use Rattle.histar_sim.specs.Simulation.{IsReady}
+use Rattle.histar_sim.proofs.Ready.{Ready}
 use Rattle.histar_sim.specs.Reads.{AreAmong}
 use Rattle.histar_sim.proofs.ReadsByCall.{reads_of_login}
 use Rattle.histar_sim.proofs.Chains.{all_granted, entries_of, Chain}
@@ -75,9 +78,9 @@ use Rattle.histar_sim.proofs.Steps.{granted_step, refused_step, refused_at_once,
 free_by_chain : (p : Process) (chain : List ProcName) → p.chain ≡ chain → is_free p ≡ elim chain as (λ _. Bool) [ [] ↦ true | job ∷ jobs ↦ false ]
 free_by_chain p chain e = λ i. elim (e i) as (λ _. Bool) [ [] ↦ true | job ∷ jobs ↦ false ]
 
-module _ (accounts : Accounts) (name : Name) (password : Password) (me : ProcName) (caller : Caller)
+module _ {M : Type 0} (accounts : Accounts) (name : Name) (password : Password) (me : ProcName) (caller : Caller)
     (old new : KernelModel) (f : Flat) (result : Result Reply Stopped)
-    (ready : IsReady accounts (state old) f me caller.thread)
+    (ready : Ready M accounts (state old) f me caller.thread)
     (found : caller_at (state old) (roots_of (length accounts.users)).home me ≡ Some caller) where
   abbrev t : ℕ
   t = caller.thread
@@ -92,7 +95,7 @@ module _ (accounts : Accounts) (name : Name) (password : Password) (me : ProcNam
   call = Login name password
 
   abbrev Goal : Type 0
-  Goal = FollowsFrom accounts f me call old new t ready.represents result
+  Goal = FollowsFrom M accounts f me call old new t ready.represents result
 
   runs_as : RunsAs accounts (state old) f l me p t
   runs_as = (ready.caller.agrees, ready.caller.runs, (thread_back accounts (state old) f l me t ready.thread).3)
@@ -115,12 +118,14 @@ module _ (accounts : Accounts) (name : Name) (password : Password) (me : ProcNam
   refused_is found alone named alone_is = λ i. refusal (named i) (alone_is i)
 
   -- no user has the name
-  unknown : place_of accounts.users name ≡ None → Runs (Answers (Refused ENOENT)) old new t result → Goal
+  unknown : place_of accounts.users name ≡ None → Runs M (Answers (Refused ENOENT)) old new t result → Goal
   unknown nowhere runs =
       refused_at_once accounts f me call old new t ready result [] old (same_kernel old) refl ENOENT
       (refused_is None (is_free p) (unnumbered_user accounts name
-      (number_by_place accounts name ∙ ap (option_map (λ place. place + 1)) nowhere)) refl) refl refl
-      (subst (λ (o : Option ℕ). AreAmong (reads_of_login accounts o false) []) (sym nowhere) tt) runs
+      (number_by_place accounts name ∙ ap (option_map (λ place. place + 1)) nowhere)) refl) refl refl (
+        subst (λ (o : Option ℕ). AreAmong (reads_of_login accounts o false) []) (sym nowhere) tt,
+        all_made _ old.line t [] (ap (λ (o : Option ℕ). plain (logs_in accounts l me p name password o)) nowhere),
+      ) runs
 
   module _ (place : ℕ) (at_place : place_of accounts.users name ≡ Some place) where
     numbered : user_number accounts name ≡ Some (place + 1)
@@ -217,6 +222,20 @@ module _ (accounts : Accounts) (name : Name) (password : Password) (me : ProcNam
         AreAmong (reads_of_login accounts o true) (entries_of old.line t (all_granted (all_calls right))))
         (sym at_place) (inr (inr (inl (refl, tt))))
 
+    -- the requests of the login up to the password, and the labels that the thread takes after it
+    asks : requests_of accounts l me p call
+        ≡ plain (OwnLabel ∷ enters ∷ reads
+        ∷ takes_labels_of accounts l me p (if is_password_of accounts l me p name password then process_then else p))
+    asks = λ k. plain (logs_in accounts l me p name password (at_place k))
+
+    asks_by : (right : Bool) → same user.0.password password ≡ right
+        → requests_of accounts l me p call
+        ≡ plain (OwnLabel ∷ enters ∷ reads ∷ takes_labels_of accounts l me p (if right then process_then else p))
+    asks_by right is =
+        asks
+        ∙ ap (λ (b : Bool). plain (OwnLabel ∷ enters ∷ reads ∷ takes_labels_of accounts l me p (if b then process_then else p)))
+        (ap (λ (o : Option User). is_some_and o (λ (u : User). same u.password password)) user.1 ∙ is)
+
     -- the thread takes the labels of rights that are no more than it has after the gate
     module _ (right : Bool) (r : Rights) (owned : (c : CategoryName) → among r.owned c ≡ true
         → among (more accounts (state old) f l me p t runs_as name (place + 1) numbered).owned c ≡ true)
@@ -234,13 +253,13 @@ module _ (accounts : Accounts) (name : Name) (password : Password) (me : ProcNam
       GoesOn =
           (later : KernelModel) → Chain old t (all_granted (all_calls right)) later
           → state later ≡ with_own (state old) t (rights_label l.category r) (rights_clearance l.category r)
-          → Runs (Answers (reply_if right)) later new t result → Goal
+          → Runs M (Answers (reply_if right)) later new t result → Goal
 
       -- the clearance after the label
       cleared : (labelled : KernelModel)
           → Chain old t (all_granted (OwnLabel ∷ enters ∷ reads ∷ takes_label right ∷ [])) labelled
           → state labelled ≡ after_label
-          → Runs (ask (takes_clearance right) (λ _. Answers (reply_if right))) labelled new t result → GoesOn → Goal
+          → Runs M (ask (takes_clearance right) (λ _. Answers (reply_if right))) labelled new t result → GoesOn → Goal
       cleared labelled chain is runs go_on =
           granted_step accounts f me call old new t ready result
           (OwnLabel ∷ enters ∷ reads ∷ takes_label right ∷ []) labelled chain (takes_clearance right)
@@ -255,7 +274,7 @@ module _ (accounts : Accounts) (name : Name) (password : Password) (me : ProcNam
           (rights_clearance l.category r))
           answers)
 
-      taken : Runs (taking right) mid new t result → GoesOn → Goal
+      taken : Runs M (taking right) mid new t result → GoesOn → Goal
       taken runs go_on =
           granted_step accounts f me call old new t ready result (OwnLabel ∷ enters ∷ reads ∷ [])
           mid so_far (takes_label right) (λ _. ask (takes_clearance right) (λ _. Answers (reply_if right)))
@@ -291,14 +310,18 @@ module _ (accounts : Accounts) (name : Name) (password : Password) (me : ProcNam
       -- after the gate, by whether the password is right
       ends : (right : Bool) → same user.0.password password ≡ right → (mid : KernelModel)
           → Chain old t (all_granted (OwnLabel ∷ enters ∷ reads ∷ [])) mid → state mid ≡ behind
-          → Runs (taking right) mid new t result → Goal
+          → Runs M (taking right) mid new t result → Goal
       ends true is mid so_far at runs =
           taken true (thread_rights accounts me process_then)
           (user_owns_less accounts (state old) f l me p t runs_as name (place + 1) numbered) (λ c e. e) (λ c e. e)
           user_takes user_clears mid so_far at runs
           (λ later chain later_is answers.
           answered_step accounts f me call old new t ready result (all_calls true) later chain Done
-          refl (refused_by true is) tt (among_calls true)
+          refl (refused_by true is) tt (
+            among_calls true,
+            all_made _ old.line t (all_calls true) (asks_by true is ∙ λ k.
+                plain (OwnLabel ∷ enters ∷ reads ∷ SetLabel (sym user_takes k) ∷ SetClearance (sym user_clears k) ∷ [])),
+          )
           (subst (λ (s : State). RepresentsStill ready.represents s (with_process f me process_then)) (sym later_is)
           (still_login accounts (state old) f ready.represents me p runs_as.0 runs_as.1 name
           (ap is_some numbered) t runs_as.2)) answers)
@@ -309,11 +332,11 @@ module _ (accounts : Accounts) (name : Name) (password : Password) (me : ProcNam
           (λ later chain later_is answers.
           refused_at_once accounts f me call old new t ready result (all_calls false) later chain
           (later_is ∙ labels_back (state old) t own clearance thread) EAUTH (refused_by false is)
-          refl refl (among_calls false) answers)
+          refl refl (among_calls false, all_made _ old.line t (all_calls false) (asks_by false is)) answers)
 
       -- the password is read
       from_gate : (inside : KernelModel) → Chain old t (all_granted (OwnLabel ∷ enters ∷ [])) inside
-          → state inside ≡ behind → Runs reading inside new t result → Goal
+          → state inside ≡ behind → Runs M reading inside new t result → Goal
       from_gate inside chain is runs =
           granted_step accounts f me call old new t ready result (OwnLabel ∷ enters ∷ []) inside
           chain reads (λ kept. taking (bytes_eq kept password))
@@ -326,7 +349,7 @@ module _ (accounts : Accounts) (name : Name) (password : Password) (me : ProcNam
 
       -- the gate lets the thread in
       let_in : (asked : KernelModel) → Chain old t (all_granted (OwnLabel ∷ [])) asked → state asked ≡ state old
-          → Runs (ask enters (λ _. reading)) asked new t result → Goal
+          → Runs M (ask enters (λ _. reading)) asked new t result → Goal
       let_in asked chain stays runs =
           granted_step accounts f me call old new t ready result (OwnLabel ∷ []) asked chain enters
           (λ _. reading)
@@ -345,20 +368,21 @@ module _ (accounts : Accounts) (name : Name) (password : Password) (me : ProcNam
 
     -- a process in a job is not let in
     kept_out : is_free p ≡ false → (asked : KernelModel) → Chain old t (all_granted (OwnLabel ∷ [])) asked
-        → state asked ≡ state old → Runs (ask enters (λ _. reading)) asked new t result → Goal
+        → state asked ≡ state old → Runs M (ask enters (λ _. reading)) asked new t result → Goal
     kept_out jobbed asked chain stays runs =
         refused_step accounts f me call old new t ready result (OwnLabel ∷ []) asked chain stays
         EACCES (refused_is (Some user.0) false user.1 jobbed) enters (λ _. reading) Gate
         (ap (λ (s : State). check s t enters) stays ∙ enters_said ∙ ap (λ (b : Bool). unless b Gate) jobbed) refl refl
-        (kept_out_named jobbed)
-        (subst (λ (o : Option ℕ). AreAmong (reads_of_login accounts o false)
-        (entries_of old.line t (all_granted (OwnLabel ∷ []) ++ (enters, Some Gate) ∷ []))) (sym at_place)
-        tt) runs
+        (kept_out_named jobbed) (
+          subst (λ (o : Option ℕ). AreAmong (reads_of_login accounts o false)
+              (entries_of old.line t (all_granted (OwnLabel ∷ []) ++ (enters, Some Gate) ∷ []))) (sym at_place) tt,
+          made_to_denial _ old.line t (OwnLabel ∷ []) (request enters) _ Gate asks,
+        ) runs
 
     -- the gate is tried, by the jobs that the process is in
     to_gate : (jobs : List ProcName) → p.chain ≡ jobs → (asked : KernelModel)
         → Chain old t (all_granted (OwnLabel ∷ [])) asked → state asked ≡ state old
-        → Runs (ask enters (λ _. reading)) asked new t result → Goal
+        → Runs M (ask enters (λ _. reading)) asked new t result → Goal
     to_gate [] is asked chain stays runs = let_in is asked chain stays runs
     to_gate (job ∷ jobs) is asked chain stays runs = kept_out (free_by_chain p (job ∷ jobs) is) asked chain stays runs
 
@@ -372,7 +396,7 @@ module _ (accounts : Accounts) (name : Name) (password : Password) (me : ProcNam
       Answers (reply_if (bytes_eq kept password))
 
     -- a user has the name
-    someone : Runs (login_as_program caller (place + 1) owners password) old new t result → Goal
+    someone : Runs M (login_as_program caller (place + 1) owners password) old new t result → Goal
     unfolding login_as_program
     someone runs =
         granted_step accounts f me call old new t ready result [] old (same_kernel old) OwnLabel with_labels asks_said runs
@@ -383,14 +407,14 @@ module _ (accounts : Accounts) (name : Name) (password : Password) (me : ProcNam
           same_Some revealed.1 clearance
               (reveals.1 ∙ ap clearance_there thread) k,
         ) in
-        to_gate p.chain refl asked chain called.state (subst (λ (x : Levels × Levels). Runs (with_labels x) asked new t result) revealed_is goes))
+        to_gate p.chain refl asked chain called.state (subst (λ (x : Levels × Levels). Runs M (with_labels x) asked new t result) revealed_is goes))
 
-  by_place : (o : Option ℕ) → place_of accounts.users name ≡ o → Runs (login_at accounts caller name password o) old new t result → Goal
+  by_place : (o : Option ℕ) → place_of accounts.users name ≡ o → Runs M (login_at accounts caller name password o) old new t result → Goal
   by_place None nowhere runs = unknown nowhere runs
   by_place (Some place) at_place runs = someone place at_place runs
 
 -- The program of `login` refines its rule.
-pub login_refines : LoginRefines
-login_refines accounts ok name password me caller old new f result ready found runs =
-    from_each accounts f me (Login name password) old new caller.thread result ready (λ ready.
+pub login_refines : {M : Type 0} → LoginRefines M
+login_refines {M} accounts ok name password me caller old new f result ready found runs =
+    from_each M accounts f me (Login name password) old new caller.thread result ready (λ ready.
     by_place accounts name password me caller old new f result ready found (place_of accounts.users name) refl runs)

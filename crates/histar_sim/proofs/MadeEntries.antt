@@ -51,10 +51,13 @@ use Rattle.histar_refinement.proofs.ClassTests.{observes_class, modifies_class}
 use Rattle.histar_refinement.proofs.DirectoryLaws.{spelling_fits}
 use Rattle.histar_refinement.proofs.Making.{count_entries, jobs_made}
 use Rattle.histar_refinement.proofs.RawChecks.{caller_passes}
-use Rattle.histar_sim.specs.Simulation.{errno_by_rule, IsReady}
+use Rattle.histar_sim.specs.Simulation.{errno_by_rule}
+use Rattle.histar_sim.proofs.Ready.{Ready}
 use Rattle.histar_sim.specs.Reads.{AreAmong}
 use Rattle.histar_sim.proofs.FirstReasons.{about_unmade}
 use Rattle.histar_sim.proofs.Chains.{all_granted, entries_of, Chain, Step}
+use Rattle.histar_sim.specs.RawCalls.{Request, plain, requests_of, unless_refused}
+use Rattle.histar_sim.proofs.Requests.{AreLeft, request, left_allowed, left_by_denial, left_then, of_denial, all_made, made_to_denial}
 use Rattle.histar_sim.proofs.CallErrors.{IsBacked, IsDenialNamed, ReadsAmong}
 use Rattle.histar_sim.proofs.Steps.{Goal, granted_step, refused_step, exhausted_step, answered_step}
 use Rattle.histar_sim.proofs.Walks.{place_at, walk_reads, holds, among_granted_all, among_then, among_also}
@@ -72,8 +75,8 @@ pub record MakesEntry (accounts : Accounts) (f : Flat) (me : ProcName) (p : Proc
   pub changes : changed accounts f me p call ≡ with_node f q (class_or_open (class_made accounts p mode)) content
   pub answers : flat.answer f me p call ≡ Done
 
-module _ (accounts : Accounts) (ok : AreAccounts accounts) (s : State) (f : Flat) (me : ProcName) (t : ℕ)
-    (ready : IsReady accounts s f me t) (d : Path) where
+module _ {M : Type 0} (accounts : Accounts) (ok : AreAccounts accounts) (s : State) (f : Flat) (me : ProcName) (t : ℕ)
+    (ready : Ready M accounts s f me t) (d : Path) where
   abbrev walk : List RawCall
   walk = walk_reads accounts ok s f me t ready d
 
@@ -85,8 +88,8 @@ module _ (accounts : Accounts) (ok : AreAccounts accounts) (s : State) (f : Flat
   pub among_asked : (line : ℕ) (more : List RawCall) → AreAmong walk (entries_of line t (all_granted (asked ++ more)))
   among_asked line more = among_then line t walk asked more (among_then line t walk walk (raw.OwnLabel ∷ []) (among_granted_all line t walk))
 
-module _ (accounts : Accounts) (ok : AreAccounts accounts) (old new : KernelModel) (f : Flat) (me : ProcName) (t : ℕ)
-    (ready : IsReady accounts (state old) f me t) (m : Name) (d : Path) (mode : Mode) (content : Content)
+module _ {M : Type 0} (accounts : Accounts) (ok : AreAccounts accounts) (old new : KernelModel) (f : Flat) (me : ProcName) (t : ℕ)
+    (ready : Ready M accounts (state old) f me t) (m : Name) (d : Path) (mode : Mode) (content : Content)
     (call : UnixCall) (result : Result Reply Stopped)
     (entry : MakesEntry accounts f me ready.caller.process (m ∷ d) mode content call) where
   abbrev Refined : Type 0
@@ -146,10 +149,39 @@ module _ (accounts : Accounts) (ok : AreAccounts accounts) (old new : KernelMode
   abbrev mine : Levels
   mine = own accounts ok (state old) f me t ready mode
 
-  module _ (make : ℕ → Levels → RawCall) (within : (room : Room) (x : Levels) → AnswerOf (make room.place.container x) → Program) where
+  -- the label that it asks for, and the requests of the call
+  abbrev wanted : Levels
+  wanted = label_made accounts (own accounts ok (state old) f me t ready mode) mode
+
+  abbrev requests : List Request
+  requests = requests_of accounts ready.represents.matched me p call
+
+  -- The object is made of a label in the directory, and after it these raw calls are made.
+  module _ (make : ℕ → Levels → RawCall) (within : (room : Room) (x : Levels) → AnswerOf (make room.place.container x) → Program)
+      (more : Levels → List RawCall)
+      (asks : AreLeft (requests_of accounts ready.represents.matched me ready.caller.process call) []
+      (plain (walk_reads accounts ok (state old) f me t ready d)
+      ++ unless_refused (refused accounts f me ready.caller.process call) (plain (raw.OwnLabel
+      ∷ make (place_at accounts ok (state old) f me t ready d).container
+      (label_made accounts (own accounts ok (state old) f me t ready mode) mode)
+      ∷ more (label_made accounts (own accounts ok (state old) f me t ready mode) mode))))) where
     -- the object is made with a label
     abbrev making : Levels → Program
     making x = ask (make place.container x) (within room_here x)
+
+    -- what is left once the thread has its own label, by the label that it asks for
+    left_own : (x : Levels) → wanted ≡ x → AreLeft requests reads (plain (raw.OwnLabel ∷ make place.container wanted ∷ more wanted))
+        → AreLeft requests calls (plain (make place.container x ∷ more x))
+    left_own x is left =
+        subst (λ (y : Levels). AreLeft requests calls (plain (make place.container y ∷ more y))) is
+        (left_then requests reads raw.OwnLabel (plain (make place.container wanted ∷ more wanted)) left)
+
+    -- what is left once the object is made with that label
+    left_made : (x : Levels) → wanted ≡ x → refused accounts f me p call ≡ None
+        → AreLeft requests (calls ++ make place.container x ∷ []) (plain (more x))
+    left_made x is allowed =
+        left_then requests calls (make place.container x) (plain (more x))
+        (left_own x is (left_allowed requests reads _ (plain (raw.OwnLabel ∷ make place.container wanted ∷ more wanted)) allowed asks))
 
     -- the call goes on once it is made with this label
     abbrev GoesOnWith : KernelModel → Levels → Type 0
@@ -157,7 +189,8 @@ module _ (accounts : Accounts) (ok : AreAccounts accounts) (old new : KernelMode
         (linked : KernelModel) (answer : AnswerOf (make place.container x))
         → Called mid linked t (make place.container x) None → IsAnswer (state mid) t (make place.container x) answer
         → Chain old t (all_granted (calls ++ make place.container x ∷ [])) linked
-        → Runs (within room_here x answer) linked new t result → Refined
+        → AreLeft requests (calls ++ make place.container x ∷ []) (plain (more x))
+        → Runs M (within room_here x answer) linked new t result → Refined
 
     -- The call goes on once the object is made: the way is open, the name is free, there is room, and the process may write the directory.
     abbrev pub GoesOn : Type 0
@@ -175,72 +208,78 @@ module _ (accounts : Accounts) (ok : AreAccounts accounts) (old new : KernelMode
       may = may_write accounts p (directory_class accounts ok (state old) f me t ready d open_so_far)
 
       -- the make call is denied, and so the Unix call is refused
-      denied : (x : Levels) (why : Denied) (errno : Errno) → check (state mid) t (make place.container x) ≡ Some why
+      denied : (x : Levels) → wanted ≡ x → (why : Denied) (errno : Errno) → check (state mid) t (make place.container x) ≡ Some why
           → errno_of why ≡ Some errno → errno_by_rule why ≡ Some errno
           → IsDenialNamed accounts f me call old new t ready (make place.container x) → refused accounts f me p call ≡ Some errno
-          → Runs (making x) mid new t result → Refined
-      denied x why errno fails revealed by_rule named is on =
+          → Runs M (making x) mid new t result → Refined
+      denied x is_wanted why errno fails revealed by_rule named is on =
           refused_step accounts f me call old new t ready result calls mid chain stays
           errno is (make place.container x) (within room_here x) why fails
-          (object.reveals x why ∙ revealed) by_rule named
-          (has_reads_made _ _ (among_also old.line t reads calls ((make place.container x, Some why) ∷ [])
-          (among_then old.line t reads reads (raw.OwnLabel ∷ []) (among_granted_all old.line t reads)))) on
+          (object.reveals x why ∙ revealed) by_rule named (
+            has_reads_made _ _ (among_also old.line t reads calls ((make place.container x, Some why) ∷ [])
+                (among_then old.line t reads reads (raw.OwnLabel ∷ []) (among_granted_all old.line t reads))),
+            made_to_denial requests old.line t calls (request (make place.container x)) (plain (more x)) why
+                (left_own x is_wanted (left_by_denial requests reads _ errno _ is (of_denial why errno by_rule) asks)),
+          ) on
 
       -- if the label is in range exactly where the flat rules let the process make something, the make call is granted or denied as they do
-      by_right : (x : Levels) (can makes has : Bool) → may ≡ can → is_some (class_made accounts p mode) ≡ makes
+      by_right : (x : Levels) → wanted ≡ x → (can makes has : Bool) → may ≡ can → is_some (class_made accounts p mode) ≡ makes
           → has_number (state old) ≡ has
           → check (state mid) t (make place.container x)
           ≡ (unless can Modify orelse unless makes Range orelse unless has TooBig)
-          → (may ≡ true → makes ≡ true → has_number (state old) ≡ true → GoesOnWith mid x) → Runs (making x) mid new t result → Refined
-      by_right x false makes has is_may is_makes is_has said go_on on =
-          denied x Modify EACCES said refl refl
+          → (may ≡ true → makes ≡ true → has_number (state old) ≡ true → GoesOnWith mid x)
+          → Runs M (making x) mid new t result → Refined
+      by_right x is_wanted false makes has is_may is_makes is_has said go_on on =
+          denied x is_wanted Modify EACCES said refl refl
           (unwritten_named accounts ok old new f me t ready m d call result no_class entry.needs open_so_far absent room
           (make place.container x) (object.makes x) is_may)
           (refused_then open_so_far absent room false makes is_may is_makes) on
-      by_right x true false has is_may is_makes is_has said go_on on =
-          denied x Range EPERM said refl refl
+      by_right x is_wanted true false has is_may is_makes is_has said go_on on =
+          denied x is_wanted Range EPERM said refl refl
           (unmade_named accounts ok old new f me t ready m d call result no_class entry.needs open_so_far absent room
           (make place.container x) (object.makes x) is_may (unmade mode)
           (entry.names ∙ ap (λ (b : Bool). unless b (unmade mode)) is_makes)
           (about_unmade accounts (state old) call (make place.container x) mode))
           (refused_then open_so_far absent room true false is_may is_makes) on
-      by_right x true true false is_may is_makes is_has said go_on on =
+      by_right x is_wanted true true false is_may is_makes is_has said go_on on =
           exhausted_step accounts f me call old new t ready result calls mid chain
           (make place.container x) (within room_here x) said (object.reveals x TooBig)
           (ap has_number stays ∙ is_has) on
-      by_right x true true true is_may is_makes is_has said go_on on =
+      by_right x is_wanted true true true is_may is_makes is_has said go_on on =
           granted_step accounts f me call old new t ready result calls mid chain
-          (make place.container x) (within room_here x) said on (go_on is_may refl is_has)
+          (make place.container x) (within room_here x) said on
+          (λ linked answer called right longer rest. go_on is_may refl is_has linked answer called right longer
+          (left_made x is_wanted (refused_then open_so_far absent room true true is_may is_makes)) rest)
 
       -- the thread makes the object with this label
-      made_step : GoesOn → Runs (making (label_made accounts mine mode)) mid new t result → Refined
+      made_step : GoesOn → Runs M (making (label_made accounts mine mode)) mid new t result → Refined
       made_step go_on on =
           makes accounts ok (state old) f me t ready mode
           (λ nothing.
-          by_right _ may false (has_number (state old)) refl nothing.nothing refl
+          by_right _ nothing.label_is may false (has_number (state old)) refl nothing.nothing refl
           (ap (λ (s : State).
           check s t (make place.container (guard_label ready.represents.matched.category nothing.guard)))
           stays ∙ object.outside nothing.guard nothing.outside) (λ is_may is_false is_has. absurd cc)
-          (subst (λ (x : Levels). Runs (making x) mid new t result) nothing.label_is on))
+          (subst (λ (x : Levels). Runs M (making x) mid new t result) nothing.label_is on))
           (λ made.
-          by_right _ may true (has_number (state old)) refl (ap is_some made.class_is) refl
+          by_right _ made.label_is may true (has_number (state old)) refl (ap is_some made.class_is) refl
           (ap (λ (s : State). check s t (make place.container (due made))) stays
           ∙ object.within made.class made.known made.guard made.guarded
           ∙ (λ k. unless may Modify orelse unless (made.within k) Range
           orelse unless (has_number (state old)) TooBig))
           (λ is_may is_true is_has. go_on open_so_far absent room made is_may is_has mid stays)
-          (subst (λ (x : Levels). Runs (making x) mid new t result) made.label_is on))
+          (subst (λ (x : Levels). Runs M (making x) mid new t result) made.label_is on))
 
     -- There is room, the thread asks for its own label and makes the object, or the call is refused.
     pub entry_step : ((open_so_far : into accounts f p d ≡ None)
         → MakesObject accounts ok (state old) f me t ready d open_so_far (make place.container))
-        → Runs (find_room (roots_of (length accounts.users)) (m ∷ d) (λ room.
+        → Runs M (find_room (roots_of (length accounts.users)) (m ∷ d) (λ room.
         ask raw.OwnLabel (λ labels. ask (make room.place.container (label_made accounts labels.0 mode))
         (within room (label_made accounts labels.0 mode))))) old new t result
         → GoesOn → Refined
     entry_step object run go_on =
         let there = thread accounts ok (state old) f me t ready in
-        room_step accounts ok old new f me t ready m d call result no_class entry.needs [] old refl (same_kernel old)
+        room_step accounts ok old new f me t ready m d call result no_class entry.needs [] old refl (same_kernel old) _ asks
         (λ room. ask raw.OwnLabel (λ labels. ask (make room.place.container (label_made accounts labels.0 mode))
         (within room (label_made accounts labels.0 mode)))) run
         (λ open_so_far absent room mid stays chain on.
@@ -254,7 +293,7 @@ module _ (accounts : Accounts) (ok : AreAccounts accounts) (old new : KernelMode
         same_Some labels.0 mine
         (right.0 ∙ ap (λ (s : State). label_there (s.objects t)) stays ∙ ap label_there there) in
         made_step open_so_far absent room (object open_so_far) later (called.state ∙ stays) longer go_on
-        (subst (λ (x : Levels). Runs (making (label_made accounts x mode)) later new t result) is_own rest)))
+        (subst (λ (x : Levels). Runs M (making (label_made accounts x mode)) later new t result) is_own rest)))
 
   -- ---- the directory is written
 
@@ -291,11 +330,12 @@ module _ (accounts : Accounts) (ok : AreAccounts accounts) (old new : KernelMode
 
     -- The directory is written with the entry, and the call is done, if the objects then match the flat state with the new entry.
     pub entry_written : (before : List RawCall) → AreAmong reads (entries_of old.line t (all_granted before))
+        → AreLeft requests before (request (raw.Write place.container place.listing 0 bytes) ∷ [])
         → (linked : KernelModel) → state linked ≡ later → Chain old t (all_granted before) linked
         → (matched : ObjectsMatch accounts after (with_node f (m ∷ d) made.class content))
         → KeepsNames ready.represents.matched matched
-        → Runs (write_entries room_here.place (map.insert room_here.entries m target) (λ _. Answers Done)) linked new t result → Refined
-    entry_written before among linked is_later chain matched names on =
+        → Runs M (write_entries room_here.place (map.insert room_here.entries m target) (λ _. Answers Done)) linked new t result → Refined
+    entry_written before among left linked is_later chain matched names on =
         let write : RawCall = raw.Write place.container place.listing 0 bytes in
         let jobs =
         jobs_made accounts (state old) f ready.represents.matched d m made.class content absent made.fits made.known
@@ -309,6 +349,9 @@ module _ (accounts : Accounts) (ok : AreAccounts accounts) (old new : KernelMode
         answered_step accounts f me call old new t ready result (before ++ write ∷ []) end whole
         Done (sym entry.answers) (refused_then open_so_far absent room true true is_may (ap is_some made.class_is))
         (subst (λ (r : Reply). IsBacked (state old) (entries_of old.line t (all_granted (before ++ write ∷ []))) r)
-        (sym entry.answers) tt) (has_reads_made _ _ (among_then old.line t reads before (write ∷ []) among))
+        (sym entry.answers) tt) (
+          has_reads_made _ _ (among_then old.line t reads before (write ∷ []) among),
+          all_made requests old.line t (before ++ write ∷ []) (left_then requests before write [] left),
+        )
         (subst (λ (s : State). RepresentsStill ready.represents s (changed accounts f me p call)) (sym end_state)
         (subst (RepresentsStill ready.represents after) (sym changed_is) still)) last)

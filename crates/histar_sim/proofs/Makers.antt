@@ -31,7 +31,7 @@ use Rattle.histar_refinement.proofs.MakingRanges.{is_made_within, private_range,
 use Rattle.histar_refinement.proofs.MakingRanges.{made_in_range}
 use Rattle.histar_refinement.proofs.ListedFiles.{ClassFits, AreKnown, made_fits, made_known}
 use Rattle.histar_refinement.proofs.CallLabels.{reads_numbered, private_label, readable_label, group_label, user_of_thread}
-use Rattle.histar_sim.specs.Simulation.{IsReady}
+use Rattle.histar_sim.proofs.Ready.{Ready}
 use Rattle.histar_sim.proofs.FoundObjects.{is_nobody}
 
 -- the guard of what is for the group of this number; without a group, nobody's
@@ -53,8 +53,8 @@ class_of_mode modes.Readable user = Readable user
 class_of_mode modes.Open user = Open
 class_of_mode (modes.Group group) user = Grouped group
 
-module _ (accounts : Accounts) (ok : AreAccounts accounts) (s : State) (f : Flat) (me : ProcName) (t : ℕ)
-    (ready : IsReady accounts s f me t) (mode : Mode) where
+module _ {M : Type 0} (accounts : Accounts) (ok : AreAccounts accounts) (s : State) (f : Flat) (me : ProcName) (t : ℕ)
+    (ready : Ready M accounts s f me t) (mode : Mode) where
   abbrev p : Process
   p = ready.caller.process
 

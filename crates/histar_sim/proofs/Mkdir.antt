@@ -43,14 +43,16 @@ use Rattle.histar_refinement.proofs.ClassTests.{observes_class, modifies_class}
 use Rattle.histar_refinement.proofs.Creating.{matched_directory_created, names_of_directory}
 use Rattle.histar_refinement.proofs.FileChecks.{is_known}
 use Rattle.histar_refinement.proofs.Tested.{guard_owns_nothing}
-use Rattle.histar_sim.specs.Simulation.{IsReady}
+use Rattle.histar_sim.specs.RawCalls.{plain, requests_of, writes_entries}
+use Rattle.histar_sim.proofs.Requests.{AreLeft, left_then}
+use Rattle.histar_sim.proofs.Ready.{Ready}
 use Rattle.histar_sim.specs.Laws.{MkdirRefines}
 use Rattle.histar_sim.proofs.CallErrors.{from_each}
 use Rattle.histar_sim.proofs.Chains.{all_granted, Chain}
 use Rattle.histar_sim.proofs.Steps.{Goal, granted_step, exhausted_step}
 use Rattle.histar_sim.proofs.Walks.{runs, walk_reads, among_then}
 use Rattle.histar_sim.proofs.FoundObjects.{container, listing, directory_class, directory_agrees, container_numbered, listing_numbered, may_look}
-use Rattle.histar_sim.proofs.FoundObjects.{below, listing_still, listing_then, inside_passes, container_made}
+use Rattle.histar_sim.proofs.FoundObjects.{below, entries, listing_still, listing_then, inside_passes, container_made}
 use Rattle.histar_sim.proofs.Makers.{MakesClass}
 use Rattle.histar_sim.proofs.FoundRoom.{slash_agrees, the_room}
 use Rattle.histar_sim.proofs.MadeEntries.{MakesEntry, asked, among_asked, GoesOn, entry_step, entry_written}
@@ -83,8 +85,8 @@ call_error room inner segment = write_entries room.place (map.insert room.entrie
 abbrev within : Room → Levels → ℕ → Program
 within room x inner = ask (raw.MakeSegment inner x []) (call_error room inner)
 
-module _ (accounts : Accounts) (ok : AreAccounts accounts) (old new : KernelModel) (f : Flat) (me : ProcName) (t : ℕ)
-    (ready : IsReady accounts (state old) f me t) (m : Name) (named : IsTrue (is_name m)) (d : Path) (mode : Mode)
+module _ {M : Type 0} (accounts : Accounts) (ok : AreAccounts accounts) (old new : KernelModel) (f : Flat) (me : ProcName) (t : ℕ)
+    (ready : Ready M accounts (state old) f me t) (m : Name) (named : IsTrue (is_name m)) (d : Path) (mode : Mode)
     (result : Result Reply Stopped) where
   abbrev call : UnixCall
   call = calls.Mkdir (m ∷ d) mode
@@ -103,6 +105,12 @@ module _ (accounts : Accounts) (ok : AreAccounts accounts) (old new : KernelMode
 
   abbrev room_here : Room
   room_here = the_room accounts ok (state old) f me t ready d m
+
+  -- then the directory segment is made, and the directory is written
+  abbrev more : Levels → List RawCall
+  more x = raw.MakeSegment (state old).next_object x []
+      ∷ writes_entries accounts ready.represents.matched d (map.insert (entries accounts ok (state old) f me t ready d) m
+      (targets.Directory (state old).next_object ((state old).next_object + 1))) ∷ []
 
   -- the number of the container
   abbrev new_container : ℕ
@@ -149,14 +157,17 @@ module _ (accounts : Accounts) (ok : AreAccounts accounts) (old new : KernelMode
     -- once the container is made
     module _ (linked : KernelModel) (linked_state : state linked ≡ with_container)
         (so_far : Chain old t (all_granted (asked accounts ok (state old) f me t ready d ++ make above due ∷ []))
-        linked) where
+        linked)
+        (left : AreLeft (requests_of accounts ready.represents.matched me ready.caller.process call)
+        (asked accounts ok (state old) f me t ready d ++ make above due ∷ []) (plain (more due))) where
       abbrev before : List RawCall
       before = asked accounts ok (state old) f me t ready d ++ make above due ∷ []
 
       -- once the directory segment is made too the directory is written
       written : has_number with_container ≡ true → (inside : KernelModel) (number : ℕ)
           → Called linked inside t next None → number ≡ (state linked).next_object
-          → Chain old t (all_granted (before ++ next ∷ [])) inside → Runs (call_error room_here new_container number) inside new t result → Refined
+          → Chain old t (all_granted (before ++ next ∷ [])) inside
+          → Runs M (call_error room_here new_container number) inside new t result → Refined
       written more inside number called number_is chain rest =
           let segment : Object Levels = record { label = due; kind = Segment [] } in
           let class = directory_class accounts ok (state old) f me t ready d open_so_far in
@@ -179,11 +190,13 @@ module _ (accounts : Accounts) (ok : AreAccounts accounts) (old new : KernelMode
           (with_object with_container new_container segment) (listing_then accounts ok (state old) f me t ready d open_so_far held segment)
           (before ++ next ∷ []) (among_then old.line t (walk_reads accounts ok (state old) f me t ready d) before (next ∷ [])
           (among_asked accounts ok (state old) f me t ready d old.line (make above due ∷ [])))
-          inside (called.state ∙ ap (λ (s : State). with_object s new_container segment) linked_state) chain later.0 names
-          (subst (λ (q : ℕ). Runs (call_error room_here new_container q) inside new t result)
+          (left_then _ before next _ left) inside
+          (called.state ∙ ap (λ (s : State). with_object s new_container segment) linked_state) chain later.0 names
+          (subst (λ (q : ℕ). Runs M (call_error room_here new_container q) inside new t result)
           (number_is ∙ ap (λ (s : State). s.next_object) linked_state) rest)
 
-      by_more : (more : Bool) → has_number with_container ≡ more → Runs (ask next (call_error room_here new_container)) linked new t result → Refined
+      by_more : (more : Bool) → has_number with_container ≡ more
+          → Runs M (ask next (call_error room_here new_container)) linked new t result → Refined
       by_more false is on =
           exhausted_step accounts f me call old new t ready result before linked so_far next
           (call_error room_here new_container)
@@ -196,25 +209,26 @@ module _ (accounts : Accounts) (ok : AreAccounts accounts) (old new : KernelMode
           (λ inside number called number_is chain rest. written is inside number called number_is chain rest)
 
   -- once the container is made its directory segment is
-  goes_on : GoesOn accounts ok old new f me t ready m d mode Dir call result makes make within
-  goes_on open_so_far absent room made is_may has mid stays linked inner called inner_is chain rest =
+  goes_on : GoesOn accounts ok old new f me t ready m d mode Dir call result makes make within more refl
+  goes_on open_so_far absent room made is_may has mid stays linked inner called inner_is chain left rest =
       let label : Levels = guard_label ready.represents.matched.category made.guard in
       let held : Object Levels = record { label = label; kind = Container set.empty } in
       by_more open_so_far absent room made is_may linked
-      (called.state ∙ ap (λ (s : State). with_object s above held) stays) chain
+      (called.state ∙ ap (λ (s : State). with_object s above held) stays) chain left
       (has_number (with_object (state old) above held)) refl
-      (subst (λ (q : ℕ). Runs (within room_here label q) linked new t result) (inner_is ∙ ap (λ (s : State). s.next_object) stays) rest)
+      (subst (λ (q : ℕ). Runs M (within room_here label q) linked new t result) (inner_is ∙ ap (λ (s : State). s.next_object) stays) rest)
 
 -- the program of `mkdir` refines its rule
-pub mkdir_refines : MkdirRefines
+pub mkdir_refines : {M : Type 0} → MkdirRefines M
 unfolding mkdir_program
-mkdir_refines accounts ok [] mode right me old new f t result ready run =
-    from_each accounts f me (calls.Mkdir [] mode) old new t result ready (λ ready.
+mkdir_refines {M} accounts ok [] mode right me old new f t result ready run =
+    from_each M accounts f me (calls.Mkdir [] mode) old new t result ready (λ ready.
     slash_agrees accounts old new f me t ready (calls.Mkdir [] mode) result _
-    (mkdir_makes accounts f me ready.caller.process [] mode).needs [] old refl (same_kernel old) _ run)
-mkdir_refines accounts ok (m ∷ d) mode right me old new f t result ready run =
-    from_each accounts f me (calls.Mkdir (m ∷ d) mode) old new t result ready (λ ready.
+    (mkdir_makes accounts f me ready.caller.process [] mode).needs [] old refl (same_kernel old) refl _ run)
+mkdir_refines {M} accounts ok (m ∷ d) mode right me old new f t result ready run =
+    from_each M accounts f me (calls.Mkdir (m ∷ d) mode) old new t result ready (λ ready.
     entry_step accounts ok old new f me t ready m d mode Dir (calls.Mkdir (m ∷ d) mode) result
     (mkdir_makes accounts f me ready.caller.process (m ∷ d) mode) make within
+    (more accounts ok old new f me t ready m (last_name m d right) d mode result) refl
     (λ open_so_far. container_made accounts ok (state old) f me t ready d open_so_far) run
     (goes_on accounts ok old new f me t ready m (last_name m d right) d mode result))

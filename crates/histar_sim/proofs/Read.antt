@@ -32,24 +32,31 @@ use Rattle.histar_programs.specs.Parts.{ask}
 use Rattle.histar_calls.specs.Read.{read_program}
 use Rattle.histar_refinement.specs.Accounts.{AreAccounts}
 use Rattle.histar_refinement.proofs.KeepingNames.{still_represents}
-use Rattle.histar_sim.specs.Simulation.{IsReady, EndsWithRead}
+use Rattle.histar_sim.specs.Simulation.{EndsWithRead}
+use Rattle.histar_sim.proofs.Ready.{Ready}
 use Rattle.histar_sim.specs.Laws.{ReadRefines}
 use Rattle.histar_sim.proofs.FirstReasons.{unread_at, named_by}
 use Rattle.histar_sim.proofs.Chains.{all_granted, entries_of, Chain}
 use Rattle.histar_sim.proofs.CallErrors.{IsDenialNamed, from_each, read_last}
 use Rattle.histar_sim.proofs.Steps.{Goal, granted_step, refused_step, answered_step}
-use Rattle.histar_sim.proofs.Walks.{walk_reads, walked_then, walked_also}
-use Rattle.histar_sim.proofs.Files.{ReachesFile, slash_is_no_file, reached, reached_reason, file_step}
+use Rattle.histar_sim.proofs.Walks.{walk_reads}
+use Rattle.histar_sim.proofs.Files.{ReachesFile, slash_is_no_file, reached, reached_reason, denied_there, granted_there, file_step}
 use Rattle.histar_sim.proofs.FoundObjects.{container, segment, file_led_to, reads_is, held_there, read_said}
 
 -- a read reaches the file that it reads
 read_reaches : (accounts : Accounts) (f : Flat) (me : ProcName) (p : Process) (q : Path)
-    → ReachesFile accounts f me p q (calls.Read q) (unless (reads accounts f p q) EACCES)
+    → ReachesFile accounts f me p q (calls.Read q) (unless (reads accounts f p q) EACCES) (λ container segment. raw.Read container segment)
 read_reaches accounts f me p q =
-    record { refuses = refl; named = not_read accounts f p q; explains = refl; reads = λ s reply entries walk. walk }
+    record {
+      refuses = refl;
+      named = not_read accounts f p q;
+      explains = refl;
+      reads = λ s reply entries walk. walk;
+      asks = λ s l. refl;
+    }
 
-module _ (accounts : Accounts) (ok : AreAccounts accounts) (old new : KernelModel) (f : Flat) (me : ProcName) (t : ℕ)
-    (ready : IsReady accounts (state old) f me t) (m : Name) (d : Path) (result : Result Reply Stopped) where
+module _ {M : Type 0} (accounts : Accounts) (ok : AreAccounts accounts) (old new : KernelModel) (f : Flat) (me : ProcName) (t : ℕ)
+    (ready : Ready M accounts (state old) f me t) (m : Name) (d : Path) (result : Result Reply Stopped) where
   abbrev call : UnixCall
   call = calls.Read (m ∷ d)
 
@@ -81,7 +88,7 @@ module _ (accounts : Accounts) (ok : AreAccounts accounts) (old new : KernelMode
 
     refused_by : (may : Bool) → reads accounts f p (m ∷ d) ≡ may → refused accounts f me p call ≡ unless may EACCES
     refused_by may is =
-        reached accounts ok old new f me t ready m d call result _ (read_reaches accounts f me p (m ∷ d)) open_so_far
+        reached accounts ok old new f me t ready m d call result _ _ (read_reaches accounts f me p (m ∷ d)) open_so_far
         class bytes at ∙ ap (λ (b : Bool). unless b EACCES) is
 
     -- the read is on what the reason names that the file may not be read
@@ -93,19 +100,21 @@ module _ (accounts : Accounts) (ok : AreAccounts accounts) (old new : KernelMode
         let found = unread_at accounts f p (m ∷ d) node at fails in
         let there = file_led_to accounts ok (state old) f me t ready d open_so_far m class bytes at in
         named_by accounts (state old) f me p call next (MayNotRead (m ∷ d) found.0)
-        (reached_reason accounts ok old new f me t ready m d call result _ (read_reaches accounts f me p (m ∷ d)) open_so_far class bytes at
+        (reached_reason accounts ok old new f me t ready m d call result _ _ (read_reaches accounts f me p (m ∷ d)) open_so_far class bytes at
         ∙ found.1)
         (container accounts ok (state old) f me t ready d, file, inr there, refl)
 
     held : bytes_in ((state mid).objects file) ≡ bytes_at f (m ∷ d)
     held = ap (λ (s : State). bytes_in (s.objects file)) stays ∙ held_there accounts ok (state old) f me t ready d open_so_far m class bytes at
 
-    by_right : (may : Bool) → reads accounts f p (m ∷ d) ≡ may → Runs (ask next (λ (b : List ℕ). Answers (Data b))) mid new t result → Refined
+    by_right : (may : Bool) → reads accounts f p (m ∷ d) ≡ may
+        → Runs M (ask next (λ (b : List ℕ). Answers (Data b))) mid new t result → Refined
     by_right false is on =
         refused_step accounts f me call old new t ready result walk mid chain stays
         EACCES (refused_by false is) next (λ (b : List ℕ). Answers (Data b)) Observe
         (said_by false is) refl refl (unread_named is)
-        (walked_also accounts ok (state old) f me t ready m d old.line ((next, Some Observe) ∷ [])) on
+        (denied_there accounts ok old new f me t ready m d call result _ _ (read_reaches accounts f me p (m ∷ d))
+        EACCES Observe (refused_by false is) refl) on
     by_right true is on =
         granted_step accounts f me call old new t ready result walk mid chain next
         (λ (b : List ℕ). Answers (Data b)) (said_by true is) on
@@ -120,19 +129,21 @@ module _ (accounts : Accounts) (ok : AreAccounts accounts) (old new : KernelMode
         let same : state later ≡ state old = called.state ∙ stays in
         answered_step accounts f me call old new t ready result (walk ++ next ∷ []) later longer
         (Data answer) (ap Data answer_is) (refused_by true is) backed
-        (walked_then accounts ok (state old) f me t ready m d old.line (next ∷ []))
+        (granted_there accounts ok old new f me t ready m d call result _ _ (read_reaches accounts f me p (m ∷ d))
+        (Data (bytes_at f (m ∷ d))) (refused_by true is))
         (still_represents ready.represents _ same) end)
 
 -- the program of `read` refines its rule
-pub read_refines : ReadRefines
+pub read_refines : {M : Type 0} → ReadRefines M
 unfolding read_program
-read_refines accounts ok [] me old new f t result ready run =
-    from_each accounts f me (calls.Read []) old new t result ready (λ ready.
-    slash_is_no_file accounts old new f me t ready (calls.Read []) result _
+read_refines {M} accounts ok [] me old new f t result ready run =
+    from_each M accounts f me (calls.Read []) old new t result ready (λ ready.
+    slash_is_no_file accounts old new f me t ready (calls.Read []) result _ _
     (read_reaches accounts f me ready.caller.process []) _ run)
-read_refines accounts ok (m ∷ d) me old new f t result ready run =
-    from_each accounts f me (calls.Read (m ∷ d)) old new t result ready (λ ready.
-    file_step accounts ok old new f me t ready m d (calls.Read (m ∷ d)) result _ (read_reaches accounts f me ready.caller.process (m ∷ d)) _ run
+read_refines {M} accounts ok (m ∷ d) me old new f t result ready run =
+    from_each M accounts f me (calls.Read (m ∷ d)) old new t result ready (λ ready.
+    file_step accounts ok old new f me t ready m d (calls.Read (m ∷ d)) result _ _
+    (read_reaches accounts f me ready.caller.process (m ∷ d)) _ run
     (λ open_so_far class bytes at mid stays chain on.
     by_right accounts ok old new f me t ready m d result open_so_far class bytes at mid stays chain
     (reads accounts f ready.caller.process (m ∷ d)) refl on))

@@ -1,5 +1,6 @@
 -- The program of `rename` refines its rule.
-use Rattle.std.proofs.Common.{◌≡◌, ℕ, Bool, true, false, List, [], ◌∷◌, ◌++◌, Option, None, Some, Result, refl, sym, ap, ◌∙◌, subst, length}
+use Rattle.std.proofs.Common.{◌≡◌, ℕ, Bool, true, false, List, [], ◌∷◌, ◌++◌, Option, None, Some, Result}
+use Rattle.std.proofs.Common.{refl, sym, ap, ◌∙◌, subst, length, inl}
 use Rattle.std.proofs.Common.{inl, inr}
 use Rattle.std.specs.Prelude.{IsTrue, not}
 use Rattle.std.specs.FinMap as map
@@ -44,7 +45,9 @@ use Rattle.histar_refinement.proofs.DirectoryLaws.{get_directory}
 use Rattle.histar_refinement.proofs.FileChecks.{write_listing_said}
 use Rattle.histar_refinement.proofs.ListedFiles.{leads_at}
 use Rattle.histar_refinement.proofs.Renaming.{listable_renamed, still_renamed}
-use Rattle.histar_sim.specs.Simulation.{IsReady}
+use Rattle.histar_sim.specs.RawCalls.{plain, requests_of, unless_refused, with_name, writes_entries}
+use Rattle.histar_sim.proofs.Requests.{AreLeft, request, left_allowed, left_by_denial, left_then, all_made, made_to_denial, made_to_end}
+use Rattle.histar_sim.proofs.Ready.{Ready}
 use Rattle.histar_sim.proofs.CallErrors.{from_each, IsDenialNamed}
 use Rattle.histar_sim.proofs.Chains.{all_granted, Chain}
 use Rattle.histar_sim.proofs.Steps.{Goal, granted_step, refused_step, refused_at_once, answered_step}
@@ -54,8 +57,8 @@ use Rattle.histar_sim.specs.Laws.{RenameRefines}
 use Rattle.histar_sim.proofs.Entries.{target_at, entry_leads, reached, entry_step, entry_explained, entry_clear}
 use Rattle.histar_sim.proofs.FirstReasons.{unwritten_at, named_by}
 
-module _ (accounts : Accounts) (ok : AreAccounts accounts) (old new : KernelModel) (f : Flat) (me : ProcName) (t : ℕ)
-    (ready : IsReady accounts (state old) f me t) (m : Name) (d : Path) (name : Name) (named : IsTrue (is_name name))
+module _ {M : Type 0} (accounts : Accounts) (ok : AreAccounts accounts) (old new : KernelModel) (f : Flat) (me : ProcName) (t : ℕ)
+    (ready : Ready M accounts (state old) f me t) (m : Name) (d : Path) (name : Name) (named : IsTrue (is_name name))
     (result : Result Reply Stopped) where
   abbrev call : UnixCall
   call = calls.Rename (m ∷ d) name
@@ -138,6 +141,15 @@ module _ (accounts : Accounts) (ok : AreAccounts accounts) (old new : KernelMode
     abbrev next : RawCall
     next = raw.Write container listing 0 (spelling renamed)
 
+    -- the write of the directory is what is left after the walk
+    left_walked : AreLeft (requests_of accounts ready.represents.matched me p call) walk
+        (unless_refused (refused accounts f me p call) (request next ∷ []))
+    left_walked =
+        ap (λ (o : Option Target).
+        plain walk ++ unless_refused (refused accounts f me p call) (plain (writes_entries accounts ready.represents.matched d
+        (with_name accounts ready.represents.matched entries m name o) ∷ [])))
+        (entry_leads accounts ok (state old) f me t ready m d class content at)
+
     module _ (absent : get f.files (name ∷ d) ≡ None) where
       -- the kernel's check is the flat rule
       said : (may : Bool) → may_write accounts p root ≡ may → check (state mid) t next ≡ unless may Modify
@@ -162,62 +174,74 @@ module _ (accounts : Accounts) (ok : AreAccounts accounts) (old new : KernelMode
           still_renamed accounts (state old) f ready.represents.matched m name d listing at_N absent target leads
           ready.represents.jobs_given named is_dir_here
 
-      by_right : (may : Bool) → may_write accounts p root ≡ may → Runs (ask next (λ _. Answers Done)) mid new t result → Refined
+      by_right : (may : Bool) → may_write accounts p root ≡ may → Runs M (ask next (λ _. Answers Done)) mid new t result → Refined
       by_right false is_may on =
           refused_step accounts f me call old new t ready result walk mid chain stays
           EACCES (refused_by None false absent is_may) next (λ _. Answers Done) Modify
-          (said false is_may) refl refl (unwritten_named is_may)
-          (walked_also accounts ok (state old) f me t ready m d old.line ((next, Some Modify) ∷ [])) on
+          (said false is_may) refl refl (unwritten_named is_may) (
+            walked_also accounts ok (state old) f me t ready m d old.line ((next, Some Modify) ∷ []),
+            made_to_denial _ old.line t walk (request next) [] Modify
+                (left_by_denial _ walk _ EACCES (request next ∷ []) (refused_by None false absent is_may) refl left_walked),
+          ) on
       by_right true is_may on =
           granted_step accounts f me call old new t ready result walk mid chain next (λ _. Answers Done) (said true is_may) on
           (λ later answer called right longer end.
           let new_state : state later ≡ with_segment_bytes (state old) listing (spelling renamed) =
           called.state ∙ ap (λ (s : State). with_segment_bytes s listing (spelling renamed)) stays in
           answered_step accounts f me call old new t ready result (walk ++ next ∷ []) later longer
-          Done refl (refused_by None true absent is_may) tt
-          (walked_then accounts ok (state old) f me t ready m d old.line (next ∷ []))
+          Done refl (refused_by None true absent is_may) tt (
+            walked_then accounts ok (state old) f me t ready m d old.line (next ∷ []),
+            all_made _ old.line t (walk ++ next ∷ []) (left_then _ walk next []
+                (left_allowed _ walk _ (request next ∷ []) (refused_by None true absent is_may) left_walked)),
+          )
           (subst (λ (s : State). RepresentsStill ready.represents s (with_renamed f (m ∷ d) (name ∷ d))) (sym new_state) matched_after) end)
 
     -- once the new name was looked up
     abbrev at_name : Option Target → Program
     at_name o = given (must_be_free o) (λ _. ask next (λ _. Answers Done))
 
-    by_name : (o : Option Node) → get f.files (name ∷ d) ≡ o → Runs (at_name (map.get entries name)) mid new t result → Refined
+    by_name : (o : Option Node) → get f.files (name ∷ d) ≡ o → Runs M (at_name (map.get entries name)) mid new t result → Refined
     by_name None absent on =
-        by_right absent (may_write accounts p root) refl (subst (λ (o : Option Target). Runs (at_name o) mid new t result)
+        by_right absent (may_write accounts p root) refl (subst (λ (o : Option Target). Runs M (at_name o) mid new t result)
         (nothing_there accounts ok (state old) f me t ready name d absent) on)
     by_name (Some node) is on =
         refused_at_once accounts f me call old new t ready result walk mid chain stays
-        EEXIST (refused_by (Some node) (may_write accounts p root) is refl) refl refl
-        (has_walk accounts ok (state old) f me t ready m d _ (among_granted_all old.line t walk))
-        (subst (λ (o : Option Target). Runs (at_name o) mid new t result)
+        EEXIST (refused_by (Some node) (may_write accounts p root) is refl) refl refl (
+          has_walk accounts ok (state old) f me t ready m d _ (among_granted_all old.line t walk),
+          made_to_end _ old.line t EEXIST walk (all_granted walk) _ (request next ∷ [])
+              (refused_by (Some node) (may_write accounts p root) is refl) left_walked (inl (refl, refl)),
+        )
+        (subst (λ (o : Option Target). Runs M (at_name o) mid new t result)
         (entry_leads accounts ok (state old) f me t ready name d node.class node.content is) on)
 
-  rename_is_refined : Runs (rename_program (roots_of (length accounts.users)) (m ∷ d) name) old new t result → Refined
+  rename_is_refined : Runs M (rename_program (roots_of (length accounts.users)) (m ∷ d) name) old new t result → Refined
   unfolding rename_program
   rename_is_refined run =
       entry_step accounts ok old new f me t ready m d call result
       (refusal (get f.files (name ∷ d)) (writes accounts f p d)) refl
-      (λ _ steps r among. has_walk accounts ok (state old) f me t ready m d _ among) _
+      (λ _ steps r among. has_walk accounts ok (state old) f me t ready m d _ among)
+      (plain (writes_entries accounts ready.represents.matched d
+      (with_name accounts ready.represents.matched entries m name (map.get entries m)) ∷ []))
+      (λ none. refl) _
       (entry_explained accounts f me p m d call
       (unless (not (is_there f (name ∷ d))) (IsTaken (name ∷ d)) orelse not_written accounts f p d) refl) run
       (λ open_so_far class content at mid stays chain on. by_name open_so_far class content at mid stays chain (get f.files (name ∷ d)) refl on)
 
 -- a rename of `/`
-rename_of_slash : (accounts : Accounts) (old new : KernelModel) (f : Flat) (me : ProcName) (t : ℕ) (name : Name)
-    (result : Result Reply Stopped) (ready : IsReady accounts (state old) f me t)
-    → Runs (rename_program (roots_of (length accounts.users)) [] name) old new t result
+rename_of_slash : {M : Type 0} → (accounts : Accounts) (old new : KernelModel) (f : Flat) (me : ProcName) (t : ℕ) (name : Name)
+    (result : Result Reply Stopped) (ready : Ready M accounts (state old) f me t)
+    → Runs M (rename_program (roots_of (length accounts.users)) [] name) old new t result
     → Goal accounts f me (calls.Rename [] name) old new t ready result
 unfolding rename_program find_entry
 rename_of_slash accounts old new f me t name result ready run =
     refused_at_once accounts f me (calls.Rename [] name) old new t ready result [] old
-    (same_kernel old) refl EBUSY refl refl refl tt run
+    (same_kernel old) refl EBUSY refl refl refl (tt, refl) run
 
 -- the program of `rename` refines its rule
-pub rename_refines : RenameRefines
-rename_refines accounts ok [] name named me old new f t result ready run =
-    from_each accounts f me (calls.Rename [] name) old new t result ready (λ ready.
+pub rename_refines : {M : Type 0} → RenameRefines M
+rename_refines {M} accounts ok [] name named me old new f t result ready run =
+    from_each M accounts f me (calls.Rename [] name) old new t result ready (λ ready.
     rename_of_slash accounts old new f me t name result ready run)
-rename_refines accounts ok (m ∷ d) name named me old new f t result ready run =
-    from_each accounts f me (calls.Rename (m ∷ d) name) old new t result ready (λ ready.
+rename_refines {M} accounts ok (m ∷ d) name named me old new f t result ready run =
+    from_each M accounts f me (calls.Rename (m ∷ d) name) old new t result ready (λ ready.
     rename_is_refined accounts ok old new f me t ready m d name named result run)

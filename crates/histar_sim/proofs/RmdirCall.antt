@@ -1,5 +1,6 @@
 -- The program of `rmdir` refines its rule.
 use Rattle.std.proofs.Common.{◌≡◌, ℕ, ◌==◌, ◌&&◌, Bool, true, false, List, [], ◌∷◌, ◌++◌, Option, None, Some, Result, Ok, Err, refl, sym, ap, ◌∙◌}
+use Rattle.std.proofs.Common.{inl, inr}
 use Rattle.std.proofs.Common.{subst, length, if◌then◌else◌}
 use Rattle.std.proofs.lemmas.List.{map-append, append-nil}
 use Rattle.std.specs.Prelude.{not, is_some, map}
@@ -34,7 +35,9 @@ use Rattle.histar_moves.specs.Rmdir.{rmdir_program}
 use Rattle.histar_programs.specs.Start.{roots_of}
 use Rattle.histar_refinement.specs.Accounts.{AreAccounts}
 use Rattle.histar_refinement.proofs.Making.{count_entries}
-use Rattle.histar_sim.specs.Simulation.{IsReady}
+use Rattle.histar_sim.specs.RawCalls.{Request, plain, removes, requests_of, unless_refused}
+use Rattle.histar_sim.proofs.Requests.{AreLeft, made_to_end}
+use Rattle.histar_sim.proofs.Ready.{Ready}
 use Rattle.histar_sim.specs.Reads.{AreAmong, tested}
 use Rattle.histar_sim.proofs.Chains.{Step, all_granted, entries_of, Chain}
 use Rattle.histar_sim.proofs.CallErrors.{from_each, ReadsAmong}
@@ -49,8 +52,8 @@ use Rattle.histar_sim.proofs.TakingAway.{take_away_step}
 abbrev unless_filled : Bool → Result (Unit {0}) Errno
 unless_filled empty = if empty then Ok tt else Err ENOTEMPTY
 
-module _ (accounts : Accounts) (ok : AreAccounts accounts) (old new : KernelModel) (f : Flat) (me : ProcName) (t : ℕ)
-    (ready : IsReady accounts (state old) f me t) (m : Name) (d : Path) (result : Result Reply Stopped) where
+module _ {M : Type 0} (accounts : Accounts) (ok : AreAccounts accounts) (old new : KernelModel) (f : Flat) (me : ProcName) (t : ℕ)
+    (ready : Ready M accounts (state old) f me t) (m : Name) (d : Path) (result : Result Reply Stopped) where
   abbrev call : UnixCall
   call = calls.Rmdir (m ∷ d)
 
@@ -95,6 +98,22 @@ module _ (accounts : Accounts) (ok : AreAccounts accounts) (old new : KernelMode
         (subst (λ (calls : List RawCall). AreAmong calls (entries_of old.line t steps))
         (sym (reads_are true (λ i. not (is_some (open_so_far i)) && dir i))) among)
 
+  -- what is left after the walk, where the way doesn't lead into the directory, and after it was read, where the way does
+  abbrev removing : List Request
+  removing = plain (removes accounts ready.represents.matched d m)
+
+  abbrev left_if : List RawCall → Type 0
+  left_if calls =
+      AreLeft (requests_of accounts ready.represents.matched me p call) calls (unless_refused (refused accounts f me p call) removing)
+
+  left_walked : (not (is_some (into accounts f p d)) && is_dir_at f (m ∷ d)) ≡ false → left_if walk
+  left_walked none = ap (λ (calls : List RawCall). plain calls ++ unless_refused (refused accounts f me p call) removing)
+      (reads_are false none ∙ append-nil walk)
+
+  left_read : into accounts f p d ≡ None → is_dir_at f (m ∷ d) ≡ true → left_if (walk ++ read ∷ [])
+  left_read open_so_far dir = ap (λ (calls : List RawCall). plain calls ++ unless_refused (refused accounts f me p call) removing)
+      (reads_are true (λ i. not (is_some (open_so_far i)) && dir i))
+
   -- what the flat rules refuse of the entry
   abbrev refusal : Bool → Bool → Bool → Option Errno
   refusal dir sees empty = unless dir ENOTDIR orelse unless sees EACCES orelse unless empty ENOTEMPTY orelse unless (writes accounts f p d) EACCES
@@ -137,14 +156,17 @@ module _ (accounts : Accounts) (ok : AreAccounts accounts) (old new : KernelMode
       module _ (sees : reads accounts f p (m ∷ d) ≡ true) (mid : KernelModel) (stays : state mid ≡ state old)
           (chain : Chain old t (all_granted (walk ++ read ∷ [])) mid) where
         by_entries : (b : Bool) → is_empty ≡ b
-            → Runs (given (unless_filled b)
+            → Runs M (given (unless_filled b)
             (λ _. take_away (entry_of accounts ok (state old) f me t ready m d Dir) (λ _. Answers Done))) mid
             new t result → Refined
         by_entries false is on =
             refused_at_once accounts f me call old new t ready result (walk ++ read ∷ []) mid chain
-            stays ENOTEMPTY (refused_by Dir class true false at sees is) refl refl
-            (both_suffice (all_granted (walk ++ read ∷ [])) (Refused ENOTEMPTY) open_so_far is_dir_here
-            (among_granted_all old.line t (walk ++ read ∷ []))) on
+            stays ENOTEMPTY (refused_by Dir class true false at sees is) refl refl (
+              both_suffice (all_granted (walk ++ read ∷ [])) (Refused ENOTEMPTY) open_so_far is_dir_here
+                  (among_granted_all old.line t (walk ++ read ∷ [])),
+              made_to_end _ old.line t ENOTEMPTY (walk ++ read ∷ []) (all_granted (walk ++ read ∷ [])) _ removing
+                  (refused_by Dir class true false at sees is) (left_read open_so_far is_dir_here) (inl (refl, refl)),
+            ) on
         by_entries true is on =
             take_away_step accounts ok old new f me t ready m d call result
             (record {
@@ -157,13 +179,14 @@ module _ (accounts : Accounts) (ok : AreAccounts accounts) (old new : KernelMode
               answers = refl;
             })
             open_so_far class Dir at
-            (walk ++ read ∷ []) (λ steps r among. both_suffice steps r open_so_far is_dir_here among) mid stays chain on
+            (walk ++ read ∷ []) (λ steps r among. both_suffice steps r open_so_far is_dir_here among)
+            (left_read open_so_far is_dir_here) mid stays chain on
 
-        emptied : Runs (when_read (entry_of accounts ok (state old) f me t ready m d Dir)
+        emptied : Runs M (when_read (entry_of accounts ok (state old) f me t ready m d Dir)
             (directory_read accounts ok (state old) f me t ready (m ∷ d))) mid new t result → Refined
         emptied on =
             by_entries is_empty refl
-            (subst (λ (n : ℕ). Runs (given (unless_filled (n == 0))
+            (subst (λ (n : ℕ). Runs M (given (unless_filled (n == 0))
             (λ _. take_away (entry_of accounts ok (state old) f me t ready m d Dir) (λ _. Answers Done)))
             mid new t result)
             (count_entries accounts (state old) f ready.represents.matched (m ∷ d)) on)
@@ -171,14 +194,19 @@ module _ (accounts : Accounts) (ok : AreAccounts accounts) (old new : KernelMode
     module _ (mid : KernelModel) (stays : state mid ≡ state old) (chain : Chain old t (all_granted walk) mid) where
       by_content : (class : Class) (content : Content)
           → get f.files (m ∷ d) ≡ Some (record { class = class; content = content })
-          → Runs (at_entry (entry_of accounts ok (state old) f me t ready m d content)) mid new t result → Refined
+          → Runs M (at_entry (entry_of accounts ok (state old) f me t ready m d content)) mid new t result → Refined
       by_content class Dir at on =
           read_step accounts ok old new f me t ready call result (m ∷ d) (is_dir_here class at) walk mid stays chain
           (when_read (entry_of accounts ok (state old) f me t ready m d Dir)) on
           (λ unseen. (
             refused_by Dir class false is_empty at unseen refl,
-            both_suffice (all_granted walk ++ (read, Some Observe) ∷ []) (Refused EACCES) open_so_far
-                (is_dir_here class at) (among_refused old.line t walk read Observe),
+            (
+              both_suffice (all_granted walk ++ (read, Some Observe) ∷ []) (Refused EACCES) open_so_far
+                  (is_dir_here class at) (among_refused old.line t walk read Observe),
+              made_to_end _ old.line t EACCES (walk ++ read ∷ []) (all_granted walk ++ (read, Some Observe) ∷ []) _ removing
+                  (refused_by Dir class false is_empty at unseen refl) (left_read open_so_far (is_dir_here class at))
+                  (inr (walk, read, Observe, refl, refl)),
+            ),
           ))
           (λ unseen.
           let unread = unread_directory accounts ok (state old) f me t ready (m ∷ d) (is_dir_here class at) unseen in
@@ -188,36 +216,40 @@ module _ (accounts : Accounts) (ok : AreAccounts accounts) (old new : KernelMode
       by_content class (File bytes) at on =
           refused_at_once accounts f me call old new t ready result walk mid chain stays
           ENOTDIR
-          (refused_by (File bytes) class (reads accounts f p (m ∷ d)) is_empty at refl refl) refl refl
-          (walk_suffices (all_granted walk) (Refused ENOTDIR)
-          (λ i. not (is_some (open_so_far i)) && is_some_and (at i) is_dir) (among_granted_all old.line t walk))
+          (refused_by (File bytes) class (reads accounts f p (m ∷ d)) is_empty at refl refl) refl refl (
+            walk_suffices (all_granted walk) (Refused ENOTDIR)
+                (λ i. not (is_some (open_so_far i)) && is_some_and (at i) is_dir) (among_granted_all old.line t walk),
+            made_to_end _ old.line t ENOTDIR walk (all_granted walk) _ removing
+                (refused_by (File bytes) class (reads accounts f p (m ∷ d)) is_empty at refl refl)
+                (left_walked (λ i. not (is_some (open_so_far i)) && is_some_and (at i) is_dir)) (inl (refl, refl)),
+          )
           on
 
-  rmdir_is_refined : Runs (rmdir_program (roots_of (length accounts.users)) (m ∷ d)) old new t result → Refined
+  rmdir_is_refined : Runs M (rmdir_program (roots_of (length accounts.users)) (m ∷ d)) old new t result → Refined
   unfolding rmdir_program
   rmdir_is_refined run =
       entry_step accounts ok old new f me t ready m d call result
       (refusal (is_dir_at f (m ∷ d)) (reads accounts f p (m ∷ d)) is_empty) refl
-      (λ none steps r among. walk_suffices steps r none among) at_entry
+      (λ none steps r among. walk_suffices steps r none among) removing left_walked at_entry
       (entry_explained accounts f me p m d call
       (unless (is_dir_at f (m ∷ d)) (HasFile (m ∷ d)) orelse reasons (not_read accounts f p (m ∷ d)) is_empty) refl) run
       (λ open_so_far class content at mid stays chain on. by_content open_so_far mid stays chain class content at on)
 
 -- an rmdir of `/`
-rmdir_of_slash : (accounts : Accounts) (old new : KernelModel) (f : Flat) (me : ProcName) (t : ℕ)
-    (result : Result Reply Stopped) (ready : IsReady accounts (state old) f me t)
-    → Runs (rmdir_program (roots_of (length accounts.users)) []) old new t result
+rmdir_of_slash : {M : Type 0} → (accounts : Accounts) (old new : KernelModel) (f : Flat) (me : ProcName) (t : ℕ)
+    (result : Result Reply Stopped) (ready : Ready M accounts (state old) f me t)
+    → Runs M (rmdir_program (roots_of (length accounts.users)) []) old new t result
     → Goal accounts f me (calls.Rmdir []) old new t ready result
 unfolding rmdir_program find_entry
 rmdir_of_slash accounts old new f me t result ready run =
     refused_at_once accounts f me (calls.Rmdir []) old new t ready result [] old (same_kernel old)
-    refl EBUSY refl refl refl tt run
+    refl EBUSY refl refl refl (tt, refl) run
 
 -- the program of `rmdir` refines its rule
-pub rmdir_refines : RmdirRefines
-rmdir_refines accounts ok [] me old new f t result ready run =
-    from_each accounts f me (calls.Rmdir []) old new t result ready (λ ready.
+pub rmdir_refines : {M : Type 0} → RmdirRefines M
+rmdir_refines {M} accounts ok [] me old new f t result ready run =
+    from_each M accounts f me (calls.Rmdir []) old new t result ready (λ ready.
     rmdir_of_slash accounts old new f me t result ready run)
-rmdir_refines accounts ok (m ∷ d) me old new f t result ready run =
-    from_each accounts f me (calls.Rmdir (m ∷ d)) old new t result ready (λ ready.
+rmdir_refines {M} accounts ok (m ∷ d) me old new f t result ready run =
+    from_each M accounts f me (calls.Rmdir (m ∷ d)) old new t result ready (λ ready.
     rmdir_is_refined accounts ok old new f me t ready m d result run)

@@ -20,7 +20,8 @@ use Rattle.histar_moves.specs.Parts.{find_entry, take_away}
 use Rattle.histar_moves.specs.Rmtree.{rmtree_program}
 use Rattle.histar_programs.specs.Start.{roots_of}
 use Rattle.histar_refinement.specs.Accounts.{AreAccounts}
-use Rattle.histar_sim.specs.Simulation.{IsReady}
+use Rattle.histar_sim.specs.RawCalls.{plain, removes}
+use Rattle.histar_sim.proofs.Ready.{Ready}
 use Rattle.histar_sim.proofs.CallErrors.{from_each}
 use Rattle.histar_sim.proofs.Steps.{Goal, refused_at_once}
 use Rattle.histar_sim.proofs.Walks.{walk_reads, has_walk}
@@ -28,8 +29,8 @@ use Rattle.histar_sim.specs.Laws.{RmtreeRefines}
 use Rattle.histar_sim.proofs.Entries.{reached, entry_step, entry_explained, entry_clear}
 use Rattle.histar_sim.proofs.TakingAway.{take_away_step}
 
-module _ (accounts : Accounts) (ok : AreAccounts accounts) (old new : KernelModel) (f : Flat) (me : ProcName) (t : ℕ)
-    (ready : IsReady accounts (state old) f me t) (m : Name) (d : Path) (result : Result Reply Stopped) where
+module _ {M : Type 0} (accounts : Accounts) (ok : AreAccounts accounts) (old new : KernelModel) (f : Flat) (me : ProcName) (t : ℕ)
+    (ready : Ready M accounts (state old) f me t) (m : Name) (d : Path) (result : Result Reply Stopped) where
   abbrev call : UnixCall
   call = calls.Rmtree (m ∷ d)
 
@@ -37,13 +38,13 @@ module _ (accounts : Accounts) (ok : AreAccounts accounts) (old new : KernelMode
   abbrev refusal : Option Errno
   refusal = unless (writes accounts f ready.caller.process d) EACCES
 
-  rmtree_is_refined : Runs (rmtree_program (roots_of (length accounts.users)) (m ∷ d)) old new t result
+  rmtree_is_refined : Runs M (rmtree_program (roots_of (length accounts.users)) (m ∷ d)) old new t result
       → Goal accounts f me call old new t ready result
   unfolding rmtree_program
   rmtree_is_refined run =
       entry_step accounts ok old new f me t ready m d call result refusal refl
       (λ none steps r among. has_walk accounts ok (state old) f me t ready m d _ among)
-      (λ entry. take_away entry (λ _. Answers Done))
+      (plain (removes accounts ready.represents.matched d m)) (λ none. refl) (λ entry. take_away entry (λ _. Answers Done))
       (entry_explained accounts f me ready.caller.process m d call (not_written accounts f ready.caller.process d) refl) run
       (λ open_so_far class content at mid stays chain on.
       let refuses =
@@ -57,23 +58,23 @@ module _ (accounts : Accounts) (ok : AreAccounts accounts) (old new : KernelMode
       take_away_step accounts ok old new f me t ready m d call result
       (record { refuses = refuses; path = refl; explains = explains; removes = refl; answers = refl }) open_so_far class content at
       (walk_reads accounts ok (state old) f me t ready d)
-      (λ steps r among. has_walk accounts ok (state old) f me t ready m d _ among) mid stays chain on)
+      (λ steps r among. has_walk accounts ok (state old) f me t ready m d _ among) refl mid stays chain on)
 
 -- an rmtree of `/`
-rmtree_of_slash : (accounts : Accounts) (old new : KernelModel) (f : Flat) (me : ProcName) (t : ℕ)
-    (result : Result Reply Stopped) (ready : IsReady accounts (state old) f me t)
-    → Runs (rmtree_program (roots_of (length accounts.users)) []) old new t result
+rmtree_of_slash : {M : Type 0} → (accounts : Accounts) (old new : KernelModel) (f : Flat) (me : ProcName) (t : ℕ)
+    (result : Result Reply Stopped) (ready : Ready M accounts (state old) f me t)
+    → Runs M (rmtree_program (roots_of (length accounts.users)) []) old new t result
     → Goal accounts f me (calls.Rmtree []) old new t ready result
 unfolding rmtree_program find_entry
 rmtree_of_slash accounts old new f me t result ready run =
     refused_at_once accounts f me (calls.Rmtree []) old new t ready result [] old (same_kernel old)
-    refl EBUSY refl refl refl tt run
+    refl EBUSY refl refl refl (tt, refl) run
 
 -- the program of `rmtree` refines its rule
-pub rmtree_refines : RmtreeRefines
-rmtree_refines accounts ok [] me old new f t result ready run =
-    from_each accounts f me (calls.Rmtree []) old new t result ready (λ ready.
+pub rmtree_refines : {M : Type 0} → RmtreeRefines M
+rmtree_refines {M} accounts ok [] me old new f t result ready run =
+    from_each M accounts f me (calls.Rmtree []) old new t result ready (λ ready.
     rmtree_of_slash accounts old new f me t result ready run)
-rmtree_refines accounts ok (m ∷ d) me old new f t result ready run =
-    from_each accounts f me (calls.Rmtree (m ∷ d)) old new t result ready (λ ready.
+rmtree_refines {M} accounts ok (m ∷ d) me old new f t result ready run =
+    from_each M accounts f me (calls.Rmtree (m ∷ d)) old new t result ready (λ ready.
     rmtree_is_refined accounts ok old new f me t ready m d result run)

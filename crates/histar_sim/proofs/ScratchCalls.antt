@@ -30,7 +30,7 @@ use Rattle.histar_refinement.specs.Addresses.{address_of}
 use Rattle.histar_refinement.specs.Addresses.Step.{Listing}
 use Rattle.histar_layout.proofs.Members.{second_of}
 use Rattle.histar_refinement.proofs.RawChecks.{object}
-use Rattle.histar_sim.specs.Simulation.{IsReady}
+use Rattle.histar_sim.proofs.Ready.{Ready}
 use Rattle.histar_sim.proofs.FoundObjects.{label, clearance, container, listing, entries, directory_class, directory_agrees, directory_guard}
 use Rattle.histar_sim.proofs.FoundObjects.{has_listing, thread_below, below, container_numbered, listing_numbered}
 use Rattle.histar_sim.proofs.NewEntries.{HasSegment, segment_written, still_there, there_then}
@@ -56,8 +56,8 @@ module _ (s : State) (t d n : ℕ) (own own_clearance above : Levels) (old : Lis
     linked = there.linked;
   }
 
-module _ (accounts : Accounts) (ok : AreAccounts accounts) (s : State) (f : Flat) (me : ProcName) (t : ℕ)
-    (ready : IsReady accounts s f me t) (d : Path) (open_so_far : into accounts f ready.caller.process d ≡ None)
+module _ {M : Type 0} (accounts : Accounts) (ok : AreAccounts accounts) (s : State) (f : Flat) (me : ProcName) (t : ℕ)
+    (ready : Ready M accounts s f me t) (d : Path) (open_so_far : into accounts f ready.caller.process d ≡ None)
     (unused : ¬ IsUsed accounts f (OfJob ((ready.caller.process.born + 1) ∷ me))) (i : ℕ)
     (declared : user_number accounts ready.caller.process.user ≡ Some i) where
   abbrev p : Process

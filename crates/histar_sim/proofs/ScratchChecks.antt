@@ -38,14 +38,15 @@ use Rattle.histar_refinement.proofs.Agreeing.{container_found}
 use Rattle.histar_refinement.proofs.Tested.{rights_made, clearance_made, guard_owns_nothing}
 use Rattle.histar_refinement.proofs.Uses.{rights_used}
 use Rattle.histar_refinement.proofs.WrapTests.{with_job, scratch_above, scratch_below, observes_parent, modifies_parent, label_back, clearance_back}
-use Rattle.histar_sim.specs.Simulation.{IsReady}
+use Rattle.histar_sim.proofs.Ready.{Ready}
 use Rattle.histar_sim.proofs.FoundObjects.{label, clearance, thread, container, directory_class, directory_agrees, directory_guard}
 use Rattle.histar_sim.proofs.FoundObjects.{container_numbered, may_look}
 use Rattle.histar_sim.proofs.BirthChecks.{IsTaken, label_said, clearance_said}
 use Rattle.histar_sim.proofs.BirthObjects.{thread_relabelled}
 use Rattle.histar_sim.proofs.ScratchLabels.{number_there, label_by, clearance_by, directory_by, directory_made}
 
-module _ (accounts : Accounts) (ok : AreAccounts accounts) (s : State) (f : Flat) (me : ProcName) (t : ℕ) (ready : IsReady accounts s f me t) where
+module _ {M : Type 0} (accounts : Accounts) (ok : AreAccounts accounts) (s : State) (f : Flat) (me : ProcName) (t : ℕ)
+    (ready : Ready M accounts s f me t) where
   abbrev p : Process
   p = ready.caller.process
 

@@ -1,7 +1,7 @@
 -- The way to a process, at a state that represents a flat state: it is refused as the flat rules refuse it, or the process segment of each
 -- process on the way is read, and the last one is passed on.
 use Rattle.std.proofs.Common.{◌≡◌, ℕ, ◌&&◌, Bool, true, false, List, [], ◌∷◌, ◌++◌, Option, None, Some, Result, refl, sym, ap, ◌∙◌, subst, length}
-use Rattle.std.proofs.Common.{if◌then◌else◌}
+use Rattle.std.proofs.Common.{if◌then◌else◌, inl, inr}
 use Rattle.std.proofs.lemmas.List.{map-append, append-nil}
 use mathlib.Core.Bool.{true≢false}
 use Rattle.std.specs.Prelude.{not, map, is_some, option_map}
@@ -44,12 +44,13 @@ use Rattle.histar_refinement.specs.Processes.{status_by}
 use Rattle.histar_refinement.proofs.CallerFound.{where_is, status_held, child_is}
 use Rattle.histar_refinement.proofs.Agreeing.{some_of}
 use Rattle.histar_refinement.proofs.StatusFound.{thread_back}
-use Rattle.histar_sim.specs.Simulation.{IsReady}
+use Rattle.histar_sim.proofs.Ready.{Ready}
 use Rattle.histar_sim.specs.Reads.{AreAmong, looked_at}
 use Rattle.histar_sim.proofs.ReadsByCall.{AreStatusReads, HasSearch}
 use Rattle.histar_sim.proofs.Chains.{Step, all_granted, entries_of, Chain}
 use Rattle.histar_sim.proofs.FirstReasons.{no_reason, unseen_at, named_by}
-use Rattle.histar_sim.proofs.CallErrors.{IsDenialNamed, ReadsAmong}
+use Rattle.histar_sim.proofs.Requests.{EndWith}
+use Rattle.histar_sim.proofs.CallErrors.{IsDenialNamed, AreItsCalls}
 use Rattle.histar_sim.proofs.Steps.{Goal, granted_step, refused_step, refused_at_once}
 use Rattle.histar_sim.proofs.Walks.{among_granted_all, among_refused, all_joined}
 use Rattle.histar_sim.proofs.FoundProcesses.{first_place, led_to, read_said}
@@ -58,7 +59,7 @@ use Rattle.histar_sim.proofs.FoundProcesses.{first_place, led_to, read_said}
 seen_if_free : (p other : Process) → other.chain ≡ [] → sees p other ≡ true
 seen_if_free p other free = ap (list_all (knows p)) free
 
-module _ (accounts : Accounts) (s : State) (f : Flat) (me : ProcName) (t : ℕ) (ready : IsReady accounts s f me t) where
+module _ {M : Type 0} (accounts : Accounts) (s : State) (f : Flat) (me : ProcName) (t : ℕ) (ready : Ready M accounts s f me t) where
   abbrev p : Process
   p = ready.caller.process
 
@@ -168,8 +169,8 @@ module _ (accounts : Accounts) (s : State) (f : Flat) (me : ProcName) (t : ℕ) 
       }) (f.processes (n ∷ name))
   child_revealed n name other here = child_is accounts s f l n name other here
 
-module _ (accounts : Accounts) (ok : AreAccounts accounts) (old new : KernelModel) (f : Flat) (me : ProcName) (t : ℕ)
-    (ready : IsReady accounts (state old) f me t) (call : UnixCall) (result : Result Reply Stopped) where
+module _ {M : Type 0} (accounts : Accounts) (ok : AreAccounts accounts) (old new : KernelModel) (f : Flat) (me : ProcName) (t : ℕ)
+    (ready : Ready M accounts (state old) f me t) (call : UnixCall) (result : Result Reply Stopped) where
   abbrev Refined : Type 0
   Refined = Goal accounts f me call old new t ready result
 
@@ -188,11 +189,11 @@ module _ (accounts : Accounts) (ok : AreAccounts accounts) (old new : KernelMode
   abbrev read : ProcName → RawCall
   read name = read_of accounts (state old) f me t ready name
 
-  -- the call is refused with this errno, and these raw calls are the reads that it cannot do without
+  -- the call is refused with this errno, and these are its raw calls
   abbrev pub IsRefusedBy : Errno → List Step → Type 0
   IsRefusedBy errno steps =
       (refused accounts f me process call ≡ Some errno)
-      × ReadsAmong accounts f me call old new t ready steps (Refused errno)
+      × AreItsCalls accounts f me call old new t ready steps (Refused errno)
 
   -- where the search for the process has a reason, that is the call's
   abbrev pub Explains : ProcName → Type 0
@@ -203,7 +204,7 @@ module _ (accounts : Accounts) (ok : AreAccounts accounts) (old new : KernelMode
   abbrev pub Refuses : ProcName → Type 0
   Refuses name =
       ((errno : Errno) → not_found f process name ≡ Some errno → (steps : List Step)
-      → AreAmong (calls_to name) (entries_of old.line t steps) → IsRefusedBy errno steps)
+      → AreAmong (calls_to name) (entries_of old.line t steps) → EndWith errno (calls_to name) steps → IsRefusedBy errno steps)
       × Explains name
 
   -- the read of a process segment is on what the reason names that the process is not seen
@@ -218,17 +219,17 @@ module _ (accounts : Accounts) (ok : AreAccounts accounts) (old new : KernelMode
   GoesOn name rest =
       not_found f process name ≡ None → (other : Process) → f.processes name ≡ Some other → sees process other ≡ true
       → (mid : KernelModel) → state mid ≡ state old → Chain old t (all_granted (calls_to name)) mid
-      → Runs (rest (place name) (status name other)) mid new t result → Refined
+      → Runs M (rest (place name) (status name other)) mid new t result → Refined
 
   -- a process segment is read after these raw calls
   pub status_step : (name : ProcName) (other : Process) → f.processes name ≡ Some other
       → (before : List RawCall) (mid : KernelModel) → state mid ≡ state old → Chain old t (all_granted before) mid
-      → (rest : ProcessStatus → Program) → Runs (read_status (place name) rest) mid new t result
+      → (rest : ProcessStatus → Program) → Runs M (read_status (place name) rest) mid new t result
       → (sees process other ≡ false → IsRefusedBy EACCES (all_granted before ++ (read name, Some Observe) ∷ []))
       → (sees process other ≡ false → IsDenialNamed accounts f me call old new t ready (read name))
       → (sees process other ≡ true → (later : KernelModel) → state later ≡ state old
       → Chain old t (all_granted (before ++ read name ∷ [])) later
-      → Runs (rest (status name other)) later new t result → Refined) → Refined
+      → Runs M (rest (status name other)) later new t result → Refined) → Refined
   unfolding read_status
   status_step name other here before mid stays chain rest run refuses named go_on = by (sees process other) refl
     where
@@ -250,7 +251,7 @@ module _ (accounts : Accounts) (ok : AreAccounts accounts) (old new : KernelMode
           ap status_in (right ∙ ap (λ (s : State). bytes_in (s.objects (place name).segment)) stays)
           ∙ revealed accounts (state old) f me t ready name other here in
           go_on is later (called.state ∙ stays) longer
-          (subst (λ (o : Option ProcessStatus). Runs (if_there ESRCH rest o) later new t result) reveals on))
+          (subst (λ (o : Option ProcessStatus). Runs M (if_there ESRCH rest o) later new t result) reveals on))
 
   -- from a process that was found on to a child of it
   module _ (n : ℕ) (above : ProcName) (rest : Home → ProcessStatus → Program) (refuses : Refuses (n ∷ above))
@@ -269,7 +270,7 @@ module _ (accounts : Accounts) (ok : AreAccounts accounts) (old new : KernelMode
     at_child child = given (must_be_there child) (λ child. read_status (home_of child) (rest (home_of child)))
 
     enters : (child : Process) → f.processes (n ∷ above) ≡ Some child
-        → Runs (read_status (place (n ∷ above)) (rest (place (n ∷ above)))) mid new t result → Refined
+        → Runs M (read_status (place (n ∷ above)) (rest (place (n ∷ above)))) mid new t result → Refined
     enters child is on =
         let longer = search_longer accounts (state old) f me t ready n above found true (ap is_some is) in
         status_step (n ∷ above) child is (calls_to above) mid stays chain (rest (place (n ∷ above))) on
@@ -277,7 +278,8 @@ module _ (accounts : Accounts) (ok : AreAccounts accounts) (old new : KernelMode
         (all_granted (calls_to above) ++ (read (n ∷ above), Some Observe) ∷ [])
         (subst (λ (calls : List RawCall). AreAmong calls
         (entries_of old.line t (all_granted (calls_to above) ++ (read (n ∷ above), Some Observe) ∷ [])))
-        (sym longer) (among_refused old.line t (calls_to above) (read (n ∷ above)) Observe)))
+        (sym longer) (among_refused old.line t (calls_to above) (read (n ∷ above)) Observe))
+        (inr (calls_to above, read (n ∷ above), Observe, longer, refl)))
         (λ unseen.
         let named = unseen_below accounts (state old) f me t ready n above found child is unseen in
         read_named (n ∷ above) child is named.0 (refuses.1 (IsUnseen (n ∷ above) named.0) named.1))
@@ -285,7 +287,7 @@ module _ (accounts : Accounts) (ok : AreAccounts accounts) (old new : KernelMode
         (subst (λ (calls : List RawCall). Chain old t (all_granted calls) later) (sym longer) further) end)
 
     by_child : (o : Option Process) → f.processes (n ∷ above) ≡ o
-        → Runs (at_child (option_map (λ (q : Process). record {
+        → Runs M (at_child (option_map (λ (q : Process). record {
           number = n;
           container = (place (n ∷ above)).container;
           segment = (place (n ∷ above)).segment;
@@ -294,25 +296,27 @@ module _ (accounts : Accounts) (ok : AreAccounts accounts) (old new : KernelMode
         let same = search_longer accounts (state old) f me t ready n above found false (ap is_some is) ∙ append-nil (calls_to above) in
         let end = refuses.0 ESRCH (tests_are None is) (all_granted (calls_to above))
         (subst (λ (calls : List RawCall). AreAmong calls (entries_of old.line t (all_granted (calls_to above))))
-        (sym same) (among_granted_all old.line t (calls_to above))) in
+        (sym same) (among_granted_all old.line t (calls_to above))) (inl (ap all_granted (sym same), refl)) in
         refused_at_once accounts f me call old new t ready result (calls_to above) mid chain stays
         ESRCH end.0 refl refl end.1 on
     by_child (Some child) is on = enters child is on
 
     -- the number is looked up in the status of the parent's process segment, and the child's is read
-    pub child_step : Runs (at_child (child_at (status above parent).children n)) mid new t result → Refined
+    pub child_step : Runs M (at_child (child_at (status above parent).children n)) mid new t result → Refined
     child_step run =
-        by_child (f.processes (n ∷ above)) refl (subst (λ (o : Option Listed). Runs (at_child o) mid new t result)
+        by_child (f.processes (n ∷ above)) refl (subst (λ (o : Option Listed). Runs M (at_child o) mid new t result)
         (child_revealed accounts (state old) f me t ready n above parent here) run)
 
   -- where the search for the parent is refused, so is that for the child
   pub parent_refuses : (n : ℕ) (above : ProcName) → Refuses (n ∷ above) → Refuses above
   parent_refuses n above refuses = (
-    λ errno is steps among.
+    λ errno is steps among end.
         refuses.0 errno (ap (λ (o : Option Errno). o orelse unless (is_some (f.processes (n ∷ above))) ESRCH
         orelse unless (is_some_and (f.processes (n ∷ above)) (sees process)) EACCES) is) steps
         (subst (λ (calls : List RawCall). AreAmong calls (entries_of old.line t steps))
-        (sym (search_stopped accounts (state old) f me t ready n above errno is)) among),
+        (sym (search_stopped accounts (state old) f me t ready n above errno is)) among)
+        (subst (λ (calls : List RawCall). EndWith errno calls steps)
+        (sym (search_stopped accounts (state old) f me t ready n above errno is)) end),
     λ reason is.
         refuses.1 reason (ap (λ (o : Option Reason). o orelse unless (is_some (f.processes (n ∷ above))) (NoProcess (n ∷ above))
         orelse not_seen accounts f process (n ∷ above) (f.processes (n ∷ above))) is),
@@ -320,13 +324,13 @@ module _ (accounts : Accounts) (ok : AreAccounts accounts) (old new : KernelMode
 
   -- The way to a process: it is refused as the flat rules refuse the call, or the call goes on with the process.
   pub search_step : (name : ProcName) (rest : Home → ProcessStatus → Program)
-      → Runs (find_home (roots_of (length accounts.users)).home name (λ home. read_status home (rest home))) old new t
+      → Runs M (find_home (roots_of (length accounts.users)).home name (λ home. read_status home (rest home))) old new t
       result → Refuses name → GoesOn name rest → Refined
   unfolding find_home
   search_step [] rest run refuses go_on =
       let first = first_there accounts (state old) f me t ready in
       status_step [] first.0 first.1 [] old refl (same_kernel old) (rest (place []))
-      (subst (λ (home : Home). Runs (read_status home (rest home)) old new t result)
+      (subst (λ (home : Home). Runs M (read_status home (rest home)) old new t result)
       (first_place accounts (state old) f ready.represents.matched) run)
       (λ unseen. absurd (true≢false (sym first.2 ∙ unseen)))
       (λ unseen. absurd (true≢false (sym first.2 ∙ unseen)))

@@ -34,7 +34,10 @@ use Rattle.histar_process.specs.SpawnCall.{spawn_program}
 use Rattle.histar_programs.specs.Start.{roots_of}
 use Rattle.histar_refinement.specs.Accounts.{AreAccounts}
 use Rattle.histar_refinement.specs.KeptNames.{RepresentsStill}
-use Rattle.histar_sim.specs.Simulation.{IsReady}
+use Rattle.histar_programs.specs.declared.roots.Home.{Home}
+use Rattle.histar_sim.specs.RawCalls.{Request, births_at, home_of, plain, requests_of}
+use Rattle.histar_sim.proofs.Requests.{AreLeft, all_made, left_then}
+use Rattle.histar_sim.proofs.Ready.{Ready}
 use Rattle.histar_sim.specs.Reads.{AreAmong}
 use Rattle.histar_sim.proofs.CallErrors.{from_each}
 use Rattle.histar_sim.proofs.Chains.{all_granted, entries_of, Chain}
@@ -43,6 +46,7 @@ use Rattle.histar_sim.specs.Laws.{SpawnRefines}
 use Rattle.histar_sim.proofs.BirthFit.{fit, spawned_matched}
 use Rattle.histar_sim.proofs.BirthRun.{spawned, birth_made}
 use Rattle.histar_sim.proofs.ChildRoom.{NeedsChild, own_of, own_clearance_of, status_of, reads, at_home, at_status, at_thread, child_room_step}
+use Rattle.histar_sim.proofs.ChildRoom.{home_is}
 use Rattle.histar_sim.proofs.ChildRoom.{own_label_step}
 
 -- a first refusal is the refusal, if none comes after it
@@ -50,9 +54,9 @@ nothing_behind : (o : Option Errno) → o ≡ (o orelse None)
 nothing_behind None = refl
 nothing_behind (Some errno) = refl
 
-module _ (accounts : Accounts) (ok : AreAccounts accounts) (me : ProcName) (caller : Caller) (old new : KernelModel)
+module _ {M : Type 0} (accounts : Accounts) (ok : AreAccounts accounts) (me : ProcName) (caller : Caller) (old new : KernelModel)
     (f : Flat) (result : Result Reply Stopped)
-    (ready : IsReady accounts (state old) f me caller.thread)
+    (ready : Ready M accounts (state old) f me caller.thread)
     (found : caller_at (state old) (roots_of (length accounts.users)).home me ≡ Some caller) where
   abbrev t : ℕ
   t = caller.thread
@@ -92,6 +96,15 @@ module _ (accounts : Accounts) (ok : AreAccounts accounts) (me : ProcName) (call
   abbrev before : List RawCall
   before = reads accounts me caller old new f result ready found ∷ []
 
+  -- the raw calls of the birth, by the home of the parent, and what is left of the requests once the process's own segment is read
+  abbrev born_at : Home → List RawCall
+  born_at home =
+      births_at home status (kin_of accounts own) (state old).next_category (state old).next_object
+      ++ SetLabel own ∷ SetClearance clearance ∷ []
+
+  abbrev after : List Request
+  after = plain (OwnLabel ∷ born_at (home_of accounts ready.represents.matched me))
+
   -- ---- the child is born
 
   module _ (long : nat_lt (length me) most_numbers ≡ true) (room : nat_lt p.born most_children ≡ true) where
@@ -101,14 +114,24 @@ module _ (accounts : Accounts) (ok : AreAccounts accounts) (me : ProcName) (call
     refused_nowhere : refused accounts f me p Spawn ≡ None
     refused_nowhere = λ i. unless (room i) EAGAIN orelse unless (long i) EAGAIN
 
+    -- the raw calls of the birth, by the home of the process
+    by_home : AreLeft (requests_of accounts ready.represents.matched me p Spawn) (before ++ OwnLabel ∷ [])
+        (plain (born_at (home_of accounts ready.represents.matched me)))
+        → AreLeft (requests_of accounts ready.represents.matched me p Spawn) (before ++ OwnLabel ∷ []) (plain (born_at caller.home))
+    by_home left =
+        subst (λ (home : Home).
+        AreLeft (requests_of accounts ready.represents.matched me p Spawn) (before ++ OwnLabel ∷ []) (plain (born_at home)))
+        (home_is accounts me caller old new f result ready found) left
+
     -- with all raw calls the call is answered
     answered : (calls : List RawCall) (later : KernelModel) → AreAmong [] (entries_of old.line t (all_granted calls))
-        → Chain old t (all_granted calls) later
+        → AreLeft (requests_of accounts ready.represents.matched me p Spawn) calls [] → Chain old t (all_granted calls) later
         → state later ≡ spawned (state old) t caller.home status (kin_of accounts own) own clearance
         → (state old).next_object + 3 < greatest
-        → Runs (Answers reply) later new t result → Refined
-    answered calls later kept chain is few runs =
-        answered_step accounts f me Spawn old new t ready result calls later chain reply refl refused_nowhere tt tt
+        → Runs M (Answers reply) later new t result → Refined
+    answered calls later kept left chain is few runs =
+        answered_step accounts f me Spawn old new t ready result calls later chain reply refl refused_nowhere tt
+        (tt, all_made _ old.line t calls left)
         (subst (λ (s : State). RepresentsStill ready.represents s (flat.with_child f me p p.chain)) (sym is)
         (spawned_matched accounts ok (state old) f ready.represents me p ready.caller.agrees ready.caller.runs few_born
         caller.home.container caller.home.segment
@@ -116,26 +139,30 @@ module _ (accounts : Accounts) (ok : AreAccounts accounts) (me : ProcName) (call
         (at_thread accounts me caller old new f result ready found) few)) runs
 
     -- the thread has asked for its own labels
-    born : (mid : KernelModel) → Chain old t (all_granted (before ++ OwnLabel ∷ [])) mid → state mid ≡ state old
-        → Runs (with_labels status (own, clearance)) mid new t result → Refined
-    born mid chain stays runs =
+    born : AreLeft (requests_of accounts ready.represents.matched me p Spawn) before after
+        → (mid : KernelModel) → Chain old t (all_granted (before ++ OwnLabel ∷ [])) mid → state mid ≡ state old
+        → Runs M (with_labels status (own, clearance)) mid new t result → Refined
+    born left mid chain stays runs =
         birth_made accounts f me Spawn old new t ready result (state old) caller.home status (kin_of accounts own) own clearance
         (fit accounts ok (state old) f ready.represents me p ready.caller.agrees ready.caller.runs few_born caller.home.container caller.home.segment
         (at_home accounts me caller old new f result ready found) (at_status accounts me caller old new f result ready found) t
         (at_thread accounts me caller old new f result ready found)) reply []
-        answered (before ++ OwnLabel ∷ []) mid tt chain stays runs
+        (requests_of accounts ready.represents.matched me p Spawn) answered (before ++ OwnLabel ∷ []) mid tt
+        (by_home (left_then _ before OwnLabel (plain (born_at (home_of accounts ready.represents.matched me))) left)) chain stays runs
 
-    asked : (mid : KernelModel) → Chain old t (all_granted before) mid → state mid ≡ state old → Runs (in_room status) mid new t result → Refined
-    asked mid chain stays runs =
+    asked : AreLeft (requests_of accounts ready.represents.matched me p Spawn) before after
+        → (mid : KernelModel) → Chain old t (all_granted before) mid → state mid ≡ state old
+        → Runs M (in_room status) mid new t result → Refined
+    asked left mid chain stays runs =
         own_label_step accounts me caller old new f result ready found Spawn before mid chain stays (with_labels status)
-        runs born
+        runs (born left)
 
 -- The program of `spawn` refines its rule.
-pub spawn_refines : SpawnRefines
+pub spawn_refines : {M : Type 0} → SpawnRefines M
 unfolding spawn_program
-spawn_refines accounts ok me caller old new f result ready found runs =
-    from_each accounts f me Spawn old new caller.thread result ready (λ ready.
+spawn_refines {M} accounts ok me caller old new f result ready found runs =
+    from_each M accounts f me Spawn old new caller.thread result ready (λ ready.
     child_room_step accounts me caller old new f result ready found Spawn None
     (needs accounts ok me caller old new f result ready found)
-    (in_room accounts ok me caller old new f result ready found) runs
-    (λ long room mid chain stays on. asked accounts ok me caller old new f result ready found long room mid chain stays on))
+    (after accounts ok me caller old new f result ready found) refl (in_room accounts ok me caller old new f result ready found) runs
+    (λ long room mid chain stays left on. asked accounts ok me caller old new f result ready found long room left mid chain stays on))

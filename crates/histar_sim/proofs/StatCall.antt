@@ -1,5 +1,6 @@
 -- The program of `stat` refines its rule.
-use Rattle.std.proofs.Common.{◌≡◌, ℕ, true, Bool, List, [], ◌∷◌, ◌++◌, Option, None, Some, Result, refl, sym, ap, ◌∙◌, subst, length}
+use Rattle.std.proofs.Common.{◌≡◌, ℕ, true, Bool, List, [], ◌∷◌, ◌++◌, Option, None, Some, Result}
+use Rattle.std.proofs.Common.{refl, sym, ap, ◌∙◌, subst, length, inl}
 use Rattle.std.proofs.lemmas.List.{append-nil}
 use Rattle.std.proofs.lemmas.Option.{same_Some}
 use Rattle.std.specs.FinMap as map
@@ -51,12 +52,15 @@ use Rattle.histar_refinement.proofs.ClassFound.{HasOwnerAndMode, class_revealed}
 use Rattle.histar_refinement.proofs.FileChecks.{label_said}
 use Rattle.histar_refinement.proofs.FileLabels.{label_at, no_thread_at, slash_label_said}
 use Rattle.histar_refinement.proofs.Agreeing.{guard_at, root_is_dir}
-use Rattle.histar_sim.specs.Simulation.{IsReady}
+use Rattle.histar_refinement.specs.Processes.{or_zero}
+use Rattle.histar_sim.specs.RawCalls.{requests_of, unless_refused}
+use Rattle.histar_sim.proofs.Requests.{AreLeft, request, left_allowed, left_then, all_made, made_to_end}
+use Rattle.histar_sim.proofs.Ready.{Ready}
 use Rattle.histar_sim.specs.Reads.{AreAmong}
 use Rattle.histar_sim.proofs.ReadsByCall.{AreReadsOf, HasWay, HasLabel, walked_paths}
 use Rattle.histar_sim.specs.Laws.{StatRefines}
 use Rattle.histar_sim.proofs.Chains.{all_granted, entries_of, Chain}
-use Rattle.histar_sim.proofs.CallErrors.{from_each, IsBacked, ReadsAmong}
+use Rattle.histar_sim.proofs.CallErrors.{from_each, IsBacked, AreItsCalls}
 use Rattle.histar_sim.proofs.Steps.{Goal, granted_step, refused_at_once, answered_step}
 use Rattle.histar_sim.proofs.Walks.{runs, place_at, walk_reads, reads_way, has_way, agrees, found, holds, at_container, at_listing, dir, seen}
 use Rattle.histar_sim.proofs.Walks.{nothing_there, file_number, file_there, directory_there, among_granted_all, look_step}
@@ -68,8 +72,8 @@ label_less : (accounts : Accounts) (s : State) (f : Flat) (m : Name) (d : Path) 
 label_less accounts s f m d errno entries p way =
     (way.0, [], way.1, refl, subst (λ (calls : List RawCall). AreAmong calls entries) (sym (append-nil way.0)) way.2)
 
-module _ (accounts : Accounts) (ok : AreAccounts accounts) (old new : KernelModel) (f : Flat) (me : ProcName) (t : ℕ)
-    (ready : IsReady accounts (state old) f me t) (result : Result Reply Stopped) where
+module _ {M : Type 0} (accounts : Accounts) (ok : AreAccounts accounts) (old new : KernelModel) (f : Flat) (me : ProcName) (t : ℕ)
+    (ready : Ready M accounts (state old) f me t) (result : Result Reply Stopped) where
   abbrev Refined : Path → Type 0
   Refined q = Goal accounts f me (calls.Stat q) old new t ready result
 
@@ -79,7 +83,8 @@ module _ (accounts : Accounts) (ok : AreAccounts accounts) (old new : KernelMode
       (object_at : IsObjectAt accounts (state old) q D O)
       (allowed : refused accounts f me ready.caller.process (calls.Stat q) ≡ None) (passes : check (state old) t (raw.LabelOf D O) ≡ None)
       (reads : List RawCall) (are_reads : AreReadsOf accounts (state old) (walked_paths accounts (state old) f ready.caller.process q)
-      reads) (mid : KernelModel) (stays : state mid ≡ state old) (chain : Chain old t (all_granted reads) mid)
+      reads) (left : AreLeft (requests_of accounts ready.represents.matched me ready.caller.process (calls.Stat q)) reads
+      (request (raw.LabelOf D O) ∷ [])) (mid : KernelModel) (stays : state mid ≡ state old) (chain : Chain old t (all_granted reads) mid)
     where
       abbrev call : UnixCall
       call = calls.Stat q
@@ -107,10 +112,13 @@ module _ (accounts : Accounts) (ok : AreAccounts accounts) (old new : KernelMode
           ∙ label_at accounts (state old) f ready.represents.matched q there at O numbered guard.0 guard.1) in
           ap (λ (l : Levels). class_reply (is_dir there) (class_shown accounts l)) same ∙ ap (class_reply (is_dir there)) reveals.is
 
-      all_reads : ReadsAmong accounts f me call old new t ready (all_granted (reads ++ next ∷ [])) due
-      all_reads = (reads, next ∷ [], are_reads, (D, O, object_at, refl), among_granted_all old.line t (reads ++ next ∷ []))
+      all_reads : AreItsCalls accounts f me call old new t ready (all_granted (reads ++ next ∷ [])) due
+      all_reads = (
+        (reads, next ∷ [], are_reads, (D, O, object_at, refl), among_granted_all old.line t (reads ++ next ∷ [])),
+        all_made _ old.line t (reads ++ next ∷ []) (left_then _ reads next [] left),
+      )
 
-      label_step : Runs (ask next (λ label. class_reply (is_dir there) (class_shown accounts label))) mid new t result → Refined q
+      label_step : Runs M (ask next (λ label. class_reply (is_dir there) (class_shown accounts label))) mid new t result → Refined q
       label_step on =
           granted_step accounts f me call old new t ready result reads mid chain next
           (λ label. class_reply (is_dir there) (class_shown accounts label))
@@ -120,10 +128,10 @@ module _ (accounts : Accounts) (ok : AreAccounts accounts) (old new : KernelMode
           let entries = entries_of old.line t (all_granted (reads ++ next ∷ [])) in
           answered_step accounts f me call old new t ready result (reads ++ next ∷ []) later longer due due_is allowed
           (subst (IsBacked (state old) entries) due_is tt) (subst
-          (ReadsAmong accounts f me call old new t ready (all_granted (reads ++ next ∷ [])))
+          (AreItsCalls accounts f me call old new t ready (all_granted (reads ++ next ∷ [])))
           due_is all_reads)
           (still_represents ready.represents _ same)
-          (subst (λ (program : Program). Runs program later new t result) (revealed_is label right) end))
+          (subst (λ (program : Program). Runs M program later new t result) (revealed_is label right) end))
 
   module _ (m : Name) (d : Path) where
     abbrev stat : UnixCall
@@ -141,6 +149,14 @@ module _ (accounts : Accounts) (ok : AreAccounts accounts) (old new : KernelMode
         → refused accounts f me ready.caller.process stat ≡ (way orelse unless (is_some_and o (λ n. true)) ENOENT)
     refused_is way o is_way is_o = λ i. is_way i orelse unless (is_some_and (is_o i) (λ n. true)) ENOENT
 
+    -- the raw call that asks for the label, and what is left after the walk
+    abbrev asking : RawCall
+    asking = raw.LabelOf place.container (or_zero (ready.represents.matched.naming.number (address_of (m ∷ d))))
+
+    left_walked : AreLeft (requests_of accounts ready.represents.matched me ready.caller.process stat) walk
+        (unless_refused (refused accounts f me ready.caller.process stat) (request asking ∷ []))
+    left_walked = refl
+
     -- once the entry was looked up
     abbrev at_entry : Option Target → Program
     at_entry target =
@@ -149,11 +165,11 @@ module _ (accounts : Accounts) (ok : AreAccounts accounts) (old new : KernelMode
 
     module _ (open_so_far : into accounts f ready.caller.process d ≡ None) (mid : KernelModel)
         (stays : state mid ≡ state old) (chain : Chain old t (all_granted walk) mid)
-        (on : Runs (at_entry (map.get (directory_of f.files ready.represents.matched.naming.number d) m)) mid new t result) where
+        (on : Runs M (at_entry (map.get (directory_of f.files ready.represents.matched.naming.number d) m)) mid new t result) where
       leads : (target : Option Target)
           → map.get (directory_of f.files ready.represents.matched.naming.number d) m ≡ target
-          → Runs (at_entry target) mid new t result
-      leads target is = subst (λ (target : Option Target). Runs (at_entry target) mid new t result) is on
+          → Runs M (at_entry target) mid new t result
+      leads target is = subst (λ (target : Option Target). Runs M (at_entry target) mid new t result) is on
 
       by_target : (there : Node) → get f.files (m ∷ d) ≡ Some there → (target : Target)
           → map.get (directory_of f.files ready.represents.matched.naming.number d) m ≡ Some target
@@ -181,8 +197,12 @@ module _ (accounts : Accounts) (ok : AreAccounts accounts) (old new : KernelMode
           (no_thread_at accounts (state old) f ready.represents.matched (m ∷ d) there at (object_of target) numbered) in
           label_step (m ∷ d) there at place.container (object_of target) numbered object_at
           (refused_is None (Some there) open_so_far at) passes walk
-          (reads_way accounts ok (state old) f me t ready d) mid stays chain
-          (subst (λ (b : Bool). Runs (ask (raw.LabelOf place.container (object_of target))
+          (reads_way accounts ok (state old) f me t ready d)
+          (subst (λ (o : Option ℕ). AreLeft (requests_of accounts ready.represents.matched me ready.caller.process stat) walk
+          (request (raw.LabelOf place.container (or_zero o)) ∷ [])) numbered
+          (left_allowed _ walk _ (request asking ∷ []) (refused_is None (Some there) open_so_far at) left_walked))
+          mid stays chain
+          (subst (λ (b : Bool). Runs M (ask (raw.LabelOf place.container (object_of target))
           (λ label. class_reply b (class_shown accounts label))) mid new t result) kind
           (leads (Some target) is))
 
@@ -200,28 +220,35 @@ module _ (accounts : Accounts) (ok : AreAccounts accounts) (old new : KernelMode
       by_agrees : (o : Option Node) → get f.files (m ∷ d) ≡ o → Refined (m ∷ d)
       by_agrees None at =
           refused_at_once accounts f me stat old new t ready result walk mid chain stays
-          ENOENT (refused_is None None open_so_far at) refl refl
-          (label_less accounts (state old) f m d ENOENT _ ready.caller.process
-          (has_way accounts ok (state old) f me t ready d _ (among_granted_all old.line t walk)))
+          ENOENT (refused_is None None open_so_far at) refl refl (
+            label_less accounts (state old) f m d ENOENT _ ready.caller.process
+                (has_way accounts ok (state old) f me t ready d _ (among_granted_all old.line t walk)),
+            made_to_end _ old.line t ENOENT walk (all_granted walk) _ (request asking ∷ [])
+                (refused_is None None open_so_far at) left_walked (inl (refl, refl)),
+          )
           (leads None (nothing_there accounts ok (state old) f me t ready m d at))
       by_agrees (Some there) at = by_content there.class there.content at
 
-    stat_is_refined : Runs (stat_program accounts (roots_of (length accounts.users)) (m ∷ d)) old new t result → Refined (m ∷ d)
+    stat_is_refined : Runs M (stat_program accounts (roots_of (length accounts.users)) (m ∷ d)) old new t result → Refined (m ∷ d)
     unfolding stat_program find_object
     stat_is_refined run =
         look_step accounts ok old new f me t ready stat result d m
         (λ place target. given (entry_at target) (λ found. ask (raw.LabelOf place.container (object_of found))
         (λ label. class_reply (is_directory found) (class_shown accounts label)))) run (
-          λ errno is steps among. (
-            refused_is (Some errno) (get f.files (m ∷ d)) is refl,
-            label_less accounts (state old) f m d errno _ ready.caller.process (has_way accounts ok (state old) f me t ready d _ among),
-          ),
+          λ errno is steps among end.
+              let refuses = refused_is (Some errno) (get f.files (m ∷ d)) is refl in (
+                refuses,
+                (
+                  label_less accounts (state old) f m d errno _ ready.caller.process (has_way accounts ok (state old) f me t ready d _ among),
+                  made_to_end _ old.line t errno walk steps _ (request asking ∷ []) refuses left_walked end,
+                ),
+              ),
           λ reason is. ap (λ (o : Option Reason). o orelse unless (is_there f (m ∷ d)) (IsMissing (m ∷ d))) is,
         )
         (λ open_so_far mid stays chain on. by_agrees open_so_far mid stays chain on (get f.files (m ∷ d)) refl)
 
   -- a stat of `/`
-  stat_of_slash : Runs (stat_program accounts (roots_of (length accounts.users)) []) old new t result → Refined []
+  stat_of_slash : Runs M (stat_program accounts (roots_of (length accounts.users)) []) old new t result → Refined []
   unfolding stat_program find_object
   stat_of_slash run =
       let root = root_is_dir accounts (state old) f ready.represents.matched in
@@ -231,13 +258,14 @@ module _ (accounts : Accounts) (ok : AreAccounts accounts) (old new : KernelMode
       (ap (λ (o : Option Node). unless (is_some_and o (λ n. true)) ENOENT) root.1)
       (slash_label_said accounts (state old) f ready.represents.matched me ready.caller.process t
       (runs accounts ok (state old) f me t ready))
-      [] refl old refl (same_kernel old) run
+      [] refl (λ i. request (raw.LabelOf root_number (or_zero (ready.represents.matched.as_booted (Slash ∷ []) slash refl i))) ∷ [])
+      old refl (same_kernel old) run
 
 -- the program of `stat` refines its rule
-pub stat_refines : StatRefines
-stat_refines accounts ok [] me old new f t result ready run =
-    from_each accounts f me (calls.Stat []) old new t result ready (λ ready.
+pub stat_refines : {M : Type 0} → StatRefines M
+stat_refines {M} accounts ok [] me old new f t result ready run =
+    from_each M accounts f me (calls.Stat []) old new t result ready (λ ready.
     stat_of_slash accounts ok old new f me t ready result run)
-stat_refines accounts ok (m ∷ d) me old new f t result ready run =
-    from_each accounts f me (calls.Stat (m ∷ d)) old new t result ready (λ ready.
+stat_refines {M} accounts ok (m ∷ d) me old new f t result ready run =
+    from_each M accounts f me (calls.Stat (m ∷ d)) old new t result ready (λ ready.
     stat_is_refined accounts ok old new f me t ready result m d run)

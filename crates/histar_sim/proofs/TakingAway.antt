@@ -63,9 +63,11 @@ use Rattle.histar_refinement.proofs.RawChecks.{object, write_check}
 use Rattle.histar_refinement.proofs.FileChecks.{fits, unlink_said}
 use Rattle.histar_refinement.proofs.Removing.{under_home, still_removed}
 use Rattle.histar_refinement.proofs.Agreeing.{thread_found, guard_at, container_found, listing_found, step_linked}
-use Rattle.histar_sim.specs.Simulation.{IsReady}
+use Rattle.histar_sim.proofs.Ready.{Ready}
 use Rattle.histar_sim.specs.Reads.{AreAmong}
 use Rattle.histar_sim.proofs.Chains.{Step as Made, all_granted, entries_of, Chain}
+use Rattle.histar_sim.specs.RawCalls.{plain, removes, requests_of, unless_refused}
+use Rattle.histar_sim.proofs.Requests.{AreLeft, request, left_allowed, left_by_denial, left_then, all_made, made_to_denial}
 use Rattle.histar_sim.proofs.CallErrors.{IsBacked, ReadsAmong, IsDenialNamed}
 use Rattle.histar_sim.proofs.Steps.{Goal, granted_step, refused_step, answered_step}
 use Rattle.histar_sim.proofs.Walks.{runs, place_at, agrees, at_container, at_listing, dir, seen, among_granted_all, among_then, among_also}
@@ -162,8 +164,8 @@ module _ (accounts : Accounts) (s : State) (f : Flat) (l : ObjectsMatch accounts
 
 -- ---- the two raw calls
 
-module _ (accounts : Accounts) (ok : AreAccounts accounts) (old new : KernelModel) (f : Flat) (me : ProcName) (t : ℕ)
-    (ready : IsReady accounts (state old) f me t) (m : Name) (d : Path) (call : UnixCall)
+module _ {M : Type 0} (accounts : Accounts) (ok : AreAccounts accounts) (old new : KernelModel) (f : Flat) (me : ProcName) (t : ℕ)
+    (ready : Ready M accounts (state old) f me t) (m : Name) (d : Path) (call : UnixCall)
     (result : Result Reply Stopped) where
   abbrev p : Process
   p = ready.caller.process
@@ -193,6 +195,8 @@ module _ (accounts : Accounts) (ok : AreAccounts accounts) (old new : KernelMode
       (at : get f.files (m ∷ d) ≡ Some (record { class = class; content = content }))
       (calls : List RawCall) (has_reads : (steps : List Made) (r : Reply) → AreAmong calls (entries_of old.line t steps)
       → ReadsAmong accounts f me call old new t ready steps r)
+      (left : AreLeft (requests_of accounts ready.represents.matched me ready.caller.process call) calls
+      (unless_refused (refused accounts f me ready.caller.process call) (plain (removes accounts ready.represents.matched d m))))
       (mid : KernelModel) (same : state mid ≡ state old) (chain : Chain old t (all_granted calls) mid) where
     abbrev Refined : Type 0
     Refined = Goal accounts f me call old new t ready result
@@ -270,32 +274,39 @@ module _ (accounts : Accounts) (ok : AreAccounts accounts) (old new : KernelMode
           (state cut) cuts ready.represents.jobs_given is_dir_here
 
       -- the directory is written, and the call is answered
-      written : Runs call_error cut new t result → Refined
+      written : Runs M call_error cut new t result → Refined
       written on =
           granted_step accounts f me call old new t ready result (calls ++ unlinks ∷ []) cut so_far
           writing (λ _. Answers Done) write_said on
           (λ end done wrote right whole last.
           let all = (calls ++ unlinks ∷ []) ++ writing ∷ [] in
+          let left_all = left_allowed _ calls _ (plain (removes accounts ready.represents.matched d m)) (refused_so true may) left in
+          let left_none = left_then _ (calls ++ unlinks ∷ []) writing [] (left_then _ calls unlinks (request writing ∷ []) left_all) in
           let among_all = among_then old.line t calls (calls ++ unlinks ∷ []) (writing ∷ []) (among (unlinks ∷ [])) in
           answered_step accounts f me call old new t ready result all end whole Done (sym rule.answers) (refused_so true may)
           (subst (IsBacked (state old) (entries_of old.line t (all_granted all))) (sym rule.answers) tt)
-          (has_reads (all_granted all) (flat.answer f me p call) among_all)
+          (has_reads (all_granted all) (flat.answer f me p call) among_all, all_made _ old.line t all left_none)
           (subst (RepresentsStill ready.represents (state end)) (sym rule.removes)
           (subst (λ (s : State). RepresentsStill ready.represents s (without_below f (m ∷ d))) (sym wrote.state)
           matched_after)) last)
 
-    by_right : (may : Bool) → may_write accounts p root ≡ may → Runs (ask unlinks (λ _. call_error)) mid new t result → Refined
+    by_right : (may : Bool) → may_write accounts p root ≡ may → Runs M (ask unlinks (λ _. call_error)) mid new t result → Refined
     by_right false is on =
         refused_step accounts f me call old new t ready result calls mid chain same
-        EACCES (refused_so false is) unlinks (λ _. call_error) Modify (said false is) refl refl (unlinks_named is)
-        (has_reads _ _ (among_also old.line t calls calls ((unlinks, Some Modify) ∷ []) (among_granted_all old.line t calls))) on
+        EACCES (refused_so false is) unlinks (λ _. call_error) Modify (said false is) refl refl (unlinks_named is) (
+          has_reads _ _ (among_also old.line t calls calls ((unlinks, Some Modify) ∷ []) (among_granted_all old.line t calls)),
+          made_to_denial _ old.line t calls (request unlinks) (request writing ∷ []) Modify (left_by_denial _ calls _ EACCES
+              (plain (removes accounts ready.represents.matched d m)) (refused_so false is) refl left),
+        ) on
     by_right true is on =
         granted_step accounts f me call old new t ready result calls mid chain unlinks (λ _. call_error) (said true is) on
         (λ cut done called right longer rest. written is cut (subst (λ (s : State). CutsOff s container o (state cut)) same called.state) longer rest)
 
     -- the entry is removed, or the call is refused
-    pub take_away_step : Runs (take_away (entry_of accounts ok (state old) f me t ready m d content) (λ _. Answers Done)) mid new t result → Refined
+    pub take_away_step :
+        Runs M (take_away (entry_of accounts ok (state old) f me t ready m d content) (λ _. Answers Done)) mid new t result
+        → Refined
     unfolding take_away
     take_away_step run =
-        by_right (may_write accounts p root) refl (subst (λ (q : ℕ). Runs (ask (raw.Unlink container q) (λ _. call_error)) mid new t result)
+        by_right (may_write accounts p root) refl (subst (λ (q : ℕ). Runs M (ask (raw.Unlink container q) (λ _. call_error)) mid new t result)
         (object_led_to accounts ok (state old) f me t ready m d content) run)

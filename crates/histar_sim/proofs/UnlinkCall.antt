@@ -1,5 +1,5 @@
 -- The program of `unlink` refines its rule.
-use Rattle.std.proofs.Common.{◌≡◌, ℕ, List, [], ◌∷◌, Option, None, Some, Result, refl, ap, ◌∙◌, length}
+use Rattle.std.proofs.Common.{◌≡◌, ℕ, List, [], ◌∷◌, Option, None, Some, Result, refl, ap, ◌∙◌, length, inl}
 use Rattle.std.specs.Prelude.{not}
 use Rattle.histar_base.specs.Refusals.{◌orelse◌, unless}
 use Rattle.histar_flat.specs.declared.calls.UnixCall.{UnixCall}
@@ -29,7 +29,9 @@ use Rattle.histar_moves.specs.Parts.{find_entry, must_be_file, take_away}
 use Rattle.histar_moves.specs.Unlink.{unlink_program}
 use Rattle.histar_programs.specs.Start.{roots_of}
 use Rattle.histar_refinement.specs.Accounts.{AreAccounts}
-use Rattle.histar_sim.specs.Simulation.{IsReady}
+use Rattle.histar_sim.specs.RawCalls.{plain, removes}
+use Rattle.histar_sim.proofs.Requests.{made_to_end}
+use Rattle.histar_sim.proofs.Ready.{Ready}
 use Rattle.histar_sim.proofs.CallErrors.{from_each}
 use Rattle.histar_sim.proofs.Chains.{all_granted, Chain}
 use Rattle.histar_sim.proofs.Steps.{Goal, refused_at_once}
@@ -38,8 +40,8 @@ use Rattle.histar_sim.specs.Laws.{UnlinkRefines}
 use Rattle.histar_sim.proofs.Entries.{entry_of, reached, entry_step, entry_explained, entry_clear}
 use Rattle.histar_sim.proofs.TakingAway.{take_away_step}
 
-module _ (accounts : Accounts) (ok : AreAccounts accounts) (old new : KernelModel) (f : Flat) (me : ProcName) (t : ℕ)
-    (ready : IsReady accounts (state old) f me t) (m : Name) (d : Path) (result : Result Reply Stopped) where
+module _ {M : Type 0} (accounts : Accounts) (ok : AreAccounts accounts) (old new : KernelModel) (f : Flat) (me : ProcName) (t : ℕ)
+    (ready : Ready M accounts (state old) f me t) (m : Name) (d : Path) (result : Result Reply Stopped) where
   abbrev call : UnixCall
   call = calls.Unlink (m ∷ d)
 
@@ -79,11 +81,14 @@ module _ (accounts : Accounts) (ok : AreAccounts accounts) (old new : KernelMode
 
     by_content : (class : Class) (content : Content)
         → get f.files (m ∷ d) ≡ Some (record { class = class; content = content })
-        → Runs (at_entry (entry_of accounts ok (state old) f me t ready m d content)) mid new t result → Refined
+        → Runs M (at_entry (entry_of accounts ok (state old) f me t ready m d content)) mid new t result → Refined
     by_content class Dir at on =
         refused_at_once accounts f me call old new t ready result walk mid chain stays
-        EISDIR (refused_by class Dir at) refl refl
-        (has_walk accounts ok (state old) f me t ready m d _ (among_granted_all old.line t walk)) on
+        EISDIR (refused_by class Dir at) refl refl (
+          has_walk accounts ok (state old) f me t ready m d _ (among_granted_all old.line t walk),
+          made_to_end _ old.line t EISDIR walk (all_granted walk) _ (plain (removes accounts ready.represents.matched d m))
+              (refused_by class Dir at) refl (inl (refl, refl)),
+        ) on
     by_content class (File bytes) at on =
         take_away_step accounts ok old new f me t ready m d call result
         (record {
@@ -94,32 +99,33 @@ module _ (accounts : Accounts) (ok : AreAccounts accounts) (old new : KernelMode
           answers = refl;
         })
         open_so_far class (File bytes) at
-        walk (λ steps r among. has_walk accounts ok (state old) f me t ready m d _ among) mid stays chain on
+        walk (λ steps r among. has_walk accounts ok (state old) f me t ready m d _ among) refl mid stays chain on
 
-  unlink_is_refined : Runs (unlink_program (roots_of (length accounts.users)) (m ∷ d)) old new t result → Refined
+  unlink_is_refined : Runs M (unlink_program (roots_of (length accounts.users)) (m ∷ d)) old new t result → Refined
   unfolding unlink_program
   unlink_is_refined run =
       entry_step accounts ok old new f me t ready m d call result refusal refl
-      (λ none steps r among. has_walk accounts ok (state old) f me t ready m d _ among) at_entry
+      (λ none steps r among. has_walk accounts ok (state old) f me t ready m d _ among)
+      (plain (removes accounts ready.represents.matched d m)) (λ none. refl) at_entry
       (entry_explained accounts f me ready.caller.process m d call
       (unless (is_file_at f (m ∷ d)) (HasDirectory (m ∷ d)) orelse not_written accounts f ready.caller.process d) refl) run
       (λ open_so_far class content at mid stays chain on. by_content open_so_far mid stays chain class content at on)
 
 -- an unlink of `/`
-unlink_of_slash : (accounts : Accounts) (old new : KernelModel) (f : Flat) (me : ProcName) (t : ℕ)
-    (result : Result Reply Stopped) (ready : IsReady accounts (state old) f me t)
-    → Runs (unlink_program (roots_of (length accounts.users)) []) old new t result
+unlink_of_slash : {M : Type 0} → (accounts : Accounts) (old new : KernelModel) (f : Flat) (me : ProcName) (t : ℕ)
+    (result : Result Reply Stopped) (ready : Ready M accounts (state old) f me t)
+    → Runs M (unlink_program (roots_of (length accounts.users)) []) old new t result
     → Goal accounts f me (calls.Unlink []) old new t ready result
 unfolding unlink_program find_entry
 unlink_of_slash accounts old new f me t result ready run =
     refused_at_once accounts f me (calls.Unlink []) old new t ready result [] old (same_kernel old)
-    refl EBUSY refl refl refl tt run
+    refl EBUSY refl refl refl (tt, refl) run
 
 -- the program of `unlink` refines its rule
-pub unlink_refines : UnlinkRefines
-unlink_refines accounts ok [] me old new f t result ready run =
-    from_each accounts f me (calls.Unlink []) old new t result ready (λ ready.
+pub unlink_refines : {M : Type 0} → UnlinkRefines M
+unlink_refines {M} accounts ok [] me old new f t result ready run =
+    from_each M accounts f me (calls.Unlink []) old new t result ready (λ ready.
     unlink_of_slash accounts old new f me t result ready run)
-unlink_refines accounts ok (m ∷ d) me old new f t result ready run =
-    from_each accounts f me (calls.Unlink (m ∷ d)) old new t result ready (λ ready.
+unlink_refines {M} accounts ok (m ∷ d) me old new f t result ready run =
+    from_each M accounts f me (calls.Unlink (m ∷ d)) old new t result ready (λ ready.
     unlink_is_refined accounts ok old new f me t ready m d result run)

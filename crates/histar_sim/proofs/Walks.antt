@@ -59,13 +59,15 @@ use Rattle.histar_refinement.proofs.LinesMatched.{holds_directory, directory_fou
 use Rattle.histar_refinement.proofs.Agreeing.{root_is_dir}
 use Rattle.histar_refinement.proofs.StatusFound.{thread_back}
 use Rattle.histar_refinement.proofs.CallerFound.{is_or_zero}
-use Rattle.histar_sim.specs.Simulation.{IsReady}
+use Rattle.histar_sim.proofs.Ready.{Ready}
 use Rattle.histar_sim.specs.Reads.{AreAmong, tested}
 use Rattle.histar_sim.specs.Named.{IsFileAt}
 use Rattle.histar_sim.proofs.ReadsByCall.{AreReadsOf, HasWay, HasWalk}
 use Rattle.histar_sim.proofs.Chains.{Step, all_granted, entries_of, Chain}
 use Rattle.histar_sim.proofs.FirstReasons.{no_reason, unread_at, read_at, named_by}
-use Rattle.histar_sim.proofs.CallErrors.{IsDenialNamed, ReadsAmong}
+use Rattle.histar_sim.specs.RawCalls.{is_of_denial}
+use Rattle.histar_sim.proofs.Requests.{EndWith}
+use Rattle.histar_sim.proofs.CallErrors.{IsDenialNamed, AreItsCalls}
 use Rattle.histar_sim.proofs.Steps.{Goal, granted_step, refused_step, listed_step, refused_at_once}
 
 -- a directory is there
@@ -149,7 +151,8 @@ module _ (line t : ℕ) where
       (entries_of line t (all_granted (before ++ calls) ++ (last, Some denied) ∷ []))
       (among_refused_behind before calls last denied)
 
-module _ (accounts : Accounts) (ok : AreAccounts accounts) (s : State) (f : Flat) (me : ProcName) (t : ℕ) (ready : IsReady accounts s f me t) where
+module _ {M : Type 0} (accounts : Accounts) (ok : AreAccounts accounts) (s : State) (f : Flat) (me : ProcName) (t : ℕ)
+    (ready : Ready M accounts s f me t) where
   abbrev pub numbers : AddressNumbers
   numbers = ready.represents.matched.naming.number
 
@@ -335,8 +338,8 @@ module _ (accounts : Accounts) (ok : AreAccounts accounts) (s : State) (f : Flat
         let dir : is_dir_at f (m ∷ d) ≡ true = ap (λ (o : Option Node). is_some_and o is_dir) is in
         target_is (Some (record { class = class; content = Dir })) is ∙ (λ i. both_numbers (at_container (m ∷ d) dir i) (at_listing (m ∷ d) dir i))
 
-module _ (accounts : Accounts) (ok : AreAccounts accounts) (old new : KernelModel) (f : Flat) (me : ProcName) (t : ℕ)
-    (ready : IsReady accounts (state old) f me t) (call : UnixCall) (result : Result Reply Stopped) where
+module _ {M : Type 0} (accounts : Accounts) (ok : AreAccounts accounts) (old new : KernelModel) (f : Flat) (me : ProcName) (t : ℕ)
+    (ready : Ready M accounts (state old) f me t) (call : UnixCall) (result : Result Reply Stopped) where
   abbrev Refined : Type 0
   Refined = Goal accounts f me call old new t ready result
 
@@ -352,21 +355,22 @@ module _ (accounts : Accounts) (ok : AreAccounts accounts) (old new : KernelMode
   abbrev read : Path → RawCall
   read d = read_of accounts ok (state old) f me t ready d
 
-  -- the call is refused with this errno, and these raw calls are the reads that it cannot do without
+  -- the call is refused with this errno, and these are its raw calls
   abbrev pub IsRefusedBy : Errno → List Step → Type 0
   IsRefusedBy errno steps =
       (refused accounts f me process call ≡ Some errno)
-      × ReadsAmong accounts f me call old new t ready steps (Refused errno)
+      × AreItsCalls accounts f me call old new t ready steps (Refused errno)
 
   -- where the way into the directory has a reason, that is the call's
   abbrev pub Explains : Path → Type 0
   Explains d = (reason : Reason) → why_into accounts f process d ≡ Some reason → why accounts f me process call ≡ Some reason
 
-  -- where the way into the directory is refused, so is the call, once the reads of the walk are made, and the reason is that of the way
-  abbrev pub Refuses : Path → Type 0
-  Refuses d =
+  -- Where the way into the directory is refused, so is the call, once the reads of the walk are made after these raw calls, and the reason is
+  -- that of the way.
+  abbrev pub Refuses : List RawCall → Path → Type 0
+  Refuses before d =
       ((errno : Errno) → into accounts f process d ≡ Some errno → (steps : List Step)
-      → AreAmong (calls_to d) (entries_of old.line t steps) → IsRefusedBy errno steps)
+      → AreAmong (calls_to d) (entries_of old.line t steps) → EndWith errno (before ++ calls_to d) steps → IsRefusedBy errno steps)
       × Explains d
 
   -- the read of a directory segment is on what the reason names that the directory may not be read
@@ -384,11 +388,11 @@ module _ (accounts : Accounts) (ok : AreAccounts accounts) (old new : KernelMode
   -- the bytes of a directory segment are read after these raw calls
   bytes_step : (d : Path) → is_dir_at f d ≡ true → (before : List RawCall) (mid : KernelModel) → state mid ≡ state old
       → Chain old t (all_granted before) mid
-      → (rest : List ℕ → Program) → Runs (ask (read d) rest) mid new t result
+      → (rest : List ℕ → Program) → Runs M (ask (read d) rest) mid new t result
       → (reads accounts f process d ≡ false → IsRefusedBy EACCES (all_granted before ++ (read d, Some Observe) ∷ []))
       → (reads accounts f process d ≡ false → IsDenialNamed accounts f me call old new t ready (read d))
       → (reads accounts f process d ≡ true → (later : KernelModel) → state later ≡ state old → Chain old t (all_granted (before ++ read d ∷ [])) later
-      → (bytes : List ℕ) → IsDirectory bytes (entries_at d) → Runs (rest bytes) later new t result → Refined) → Refined
+      → (bytes : List ℕ) → IsDirectory bytes (entries_at d) → Runs M (rest bytes) later new t result → Refined) → Refined
   bytes_step d dir before mid stays chain rest run refuses named go_on = by (reads accounts f process d) refl
     where
       said : (b : Bool) → reads accounts f process d ≡ b → check (state mid) t (read d) ≡ unless b Observe
@@ -415,11 +419,11 @@ module _ (accounts : Accounts) (ok : AreAccounts accounts) (old new : KernelMode
   -- a directory is read after these raw calls
   pub read_step : (d : Path) → is_dir_at f d ≡ true → (before : List RawCall) (mid : KernelModel)
       → state mid ≡ state old → Chain old t (all_granted before) mid
-      → (rest : Directory → Program) → Runs (read_directory (place_at accounts ok (state old) f me t ready d) rest) mid new t result
+      → (rest : Directory → Program) → Runs M (read_directory (place_at accounts ok (state old) f me t ready d) rest) mid new t result
       → (reads accounts f process d ≡ false → IsRefusedBy EACCES (all_granted before ++ (read d, Some Observe) ∷ []))
       → (reads accounts f process d ≡ false → IsDenialNamed accounts f me call old new t ready (read d))
       → (reads accounts f process d ≡ true → (later : KernelModel) → state later ≡ state old
-      → Chain old t (all_granted (before ++ read d ∷ [])) later → Runs (rest (last_of d)) later new t result
+      → Chain old t (all_granted (before ++ read d ∷ [])) later → Runs M (rest (last_of d)) later new t result
       → Refined) → Refined
   unfolding read_directory
   read_step d dir before mid stays chain rest run refuses named go_on =
@@ -445,22 +449,22 @@ module _ (accounts : Accounts) (ok : AreAccounts accounts) (old new : KernelMode
     GoesOnReading d after =
         into accounts f process d ≡ None → (mid : KernelModel) → state mid ≡ state old → Chain old t (all_granted (reached d)) mid
         → (bytes : List ℕ) → IsDirectory bytes (entries_at d)
-        → Runs (after (place_at accounts ok (state old) f me t ready d) bytes) mid new t result → Refined
+        → Runs M (after (place_at accounts ok (state old) f me t ready d) bytes) mid new t result → Refined
 
     -- where the way is not refused, the call goes on with where a name leads in the directory
     abbrev pub GoesOnLooking : Path → Name → (Place → Option Target → Program) → Type 0
     GoesOnLooking d n rest =
         into accounts f process d ≡ None → (mid : KernelModel) → state mid ≡ state old → Chain old t (all_granted (reached d)) mid
-        → Runs (rest (place_at accounts ok (state old) f me t ready d) (finite.get (entries_at d) n)) mid new t result → Refined
+        → Runs M (rest (place_at accounts ok (state old) f me t ready d) (finite.get (entries_at d) n)) mid new t result → Refined
 
     -- where the way is not refused, the call goes on with the directory
     abbrev pub GoesOn : Path → (Directory → Program) → Type 0
     GoesOn d rest =
         into accounts f process d ≡ None → (mid : KernelModel) → state mid ≡ state old
-        → Chain old t (all_granted (reached d)) mid → Runs (rest (last_of d)) mid new t result → Refined
+        → Chain old t (all_granted (reached d)) mid → Runs M (rest (last_of d)) mid new t result → Refined
 
     -- from a directory that may be read on to the next
-    module _ (n : Name) (d : Path) (after : Place → List ℕ → Program) (refuses : Refuses (n ∷ d))
+    module _ (n : Name) (d : Path) (after : Place → List ℕ → Program) (refuses : Refuses before (n ∷ d))
         (go_on : GoesOnReading (n ∷ d) after) (open_so_far : into accounts f process d ≡ None) (mid : KernelModel)
         (stays : state mid ≡ state old) (chain : Chain old t (all_granted (reached d)) mid) where
       -- the tests of the next name
@@ -485,14 +489,17 @@ module _ (accounts : Accounts) (ok : AreAccounts accounts) (old new : KernelMode
 
       -- the walk ends here, with no raw call more
       breaks_off : (errno : Errno) → into accounts f process (n ∷ d) ≡ Some errno → is_dir_at f (n ∷ d) ≡ false
+          → is_of_denial errno ≡ false
           → IsRefusedBy errno (all_granted (reached d))
-      breaks_off errno is no_dir = refuses.0 errno is (all_granted (reached d))
-          (subst (λ (calls : List RawCall). AreAmong calls (entries_of old.line t (all_granted (reached d))))
-          (sym (calls_are false no_dir ∙ append-nil (calls_to d)))
+      breaks_off errno is no_dir found =
+          let same = calls_are false no_dir ∙ append-nil (calls_to d) in
+          refuses.0 errno is (all_granted (reached d))
+          (subst (λ (calls : List RawCall). AreAmong calls (entries_of old.line t (all_granted (reached d)))) (sym same)
           (among_granted_behind old.line t before (calls_to d)))
+          (inl (ap (λ (calls : List RawCall). all_granted (before ++ calls)) (sym same), found))
 
       enters : (class : Class) → get f.files (n ∷ d) ≡ Some (record { class = class; content = Dir })
-          → Runs (reading after (place_at accounts ok (state old) f me t ready (n ∷ d))) mid new t result → Refined
+          → Runs M (reading after (place_at accounts ok (state old) f me t ready (n ∷ d))) mid new t result → Refined
       enters class is on =
           let dir : is_dir_at f (n ∷ d) ≡ true = ap (λ (o : Option Node). is_some_and o is_dir) is in
           let into_so : into accounts f process (n ∷ d) ≡ unless (reads accounts f process (n ∷ d)) EACCES =
@@ -504,7 +511,8 @@ module _ (accounts : Accounts) (ok : AreAccounts accounts) (old new : KernelMode
           (all_granted (reached d) ++ (read (n ∷ d), Some Observe) ∷ [])
           (subst (λ (calls : List RawCall). AreAmong calls
           (entries_of old.line t (all_granted (reached d) ++ (read (n ∷ d), Some Observe) ∷ [])))
-          (sym (calls_are true dir)) (among_refused_behind old.line t before (calls_to d) (read (n ∷ d)) Observe)))
+          (sym (calls_are true dir)) (among_refused_behind old.line t before (calls_to d) (read (n ∷ d)) Observe))
+          (inr (reached d, read (n ∷ d), Observe, ends_there dir, refl)))
           (λ unseen.
           let named = unread_below accounts ok (state old) f me t ready n d open_so_far dir unseen in
           read_named (n ∷ d) dir named.0 (refuses.1 (MayNotRead (n ∷ d) named.0) named.1))
@@ -514,43 +522,51 @@ module _ (accounts : Accounts) (ok : AreAccounts accounts) (old new : KernelMode
           (append_assoc before (calls_to d) (read (n ∷ d) ∷ [])
           ∙ ap (λ (calls : List RawCall). before ++ calls) (sym (calls_are true dir))) longer)
           bytes holds end)
+        where
+          -- the read of the directory is the last raw call of the way into it
+          ends_there : is_dir_at f (n ∷ d) ≡ true → before ++ calls_to (n ∷ d) ≡ reached d ++ read (n ∷ d) ∷ []
+          ends_there dir =
+              ap (λ (calls : List RawCall). before ++ calls) (calls_are true dir)
+              ∙ sym (append_assoc before (calls_to d) (read (n ∷ d) ∷ []))
 
       -- once the name was looked up
       abbrev at_name : Option Target → Program
       at_name target = given (directory_at target) (reading after)
 
       by_content : (class : Class) (c : Content) → get f.files (n ∷ d) ≡ Some (record { class = class; content = c })
-          → Runs (at_name (finite.get (entries_at d) n)) mid new t result → Refined
+          → Runs M (at_name (finite.get (entries_at d) n)) mid new t result → Refined
       by_content class Dir is on =
-          enters class is (subst (λ (target : Option Target). Runs (at_name target) mid new t result)
+          enters class is (subst (λ (target : Option Target). Runs M (at_name target) mid new t result)
           (directory_there accounts ok (state old) f me t ready n d class is) on)
       by_content class (File bytes) is on =
-          let end = breaks_off ENOTDIR (into_is _ is) (ap (λ (o : Option Node). is_some_and o is_dir) is) in
+          let end = breaks_off ENOTDIR (into_is _ is) (ap (λ (o : Option Node). is_some_and o is_dir) is) refl in
           refused_at_once accounts f me call old new t ready result (reached d) mid chain stays
           ENOTDIR end.0 refl refl end.1
-          (subst (λ (target : Option Target). Runs (at_name target) mid new t result)
+          (subst (λ (target : Option Target). Runs M (at_name target) mid new t result)
           (file_there accounts ok (state old) f me t ready n d class bytes is) on)
 
-      next_step : (o : Option Node) → get f.files (n ∷ d) ≡ o → Runs (at_name (finite.get (entries_at d) n)) mid new t result → Refined
+      next_step : (o : Option Node) → get f.files (n ∷ d) ≡ o → Runs M (at_name (finite.get (entries_at d) n)) mid new t result → Refined
       next_step None is on =
-          let end = breaks_off ENOENT (into_is _ is) (ap (λ (o : Option Node). is_some_and o is_dir) is) in
+          let end = breaks_off ENOENT (into_is _ is) (ap (λ (o : Option Node). is_some_and o is_dir) is) refl in
           refused_at_once accounts f me call old new t ready result (reached d) mid chain stays
           ENOENT end.0 refl refl end.1
-          (subst (λ (target : Option Target). Runs (at_name target) mid new t result) (nothing_there accounts ok (state old) f me t ready n d is) on)
+          (subst (λ (target : Option Target). Runs M (at_name target) mid new t result)
+          (nothing_there accounts ok (state old) f me t ready n d is) on)
       next_step (Some node) is on = by_content node.class node.content is on
 
     -- the walk into a directory up to its bytes
     reading_step : (d : Path) (after : Place → List ℕ → Program)
-        → Runs (find_place (roots_of (length accounts.users)) d (reading after)) start new t result → Refuses d
+        → Runs M (find_place (roots_of (length accounts.users)) d (reading after)) start new t result → Refuses before d
         → GoesOnReading d after → Refined
     unfolding find_place look_in
     reading_step [] after run refuses go_on =
         bytes_step [] (slash_is_dir accounts ok (state old) f me t ready) before start unchanged begun
         (after (place_at accounts ok (state old) f me t ready []))
-        (subst (λ (place : Place). Runs (reading after place) start new t result) (slash_place accounts ok (state old) f me t ready) run)
+        (subst (λ (place : Place). Runs M (reading after place) start new t result) (slash_place accounts ok (state old) f me t ready) run)
         (λ unseen. refuses.0 EACCES (ap (λ (b : Bool). unless b EACCES) unseen)
         (all_granted before ++ (read [], Some Observe) ∷ [])
-        (among_behind old.line t (read [] ∷ []) before ((read [], Some Observe) ∷ []) (inl (refl, tt))))
+        (among_behind old.line t (read [] ∷ []) before ((read [], Some Observe) ∷ []) (inl (refl, tt)))
+        (inr (before, read [], Observe, refl, refl)))
         (λ unseen.
         let dir = slash_is_dir accounts ok (state old) f me t ready in
         let named = unread_directory accounts ok (state old) f me t ready [] dir unseen in
@@ -558,17 +574,18 @@ module _ (accounts : Accounts) (ok : AreAccounts accounts) (old new : KernelMode
         (λ seen. go_on (ap (λ (b : Bool). unless b EACCES) seen))
     reading_step (n ∷ d) after run refuses go_on =
         reading_step d (λ above bytes. given (directory_at (found_in bytes n)) (reading after)) run (
-          λ errno is steps among. refuses.0 errno (ap (λ (o : Option Errno).
+          λ errno is steps among end. refuses.0 errno (ap (λ (o : Option Errno).
               o orelse unless (is_there f (n ∷ d)) ENOENT orelse unless (is_dir_at f (n ∷ d)) ENOTDIR
               orelse unless (reads accounts f process (n ∷ d)) EACCES) is) steps
-              (subst (λ (calls : List RawCall). AreAmong calls (entries_of old.line t steps)) (sym (stopped_before n d errno is)) among),
+              (subst (λ (calls : List RawCall). AreAmong calls (entries_of old.line t steps)) (sym (stopped_before n d errno is)) among)
+              (subst (λ (calls : List RawCall). EndWith errno (before ++ calls) steps) (sym (stopped_before n d errno is)) end),
           λ reason is. refuses.1 reason (ap (λ (o : Option Reason).
               o orelse unless (is_there f (n ∷ d)) (IsMissing (n ∷ d)) orelse unless (is_dir_at f (n ∷ d)) (HasFile (n ∷ d))
               orelse not_read accounts f process (n ∷ d)) is),
         )
         (λ open_so_far mid stays chain bytes is on.
         next_step n d after refuses go_on open_so_far mid stays chain (get f.files (n ∷ d)) refl
-        (subst (λ (target : Option Target). Runs (given (directory_at target) (reading after)) mid new t result)
+        (subst (λ (target : Option Target). Runs M (given (directory_at target) (reading after)) mid new t result)
         (found_in_directory bytes (entries_at d) n is) on))
       where
         -- a walk that was refused looks at no directory more
@@ -580,7 +597,7 @@ module _ (accounts : Accounts) (ok : AreAccounts accounts) (old new : KernelMode
 
     -- The walk into a directory: it is refused as the flat rules refuse the call, or the call goes on with the directory.
     pub walk_step_behind : (d : Path) (rest : Directory → Program)
-        → Runs (walk_to (roots_of (length accounts.users)) d rest) start new t result → Refuses d → GoesOn d rest
+        → Runs M (walk_to (roots_of (length accounts.users)) d rest) start new t result → Refuses before d → GoesOn d rest
         → Refined
     unfolding walk_to read_directory
     walk_step_behind d rest run refuses go_on =
@@ -591,26 +608,26 @@ module _ (accounts : Accounts) (ok : AreAccounts accounts) (old new : KernelMode
 
     -- The walk to a directory, and a look-up in it: it is refused as the flat rules refuse the call, or the call goes on with where the name leads.
     pub look_step_behind : (d : Path) (n : Name) (rest : Place → Option Target → Program)
-        → Runs (find_place (roots_of (length accounts.users)) d (λ place. look_in place n (rest place))) start new t
+        → Runs M (find_place (roots_of (length accounts.users)) d (λ place. look_in place n (rest place))) start new t
         result
-        → Refuses d → GoesOnLooking d n rest → Refined
+        → Refuses before d → GoesOnLooking d n rest → Refined
     unfolding look_in
     look_step_behind d n rest run refuses go_on =
         reading_step d (λ place bytes. rest place (found_in bytes n)) run refuses
         (λ open_so_far mid stays chain bytes is on.
         go_on open_so_far mid stays chain
         (subst (λ (target : Option Target).
-        Runs (rest (place_at accounts ok (state old) f me t ready d) target) mid new t result)
+        Runs M (rest (place_at accounts ok (state old) f me t ready d) target) mid new t result)
         (found_in_directory bytes (entries_at d) n is) on))
 
   -- the same for a walk at the beginning of the call
   pub walk_step : (d : Path) (rest : Directory → Program)
-      → Runs (walk_to (roots_of (length accounts.users)) d rest) old new t result → Refuses d
+      → Runs M (walk_to (roots_of (length accounts.users)) d rest) old new t result → Refuses [] d
       → GoesOn [] old refl (same_kernel old) d rest → Refined
   walk_step d rest run refuses go_on = walk_step_behind [] old refl (same_kernel old) d rest run refuses go_on
 
   -- the same for a look-up at the beginning of the call
   pub look_step : (d : Path) (n : Name) (rest : Place → Option Target → Program)
-      → Runs (find_place (roots_of (length accounts.users)) d (λ place. look_in place n (rest place))) old new t result
-      → Refuses d → GoesOnLooking [] old refl (same_kernel old) d n rest → Refined
+      → Runs M (find_place (roots_of (length accounts.users)) d (λ place. look_in place n (rest place))) old new t result
+      → Refuses [] d → GoesOnLooking [] old refl (same_kernel old) d n rest → Refined
   look_step d n rest run refuses go_on = look_step_behind [] old refl (same_kernel old) d n rest run refuses go_on

@@ -29,7 +29,7 @@ use Rattle.histar_refinement.specs.Represents.{ObjectsMatch}
 use Rattle.histar_refinement.proofs.KeepingNames.{still_represents}
 use Rattle.histar_refinement.proofs.RawChecks.{caller_passes}
 use Rattle.histar_refinement.proofs.Agreeing.{thread_found}
-use Rattle.histar_sim.specs.Simulation.{IsReady}
+use Rattle.histar_sim.proofs.Ready.{Ready}
 use Rattle.histar_sim.proofs.CallErrors.{from_each}
 use Rattle.histar_sim.proofs.Steps.{Goal, granted_step, answered_step}
 use Rattle.histar_sim.specs.Laws.{WhoamiRefines}
@@ -37,8 +37,8 @@ use Rattle.histar_refinement.proofs.OwnLabels.{own_user_is, name_of_number}
 use Rattle.histar_refinement.proofs.JobLabels.{none_if_free}
 use Rattle.histar_sim.proofs.Searches.{runs_as}
 
-module _ (accounts : Accounts) (ok : AreAccounts accounts) (old new : KernelModel) (f : Flat) (me : ProcName) (t : ℕ)
-    (ready : IsReady accounts (state old) f me t) (result : Result Reply Stopped) where
+module _ {M : Type 0} (accounts : Accounts) (ok : AreAccounts accounts) (old new : KernelModel) (f : Flat) (me : ProcName) (t : ℕ)
+    (ready : Ready M accounts (state old) f me t) (result : Result Reply Stopped) where
   abbrev p : Process
   p = ready.caller.process
 
@@ -67,7 +67,7 @@ module _ (accounts : Accounts) (ok : AreAccounts accounts) (old new : KernelMode
       let is : label ≡ own = same_Some label own (right ∙ ap label_there thread) in
       ap reply_by is ∙ (λ i. replies.User (name_is i) (not (none_if_free l.category accounts me p i)))
 
-  whoami_is_refined : Runs (whoami_program accounts) old new t result → Goal accounts f me calls.Whoami old new t ready result
+  whoami_is_refined : Runs M (whoami_program accounts) old new t result → Goal accounts f me calls.Whoami old new t ready result
   unfolding whoami_program
   whoami_is_refined run =
       granted_step accounts f me calls.Whoami old new t ready result [] old (same_kernel old)
@@ -75,11 +75,11 @@ module _ (accounts : Accounts) (ok : AreAccounts accounts) (old new : KernelMode
       (caller_passes (state old) t own (rights_clearance l.category (thread_rights accounts me p)) thread) run
       (λ later label called right longer on.
       answered_step accounts f me calls.Whoami old new t ready result (OwnLabel ∷ []) later longer
-      (reply_by label.0) (revealed label.0 right.0) refl tt (inl (refl, tt))
+      (reply_by label.0) (revealed label.0 right.0) refl tt (inl (refl, tt), (refl, refl))
       (still_represents ready.represents _ called.state) on)
 
 -- the program of `whoami` refines its rule
-pub whoami_refines : WhoamiRefines
-whoami_refines accounts ok me old new f t result ready run =
-    from_each accounts f me calls.Whoami old new t result ready (λ ready.
+pub whoami_refines : {M : Type 0} → WhoamiRefines M
+whoami_refines {M} accounts ok me old new f t result ready run =
+    from_each M accounts f me calls.Whoami old new t result ready (λ ready.
     whoami_is_refined accounts ok old new f me t ready result run)

@@ -2,6 +2,7 @@
 -- scratch directory is made, and the job is begun.
 use Rattle.std.proofs.Common.{◌≡◌, ℕ, ◌+◌, inl, Bool, true, false, List, [], ◌∷◌, ◌++◌, length, Option, None, Some, Result, refl, sym, ap, ◌∙◌, subst}
 use Rattle.std.specs.Prelude.{IsTrue, is_some, nat_lt, not}
+use Rattle.std.specs.FinMap as finite
 use Rattle.histar_base.specs.Refusals.{◌orelse◌, unless}
 use Rattle.histar_flat.specs.declared.calls.UnixCall.TheVariants.{Wrap}
 use Rattle.histar_flat.specs.declared.replies.Errno.{Errno}
@@ -11,6 +12,8 @@ use Rattle.histar_flat.specs.declared.replies.Reply.TheVariants.{Child, Refused}
 use Rattle.histar_flat.specs.Words.{Name, Path, ProcName, is_name, is_path, most_children, most_numbers}
 use Rattle.histar_base.specs.Paths.{same}
 use Rattle.histar_level.specs.Levels.{Levels}
+use Rattle.histar_level.specs.declared.level.Level.TheVariants.{Star, L3}
+use Rattle.histar_label.specs.Levels.{with_level}
 use Rattle.histar_flat.specs.Accounts.{Accounts, user_number}
 use Rattle.histar_flat.specs.Classes.{Process, nobody, may_write}
 use Rattle.histar_flat.specs.Files.{get}
@@ -25,11 +28,12 @@ use Rattle.histar_object.specs.State.{State, with_object}
 use Rattle.histar_rules.specs.declared.raw.Denied.{Denied}
 use Rattle.histar_rules.specs.declared.raw.Denied.TheVariants.{Modify, Range, TooBig}
 use Rattle.histar_rules.specs.declared.raw.RawCall.{RawCall}
-use Rattle.histar_rules.specs.declared.raw.RawCall.TheVariants.{MakeCategory, MakeContainer, OwnLabel, SetLabel, SetClearance}
+use Rattle.histar_rules.specs.declared.raw.RawCall.TheVariants.{MakeCategory, MakeContainer, OwnLabel, SetLabel, SetClearance, MakeSegment}
 use Rattle.histar_rules.specs.Rules.{check, has_number}
 use Rattle.histar_syscall.specs.KernelModel.{KernelModel, state}
 use Rattle.histar_trace.specs.declared.entries.TraceEntry.{TraceEntry}
 use Rattle.histar_layout.specs.Status.{ProcessStatus}
+use Rattle.histar_layout.specs.declared.entry.Target.TheVariants as targets
 use Rattle.histar_programs.specs.declared.call_error.Stopped.{Stopped}
 use Rattle.histar_programs.specs.declared.find.Room.{Room}
 use Rattle.histar_programs.specs.Refusals.{errno_for}
@@ -45,9 +49,15 @@ use Rattle.histar_wrap.specs.WrapCall.{wrap_program}
 use Rattle.histar_refinement.specs.Accounts.{AreAccounts}
 use Rattle.histar_refinement.specs.KeptNames.{RepresentsStill}
 use Rattle.histar_refinement.proofs.Beside.{own_set}
+use Rattle.histar_refinement.proofs.AccountLemmas.{not_nobody as declared_is_other}
 use Rattle.histar_refinement.proofs.Agreeing.{some_of}
 use Rattle.histar_refinement.proofs.WrapRefused.{still_refused}
-use Rattle.histar_sim.specs.Simulation.{errno_by_rule, IsReady, has_category}
+use Rattle.histar_programs.specs.declared.roots.Home.{Home}
+use Rattle.histar_sim.specs.Simulation.{errno_by_rule, has_category}
+use Rattle.histar_sim.specs.RawCalls.{Request, births_at, home_of, in_directory, plain, requests_of, starts_job, takes_own}
+use Rattle.histar_sim.specs.RawCalls.{unless_refused, writes_entries}
+use Rattle.histar_sim.proofs.Requests.{AreLeft, request, left_after, left_allowed, left_by_denial, left_granted, left_then, of_denial, made_to_denial}
+use Rattle.histar_sim.proofs.Ready.{Ready}
 use Rattle.histar_sim.specs.Reads.{AreAmong}
 use Rattle.histar_sim.proofs.CallErrors.{IsDenialNamed, from_each}
 use Rattle.histar_sim.proofs.ReadsByCall.{HasWalk, HasWalkUnlessFull}
@@ -60,6 +70,7 @@ use Rattle.histar_sim.proofs.NewEntries.{last_name}
 use Rattle.histar_sim.proofs.BirthChecks.{category_said}
 use Rattle.histar_sim.proofs.BirthSteps.{category_step}
 use Rattle.histar_sim.proofs.ChildRoom.{NeedsChild, own_of, own_clearance_of, status_of, reads, at_thread, child_room_step, own_label_step}
+use Rattle.histar_sim.proofs.ChildRoom.{home_is}
 use Rattle.histar_sim.specs.Laws.{WrapRefines}
 use Rattle.histar_sim.proofs.GivenBack.{given_back_step}
 use Rattle.histar_sim.proofs.GrantedWrap as granted
@@ -73,9 +84,9 @@ walk_unless_full accounts s f p q (Refused EAGAIN) entries walk = tt
 walk_unless_full accounts s f p q (Refused errno) entries walk = walk
 walk_unless_full accounts s f p q reply entries walk = walk
 
-module _ (accounts : Accounts) (ok : AreAccounts accounts) (me : ProcName) (caller : Caller) (old new : KernelModel)
+module _ {M : Type 0} (accounts : Accounts) (ok : AreAccounts accounts) (me : ProcName) (caller : Caller) (old new : KernelModel)
     (f : Flat) (result : Result Reply Stopped)
-    (ready : IsReady accounts (state old) f me caller.thread)
+    (ready : Ready M accounts (state old) f me caller.thread)
     (found : caller_at (state old) (roots_of (length accounts.users)).home me ≡ Some caller) where
   abbrev t : ℕ
   t = caller.thread
@@ -148,11 +159,6 @@ module _ (accounts : Accounts) (ok : AreAccounts accounts) (me : ProcName) (call
       abbrev before : List RawCall
       before = ((first ++ walk) ++ OwnLabel ∷ []) ++ MakeCategory ∷ []
 
-      among_before : AreAmong walk (entries_of old.line t (all_granted before))
-      among_before =
-          among_then old.line t walk ((first ++ walk) ++ OwnLabel ∷ []) (MakeCategory ∷ [])
-          (among_then old.line t walk (first ++ walk) (OwnLabel ∷ []) (among_granted_behind old.line t first walk))
-
       -- ---- the container of the scratch directory is made
 
       abbrev job : ℕ
@@ -161,13 +167,47 @@ module _ (accounts : Accounts) (ok : AreAccounts accounts) (me : ProcName) (call
       abbrev next : RawCall
       next = MakeContainer (container accounts ok (state old) f me t ready d) (directory_label accounts own job)
 
+      -- what is left after the walk, and of it from the make call on
+      abbrev requests : List Request
+      requests = requests_of accounts ready.represents.matched me p (Wrap (m ∷ d))
+
+      abbrev starts : List Request
+      starts = starts_job accounts ready.represents.matched me p d m
+
+      abbrev made : Request
+      made = record { call = next; if_denied = takes_own accounts ready.represents.matched me p }
+
+      abbrev after_made : Home → List RawCall
+      after_made home =
+          MakeSegment (state old).next_object (directory_label accounts own job) []
+          ∷ writes_entries accounts ready.represents.matched d (finite.insert room.entries m
+          (targets.Directory (state old).next_object ((state old).next_object + 1)))
+          ∷ births_at home status (kin_in accounts own job) (job + 1) ((state old).next_object + 1 + 1)
+          ++ SetLabel (with_level own job Star) ∷ SetClearance (with_level clearance job L3) ∷ []
+
+      abbrev made_on : Home → List Request
+      made_on home = made ∷ plain (after_made home)
+
+      left_before : AreLeft requests (first ++ walk) starts → AreLeft requests before (made_on caller.home)
+      left_before left =
+          subst (λ (home : Home). AreLeft requests before (made_on home)) (home_is accounts me caller old new f result ready found)
+          (left_then requests ((first ++ walk) ++ OwnLabel ∷ []) MakeCategory (made_on (home_of accounts ready.represents.matched me))
+          (left_then requests (first ++ walk) OwnLabel
+          (request MakeCategory ∷ made_on (home_of accounts ready.represents.matched me)) left))
+
+      among_before : AreAmong walk (entries_of old.line t (all_granted before))
+      among_before =
+          among_then old.line t walk ((first ++ walk) ++ OwnLabel ∷ []) (MakeCategory ∷ [])
+          (among_then old.line t walk (first ++ walk) (OwnLabel ∷ []) (among_granted_behind old.line t first walk))
+
       -- what is left of the program once the container has a number
       abbrev within : ℕ → Program
       within = granted.within accounts ok me caller old new f result ready found m named d
 
       module _ (open_so_far : into accounts f p d ≡ None) (absent : get f.files (m ∷ d) ≡ None)
           (roomy : nat_lt (length (entries_in f d)) most_entries ≡ true)
-          (mid : KernelModel) (counted : state mid ≡ with_category (state old) t) (chain : Chain old t (all_granted before) mid) where
+          (mid : KernelModel) (counted : state mid ≡ with_category (state old) t) (chain : Chain old t (all_granted before) mid)
+          (left : AreLeft requests (first ++ walk) (unless_refused (refused accounts f me p (Wrap (m ∷ d))) starts)) where
         -- the directory above may be written
         abbrev may : Bool
         may = may_write accounts p (directory_class accounts ok (state old) f me t ready d open_so_far)
@@ -195,7 +235,8 @@ module _ (accounts : Accounts) (ok : AreAccounts accounts) (me : ProcName) (call
         given_back : (denied : Denied) (errno : Errno) → check (state mid) t next ≡ Some denied
             → errno_for next denied ≡ Some errno → errno_by_rule denied ≡ Some errno
             → IsDenialNamed accounts f me (Wrap (m ∷ d)) old new t ready next
-            → refused accounts f me p (Wrap (m ∷ d)) ≡ Some errno → Runs (ask_or_give_back (own, clearance) next within) mid new t result → Refined
+            → refused accounts f me p (Wrap (m ∷ d)) ≡ Some errno
+            → Runs M (ask_or_give_back (own, clearance) next within) mid new t result → Refined
         given_back denied errno fails revealed by_rule named is on =
             given_back_step accounts f me (Wrap (m ∷ d)) old new t ready result before mid chain
             errno is (own, clearance) next within denied fails revealed by_rule named
@@ -204,16 +245,20 @@ module _ (accounts : Accounts) (ok : AreAccounts accounts) (me : ProcName) (call
             ∙ set_clearance_said accounts ok (state old) f me t ready)
             (subst (λ (s : State). RepresentsStill ready.represents (own_set t s own clearance) f) (sym counted)
             (still_refused accounts (state old) f ready.represents me p ready.caller.agrees
-            ready.caller.runs t (at_thread accounts me caller old new f result ready found)))
-            (has_reads accounts ok old new f me t ready m d (Wrap (m ∷ d)) result not_nobody (needs_room (m ∷ d))
-            (all_granted before ++ (next, Some denied) ∷ all_granted (SetLabel own ∷ SetClearance clearance ∷ []))
-            (Refused errno)
-            (among_also old.line t walk before ((next, Some denied) ∷ all_granted (SetLabel own ∷ SetClearance clearance ∷ [])) among_before)) on
+            ready.caller.runs t (at_thread accounts me caller old new f result ready found))) (
+              has_reads accounts ok old new f me t ready m d (Wrap (m ∷ d)) result not_nobody (needs_room (m ∷ d))
+                  (all_granted before ++ (next, Some denied) ∷ all_granted (SetLabel own ∷ SetClearance clearance ∷ []))
+                  (Refused errno)
+                  (among_also old.line t walk before ((next, Some denied) ∷ all_granted (SetLabel own ∷ SetClearance clearance ∷ []))
+                  among_before),
+              made_to_denial requests old.line t before made _ denied
+                  (left_before (left_by_denial requests (first ++ walk) _ errno starts is (of_denial denied errno by_rule) left)),
+            ) on
 
         -- by what the kernel says
         by_right : (can declared has : Bool) → may ≡ can → is_some (user_number accounts p.user) ≡ declared → has_number (state old) ≡ has
             → check (state mid) t next ≡ (unless can Modify orelse unless declared Range orelse unless has TooBig)
-            → Runs (ask_or_give_back (own, clearance) next within) mid new t result → Refined
+            → Runs M (ask_or_give_back (own, clearance) next within) mid new t result → Refined
         by_right false declared has is_may is_declared is_has said on =
             given_back Modify EACCES said refl refl (above_unwritten is_may) (refused_is false is_may) on
         by_right true false has is_may is_declared is_has said on =
@@ -231,14 +276,16 @@ module _ (accounts : Accounts) (ok : AreAccounts accounts) (me : ProcName) (call
             let user = some_of (user_number accounts p.user) is_declared in
             job_begun accounts ok me caller old new f result ready found m named d long few open_so_far absent roomy
             is_may user.0 user.1 is_has (before ++ next ∷ [])
-            (among_then old.line t walk before (next ∷ []) among_before) linked
+            (among_then old.line t walk before (next ∷ []) among_before)
+            (left_granted requests before made (after_made caller.home) (left_before (left_allowed requests (first ++ walk) _ starts
+            (refused_is true is_may ∙ ap (λ (b : Bool). unless (not b) EPERM) (declared_is_other accounts ok p.user user.0 user.1)) left))) linked
             (called.state
             ∙ ap (λ (s : State). with_object s room.place.container
             (granted.container accounts ok me caller old new f result ready found m named d)) counted)
             longer
-            (subst (λ (q : ℕ). Runs (within q) linked new t result) (number_is ∙ ap (λ (s : State). s.next_object) counted) rest))
+            (subst (λ (q : ℕ). Runs M (within q) linked new t result) (number_is ∙ ap (λ (s : State). s.next_object) counted) rest))
 
-        made_step : Runs (in_job status (own, clearance) room job) mid new t result → Refined
+        made_step : Runs M (in_job status (own, clearance) room job) mid new t result → Refined
         unfolding make_scratch
         made_step on =
             by_right may (is_some (user_number accounts p.user)) (has_number (state old)) refl refl refl
@@ -247,10 +294,12 @@ module _ (accounts : Accounts) (ok : AreAccounts accounts) (me : ProcName) (call
 
       -- ---- there is room
 
-      roomed : (open_so_far : into accounts f p d ≡ None) → get f.files (m ∷ d) ≡ None → nat_lt (length (entries_in f d)) most_entries ≡ true
+      roomed : AreLeft requests (first ++ walk) (unless_refused (refused accounts f me p (Wrap (m ∷ d))) starts)
+          → (open_so_far : into accounts f p d ≡ None) → get f.files (m ∷ d) ≡ None
+              → nat_lt (length (entries_in f d)) most_entries ≡ true
           → (mid : KernelModel) → state mid ≡ state old → Chain old t (all_granted (first ++ walk)) mid
-          → Runs (with_room status room) mid new t result → Refined
-      roomed open_so_far absent roomy mid stays chain on =
+          → Runs M (with_room status room) mid new t result → Refined
+      roomed left open_so_far absent roomy mid stays chain on =
           own_label_step accounts me caller old new f result ready found (Wrap (m ∷ d)) (first ++ walk) mid chain stays (with_labels status room) on
           (λ labelled longer still rest.
           category_step accounts f me (Wrap (m ∷ d)) old new t ready result
@@ -259,32 +308,42 @@ module _ (accounts : Accounts) (ok : AreAccounts accounts) (me : ProcName) (call
           ∙ category_said (state old) t own clearance (thread accounts ok (state old) f me t ready)
           ∙ ap (λ (s : State). unless (has_category s) TooBig) (sym still)) rest
           (λ later number called number_is whole goes.
-          made_step open_so_far absent roomy later (called.state ∙ ap (λ (s : State). with_category s t) still) whole
-          (subst (λ (q : ℕ). Runs (in_job status (own, clearance) room q) later new t result)
+          made_step open_so_far absent roomy later (called.state ∙ ap (λ (s : State). with_category s t) still) whole left
+          (subst (λ (q : ℕ). Runs M (in_job status (own, clearance) room q) later new t result)
           (number_is ∙ ap (λ (s : State). s.next_category) still) goes)))
 
       entered : (mid : KernelModel) → Chain old t (all_granted first) mid → state mid ≡ state old
-          → Runs (with_child (m ∷ d) status) mid new t result → Refined
-      entered mid chain stays on =
+          → AreLeft requests first (plain walk ++ unless_refused (refused accounts f me p (Wrap (m ∷ d))) starts)
+          → Runs M (with_child (m ∷ d) status) mid new t result → Refined
+      entered mid chain stays left on =
           room_step accounts ok old new f me t ready m d (Wrap (m ∷ d)) result not_nobody (needs_room (m ∷ d)) first mid
-          stays chain (with_room status) on roomed
+          stays chain starts left (with_room status) on (roomed (left_after requests first walk _ left))
+
+  -- what is left of a wrap of this path once the process's own segment is read
+  abbrev starts_at : Path → List Request
+  starts_at q =
+      in_directory accounts ready.represents.matched me p (refused accounts f me p (Wrap q)) q
+      (starts_job accounts ready.represents.matched me p)
 
   -- a wrap of this path
   wrapped : (q : Path) → IsTrue (is_path q) → nat_lt (length me) most_numbers ≡ true
       → nat_lt p.born most_children ≡ true → (mid : KernelModel) → Chain old t (all_granted first) mid
-      → state mid ≡ state old → Runs (with_child q status) mid new t result
-      → Goal accounts f me (Wrap q) old new t ready result
-  wrapped [] right long few mid chain stays on =
+      → state mid ≡ state old
+      → AreLeft (requests_of accounts ready.represents.matched me p (Wrap q)) first (starts_at q)
+      → Runs M (with_child q status) mid new t result → Goal accounts f me (Wrap q) old new t ready result
+  wrapped [] right long few mid chain stays left on =
       slash_agrees accounts old new f me t ready (Wrap []) result not_nobody (needs_room long few []) first mid stays
-      chain (with_room status) on
-  wrapped (m ∷ d) right long few mid chain stays on = entered long few m (last_name m d right) d mid chain stays on
+      chain left (with_room status) on
+  wrapped (m ∷ d) right long few mid chain stays left on = entered long few m (last_name m d right) d mid chain stays left on
 
 -- The program of `wrap` refines its rule.
-pub wrap_refines : WrapRefines
+pub wrap_refines : {M : Type 0} → WrapRefines M
 unfolding wrap_program
-wrap_refines accounts ok q right me caller old new f result ready found runs =
-    from_each accounts f me (Wrap q) old new caller.thread result ready (λ ready.
+wrap_refines {M} accounts ok q right me caller old new f result ready found runs =
+    from_each M accounts f me (Wrap q) old new caller.thread result ready (λ ready.
     child_room_step accounts me caller old new f result ready found (Wrap q)
     (no_room accounts f ready.caller.process q orelse unless (not (same ready.caller.process.user nobody)) EPERM)
-    (needs_child accounts ok me caller old new f result ready found q) (with_child accounts ok me caller old new f result ready found q) runs
-    (λ long few mid chain stays on. wrapped accounts ok me caller old new f result ready found q right long few mid chain stays on))
+    (needs_child accounts ok me caller old new f result ready found q) (starts_at accounts ok me caller old new f result ready found q) refl
+    (with_child accounts ok me caller old new f result ready found q) runs
+    (λ long few mid chain stays left on.
+    wrapped accounts ok me caller old new f result ready found q right long few mid chain stays left on))

@@ -27,57 +27,90 @@ use Rattle.histar_process.specs.Whoami.{whoami_program}
 use Rattle.histar_wrap.specs.WrapCall.{wrap_program}
 use Rattle.histar_sim.specs.Refines.{Refines, CallerRefines}
 
-abbrev pub ReadRefines : Type 0
-ReadRefines = (accounts : Accounts) → AreAccounts accounts → (path : Path) → Refines accounts (Read path) (read_program (roots_of (length accounts.users)) path)
+abbrev pub ReadRefines : Type 0 → Type 0
+ReadRefines M =
+    (accounts : Accounts) → AreAccounts accounts → (path : Path)
+    → Refines M accounts (Read path) (read_program (roots_of (length accounts.users)) path)
 
-abbrev pub WriteRefines : Type 0
-WriteRefines = (accounts : Accounts) → AreAccounts accounts → (path : Path) (bytes : List ℕ) → Refines accounts (Write path bytes) (write_program (roots_of (length accounts.users)) path bytes)
+abbrev pub WriteRefines : Type 0 → Type 0
+WriteRefines M =
+    (accounts : Accounts) → AreAccounts accounts → (path : Path) (bytes : List ℕ)
+    → Refines M accounts (Write path bytes) (write_program (roots_of (length accounts.users)) path bytes)
 
-abbrev pub CreateRefines : Type 0
-CreateRefines = (accounts : Accounts) → AreAccounts accounts → (path : Path) (mode : Mode) → IsTrue (is_path path) → Refines accounts (Create path mode) (create_program accounts (roots_of (length accounts.users)) path mode)
+abbrev pub CreateRefines : Type 0 → Type 0
+CreateRefines M =
+    (accounts : Accounts) → AreAccounts accounts → (path : Path) (mode : Mode) → IsTrue (is_path path)
+    → Refines M accounts (Create path mode) (create_program accounts (roots_of (length accounts.users)) path mode)
 
-abbrev pub MkdirRefines : Type 0
-MkdirRefines = (accounts : Accounts) → AreAccounts accounts → (path : Path) (mode : Mode) → IsTrue (is_path path) → Refines accounts (Mkdir path mode) (mkdir_program accounts (roots_of (length accounts.users)) path mode)
+abbrev pub MkdirRefines : Type 0 → Type 0
+MkdirRefines M =
+    (accounts : Accounts) → AreAccounts accounts → (path : Path) (mode : Mode) → IsTrue (is_path path)
+    → Refines M accounts (Mkdir path mode) (mkdir_program accounts (roots_of (length accounts.users)) path mode)
 
-abbrev pub AppendRefines : Type 0
-AppendRefines = (accounts : Accounts) → AreAccounts accounts → (path : Path) (bytes : List ℕ) → Refines accounts (Append path bytes) (append_program (roots_of (length accounts.users)) path bytes)
+abbrev pub AppendRefines : Type 0 → Type 0
+AppendRefines M =
+    (accounts : Accounts) → AreAccounts accounts → (path : Path) (bytes : List ℕ)
+    → Refines M accounts (Append path bytes) (append_program (roots_of (length accounts.users)) path bytes)
 
-abbrev pub ListRefines : Type 0
-ListRefines = (accounts : Accounts) → AreAccounts accounts → (path : Path) → Refines accounts (ListCall path) (list_program (roots_of (length accounts.users)) path)
+abbrev pub ListRefines : Type 0 → Type 0
+ListRefines M =
+    (accounts : Accounts) → AreAccounts accounts → (path : Path)
+    → Refines M accounts (ListCall path) (list_program (roots_of (length accounts.users)) path)
 
-abbrev pub StatRefines : Type 0
-StatRefines = (accounts : Accounts) → AreAccounts accounts → (path : Path) → Refines accounts (Stat path) (stat_program accounts (roots_of (length accounts.users)) path)
+abbrev pub StatRefines : Type 0 → Type 0
+StatRefines M =
+    (accounts : Accounts) → AreAccounts accounts → (path : Path)
+    → Refines M accounts (Stat path) (stat_program accounts (roots_of (length accounts.users)) path)
 
-abbrev pub LoginRefines : Type 0
-LoginRefines = (accounts : Accounts) → AreAccounts accounts → (name : Name) (password : Password) → CallerRefines accounts (Login name password) (λ me caller. login_program accounts caller name password)
+abbrev pub LoginRefines : Type 0 → Type 0
+LoginRefines M =
+    (accounts : Accounts) → AreAccounts accounts → (name : Name) (password : Password)
+    → CallerRefines M accounts (Login name password) (λ me caller. login_program accounts caller name password)
 
-abbrev pub UnlinkRefines : Type 0
-UnlinkRefines = (accounts : Accounts) → AreAccounts accounts → (path : Path) → Refines accounts (Unlink path) (unlink_program (roots_of (length accounts.users)) path)
+abbrev pub UnlinkRefines : Type 0 → Type 0
+UnlinkRefines M =
+    (accounts : Accounts) → AreAccounts accounts → (path : Path)
+    → Refines M accounts (Unlink path) (unlink_program (roots_of (length accounts.users)) path)
 
-abbrev pub RmdirRefines : Type 0
-RmdirRefines = (accounts : Accounts) → AreAccounts accounts → (path : Path) → Refines accounts (Rmdir path) (rmdir_program (roots_of (length accounts.users)) path)
+abbrev pub RmdirRefines : Type 0 → Type 0
+RmdirRefines M =
+    (accounts : Accounts) → AreAccounts accounts → (path : Path)
+    → Refines M accounts (Rmdir path) (rmdir_program (roots_of (length accounts.users)) path)
 
-abbrev pub RmtreeRefines : Type 0
-RmtreeRefines = (accounts : Accounts) → AreAccounts accounts → (path : Path) → Refines accounts (Rmtree path) (rmtree_program (roots_of (length accounts.users)) path)
+abbrev pub RmtreeRefines : Type 0 → Type 0
+RmtreeRefines M =
+    (accounts : Accounts) → AreAccounts accounts → (path : Path)
+    → Refines M accounts (Rmtree path) (rmtree_program (roots_of (length accounts.users)) path)
 
-abbrev pub RenameRefines : Type 0
-RenameRefines = (accounts : Accounts) → AreAccounts accounts → (path : Path) (name : Name) → IsTrue (is_name name) → Refines accounts (Rename path name) (rename_program (roots_of (length accounts.users)) path name)
+abbrev pub RenameRefines : Type 0 → Type 0
+RenameRefines M =
+    (accounts : Accounts) → AreAccounts accounts → (path : Path) (name : Name) → IsTrue (is_name name)
+    → Refines M accounts (Rename path name) (rename_program (roots_of (length accounts.users)) path name)
 
-abbrev pub SpawnRefines : Type 0
-SpawnRefines = (accounts : Accounts) → AreAccounts accounts → CallerRefines accounts Spawn (λ me caller. spawn_program accounts me caller.home)
+abbrev pub SpawnRefines : Type 0 → Type 0
+SpawnRefines M =
+    (accounts : Accounts) → AreAccounts accounts → CallerRefines M accounts Spawn (λ me caller. spawn_program accounts me caller.home)
 
 -- an exit with a number that is a byte
-abbrev pub ExitRefines : Type 0
-ExitRefines = (accounts : Accounts) → AreAccounts accounts → (number : ℕ) → number ≤ greatest_status → CallerRefines accounts (Exit number) (λ me caller. exit_program caller.home number)
+abbrev pub ExitRefines : Type 0 → Type 0
+ExitRefines M =
+    (accounts : Accounts) → AreAccounts accounts → (number : ℕ) → number ≤ greatest_status
+    → CallerRefines M accounts (Exit number) (λ me caller. exit_program caller.home number)
 
-abbrev pub StatusRefines : Type 0
-StatusRefines = (accounts : Accounts) → AreAccounts accounts → (name : ProcName) → Refines accounts (Status name) (status_program (roots_of (length accounts.users)) name)
+abbrev pub StatusRefines : Type 0 → Type 0
+StatusRefines M =
+    (accounts : Accounts) → AreAccounts accounts → (name : ProcName)
+    → Refines M accounts (Status name) (status_program (roots_of (length accounts.users)) name)
 
-abbrev pub KillRefines : Type 0
-KillRefines = (accounts : Accounts) → AreAccounts accounts → (name : ProcName) → Refines accounts (Kill name) (kill_program (roots_of (length accounts.users)) name)
+abbrev pub KillRefines : Type 0 → Type 0
+KillRefines M =
+    (accounts : Accounts) → AreAccounts accounts → (name : ProcName)
+    → Refines M accounts (Kill name) (kill_program (roots_of (length accounts.users)) name)
 
-abbrev pub WhoamiRefines : Type 0
-WhoamiRefines = (accounts : Accounts) → AreAccounts accounts → Refines accounts Whoami (whoami_program accounts)
+abbrev pub WhoamiRefines : Type 0 → Type 0
+WhoamiRefines M = (accounts : Accounts) → AreAccounts accounts → Refines M accounts Whoami (whoami_program accounts)
 
-abbrev pub WrapRefines : Type 0
-WrapRefines = (accounts : Accounts) → AreAccounts accounts → (path : Path) → IsTrue (is_path path) → CallerRefines accounts (Wrap path) (λ me caller. wrap_program accounts (roots_of (length accounts.users)) me caller.home path)
+abbrev pub WrapRefines : Type 0 → Type 0
+WrapRefines M =
+    (accounts : Accounts) → AreAccounts accounts → (path : Path) → IsTrue (is_path path)
+    → CallerRefines M accounts (Wrap path) (λ me caller. wrap_program accounts (roots_of (length accounts.users)) me caller.home path)

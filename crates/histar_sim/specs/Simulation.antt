@@ -31,6 +31,7 @@ use Rattle.histar_refinement.specs.KeptNames.{RepresentsStill}
 use Rattle.histar_refinement.specs.Lines.{IsThreadOf}
 use Rattle.histar_sim.specs.Reads.{HasReads}
 use Rattle.histar_sim.specs.Named.{DenialsAreNamed}
+use Rattle.histar_sim.specs.RawCalls.{AreItsRequests}
 
 -- The process that makes a call runs.
 pub record IsRunning (f : Flat) (me : ProcName) : Type 0 where
@@ -81,13 +82,16 @@ pub record IsLine (accounts : Accounts) (before : State) (line : ℕ) (process :
   pub gone : reply ≡ Gone → entries ≡ []
 
 -- The line refines its rule: its reply is what the flat state says, it has the reads that the call cannot do without, each raw call that the
--- kernel denied is on what the reason of the refusal names, and the state after it represents the flat state after the call. It does so under
--- names that keep their numbers, whatever names the state before is represented under.
+-- kernel denied is on what the reason of the refusal names, and the state after it represents the flat state after the call. Its raw calls are
+-- exactly the requests of the call, and the state after it is represented under names that keep their numbers, whatever names the state before
+-- is represented under.
 pub record SimulatesLine (accounts : Accounts) (before : State) (f : Flat) (asked : CallLine) (entries : List TraceEntry) (after : State) : Type 0 where
   pub line : IsLine accounts before asked.line asked.process (reply_to accounts f asked.process asked.call) entries after
   pub reads : HasReads accounts before f (running f asked.process) asked.call (reply_to accounts f asked.process asked.call) entries
   pub named : DenialsAreNamed accounts before f asked.process (running f asked.process) asked.call entries
   pub represents : Represents accounts after (flat_after accounts f asked.process asked.call)
+  pub requests : (old : Represents accounts before f)
+      → AreItsRequests accounts old.matched asked.process (running f asked.process) asked.call entries
   pub keeps : (old : Represents accounts before f)
       → RepresentsStill old after (flat_after accounts f asked.process asked.call)
 
@@ -102,9 +106,13 @@ SimulatesLines accounts s f (asked ∷ more) entries end =
 abbrev pub has_category : State → Bool
 has_category s = nat_lt s.next_category greatest
 
--- a denial that may end a line without an answer: the next object or the next category has no number any more
+-- a counter has its greatest value: the next object or the next category has no number any more
+abbrev pub IsSpent : State → Type 0
+IsSpent s = (has_number s ≡ false) ⊎ (has_category s ≡ false)
+
+-- a denial that may end a line without an answer: that of a counter
 abbrev pub IsExhausted : State → Denied → Type 0
-IsExhausted s TooBig = (has_number s ≡ false) ⊎ (has_category s ≡ false)
+IsExhausted s TooBig = IsSpent s
 IsExhausted s denied = ⊥
 
 -- after a denial of an exhausted counter, or after the denial of the reply, from where on the thread is only given labels
@@ -126,18 +134,22 @@ pub record IsAnswered (accounts : Accounts) (f : Flat) (me : ProcName) (call : U
   pub line : new.line ≡ old.line
   pub refined : SimulatesLine accounts (state old) f (record { line = old.line; process = me; call = call }) entries (state new)
 
--- The raw calls that were made are a run of the kernel by the thread, broken off before the reply of the flat rules.
-pub record IsUnanswered (accounts : Accounts) (f : Flat) (me : ProcName) (call : UnixCall) (old new : KernelModel) (t : ℕ) : Type 0 where
+-- The raw calls that were made are a run of the kernel by the thread, broken off before the reply of the flat rules: memory ran out,
+-- which `M` says, or a counter has its greatest value.
+pub record IsUnanswered (M : Type 0) (accounts : Accounts) (f : Flat) (me : ProcName) (call : UnixCall)
+    (old new : KernelModel) (t : ℕ) : Type 0 where
   pub entries : List TraceEntry
   pub trace : new.trace ≡ old.trace ++ entries
   pub line : new.line ≡ old.line
   pub run : IsBrokenOff (reply_to accounts f me call) (state old) entries (state new)
   pub own : AllByRecursion (IsBy old.line t) entries
+  pub because : M ⊎ IsSpent (state new)
 
 -- a call of a process, which its thread makes, does what its flat rule says, or it ends without a reply
-abbrev pub FollowsRule : Accounts → Flat → ProcName → UnixCall → KernelModel → KernelModel → ℕ → Result Reply Stopped → Type 0
-FollowsRule accounts f me call old new t (Ok reply) = (reply ≡ reply_to accounts f me call) × IsAnswered accounts f me call old new
-FollowsRule accounts f me call old new t (Err stopped) = IsUnanswered accounts f me call old new t
+abbrev pub FollowsRule : Type 0 → Accounts → Flat → ProcName → UnixCall → KernelModel → KernelModel → ℕ
+    → Result Reply Stopped → Type 0
+FollowsRule M accounts f me call old new t (Ok reply) = (reply ≡ reply_to accounts f me call) × IsAnswered accounts f me call old new
+FollowsRule M accounts f me call old new t (Err stopped) = IsUnanswered M accounts f me call old new t
 
 -- each file holds as many bytes as a segment can hold
 abbrev pub AreFilesSmall : Flat → Type 0

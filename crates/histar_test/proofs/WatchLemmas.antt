@@ -118,7 +118,7 @@ looked_or look false false old new is same = is
 looked_or look false true old new is same = is ∙ sym (same refl refl)
 
 module _ (old : Watched) (stepped : MachineModel) (call : CallLine) (reply : Reply)
-    (means : FollowsMeaning old.machine stepped call.line call.process call.call (Ok reply)) where
+    (means : FollowsMeaning (Unit {0}) old.machine stepped call.line call.process call.call (Ok reply)) where
   -- the machine has processes after the call
   pub still_has_processes : HasWatched old → HasProcesses stepped
   still_has_processes (accounts, f, w) =

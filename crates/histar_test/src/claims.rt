@@ -230,7 +230,7 @@ fn names_text(alloc: Global, processes: &[(ProcName, Name)]) -> Result<Bytes, Al
         return Bytes::copy_of(alloc, b"nobody");
     };
     let mut text = Vec::new(alloc);
-    push_process(&mut text, &first.0)?;
+    push_process(alloc, &mut text, &first.0)?;
     push_more(&mut text, rest)?;
     Ok(Bytes::from_vec(text))
 }
@@ -243,7 +243,7 @@ fn push_more(text: &mut Vec<u8>, processes: &[(ProcName, Name)]) -> Result<(), A
 {
     for process in processes {
         text.extend_from_slice(b" ")?;
-        push_process(text, &process.0)?;
+        push_process(*text.allocator(), text, &process.0)?;
     }
     Ok(())
 }

@@ -1,12 +1,12 @@
 //! The sentence on the first bad line of a script that is no test.
-ghost use Rattle.std.specs.Prelude.{◌≡◌, IfOk, false, option_map};
+ghost use Rattle.std.specs.Prelude.{◌≡◌, IfOk, false, is_some, option_map};
 ghost use Rattle.std.specs.Option.{option_copied};
 ghost use Rattle.histar_lint.specs.Lines.{first_sentence};
 ghost use Rattle.histar_script.specs.Lines.{lines_of};
 ghost use Rattle.histar_test.specs.Faults.{are_three_words, asked_rules, claim_rules, claimed_rules, expectation_rules};
 ghost use Rattle.histar_test.specs.Faults.{fault_in, fault_text, last_after, line_fault, question_rules};
 ghost use Rattle.histar_test.specs.Laws.{makes_call};
-ghost use Rattle.histar_test.specs.Steps.{steps_from};
+ghost use Rattle.histar_test.specs.Steps.{call_in, steps_from};
 
 use crate::asking::asked_of;
 use crate::claims::are_processes;
@@ -99,12 +99,20 @@ fn last_after(alloc: Global, last: Option<bool>, line: &[u8]) -> Result<Option<b
 fn makes_call(alloc: Global, line: &[u8]) -> Result<bool, AllocError>
     ensures { IfOk result (λ makes. makes ≡ makes_call line.now) }
 {
-    match read_item(alloc, line)? {
-        Some(Item::Call(_, _)) => Ok(true),
-        Some(Item::User(_)) => Ok(false),
-        Some(Item::Group(_)) => Ok(false),
-        Some(Item::Comment) => Ok(false),
-        None => Ok(false),
+    let item = read_item(alloc, line)?;
+    Ok(is_call(&item))
+}
+
+/// Checks whether what a line says is a call.
+fn is_call(item: &Option<Item>) -> bool
+    ensures { result ≡ is_some (call_in 0 item.now) }
+{
+    match item {
+        Some(Item::Call(_, _)) => true,
+        Some(Item::User(_)) => false,
+        Some(Item::Group(_)) => false,
+        Some(Item::Comment) => false,
+        None => false,
     }
 }
 

@@ -73,7 +73,7 @@ pub fn accounts(alloc: Global) -> Result<Accounts, Fail>
 {
     let mut accounts = Accounts::new(alloc);
     let (name, password) = root()?;
-    accounts.add_user(User { name, password })?;
+    accounts.add_user(alloc, User { name, password })?;
     Ok(accounts)
 }
 

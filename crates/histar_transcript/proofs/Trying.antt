@@ -9,7 +9,6 @@ use Rattle.histar_flat.specs.FlatState.{Flat}
 use Rattle.histar_flat.specs.FlatCalls.{flat_after, reply_to}
 use Rattle.histar_flat.specs.Meaning.{boot, flat_end}
 use Rattle.histar_flat.specs.Texts.{reply_text}
-use Rattle.histar_flat.specs.Words.{ProcName}
 use Rattle.histar_flat.proofs.Laws.{states_go_on}
 use Rattle.histar_script.specs.declared.fault.Fault.{Fault}
 use Rattle.histar_script.specs.declared.fault.Fault.TheVariants.{BadScript, TooLong, OutOfMemory, ReadFailed, WriteFailed}
@@ -37,7 +36,7 @@ module _ (first : ℕ) (lines : List (List ℕ)) where
         → AddsReplies first lines old new before after (c ∷ [])
     added each = record {
       each = λ accounts f known.
-          let here = subst (λ (b : List (Option ProcName)). Knows b accounts old f) births known in (
+          let here = subst (λ b. Knows b accounts old f) births known in (
             each accounts f here
                 ∙ ap (λ (l : List ℕ). before.text.items ++ l) (sym (append-nil (line_behind first lines accounts f c))),
             subst (λ (log : Log). Knows log.births.items accounts new (flat_after accounts f c.process c.call)) (sym logged)
@@ -113,7 +112,7 @@ module _ (first : ℕ) (lines : List (List ℕ)) where
       → AddsReplies first lines start end before after calls → after.text.items ≡ tried_text first lines script
   all_tried start end before after script calls same known births text adds =
       (adds.each script.accounts (boot script.accounts)
-      (subst (λ (b : List (Option ProcName)). Knows b script.accounts start (boot script.accounts)) (sym births) known)).0
+      (subst (λ b. Knows b script.accounts start (boot script.accounts)) (sym births) known)).0
       ∙ ap₂ (λ (l : List ℕ) (cs : List CallLine). l ++ lines_behind first lines script.accounts (boot script.accounts) cs) text same
 
 -- known bytes stay as they are

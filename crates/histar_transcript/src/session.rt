@@ -71,6 +71,8 @@ impl Command for Noting {
 
     type Answer = ();
 
+    type Memory = Global;
+
     ghost Runs = { λ command. WritesNoted command.options command.notes };
 
     fn on_text<W: Sink>(self, alloc: Global, text: Vec<u8>, writer: &mut W) -> Result<(), Fault> {

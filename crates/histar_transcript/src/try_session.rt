@@ -67,6 +67,8 @@ impl<'a> Command for Trying<'a> {
 
     type Answer = Tried;
 
+    type Memory = Global;
+
     ghost Runs = { λ command. Tries command.at (map (λ call. call.now) command.calls.now) };
 
     fn on_text<W: Sink>(

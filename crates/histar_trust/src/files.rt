@@ -92,7 +92,7 @@ fn push_runner(text: &mut Vec<u8>, member: &Member) -> Result<(), AllocError>
     ensures { OnOk result (text.new.items ≡ text.old.items ++ shown_runner member.now) }
 {
     text.extend_from_slice(b" ")?;
-    push_process(text, &member.name)?;
+    push_process(*text.allocator(), text, &member.name)?;
     text.extend_from_slice(b":")?;
     text.extend_from_slice(member.user.as_bytes())
 }
@@ -134,7 +134,7 @@ fn push_secret(
     if !secret {
         return Ok(());
     }
-    push_path(text, &node.path)?;
+    push_path(alloc, text, &node.path)?;
     push_members(alloc, text, users, members, classes)?;
     text.extend_from_slice(b"\n")
 }
@@ -209,7 +209,7 @@ fn push_processes(
 {
     for process in processes {
         push_mark(text, word)?;
-        push_process(text, &process.0)?;
+        push_process(*text.allocator(), text, &process.0)?;
     }
     Ok(())
 }

@@ -85,7 +85,7 @@ fn push_free_name(text: &mut Vec<u8>, member: &Member) -> Result<(), AllocError>
         return Ok(());
     }
     text.extend_from_slice(b" ")?;
-    push_process(text, &member.name)
+    push_process(*text.allocator(), text, &member.name)
 }
 
 /// Adds a line for each process that is in a job.
@@ -113,7 +113,7 @@ fn push_flow(text: &mut Vec<u8>, members: &[Member], from: &Member) -> Result<()
 fn push_line(text: &mut Vec<u8>, members: &[Member], from: &Member) -> Result<(), AllocError>
     ensures { OnOk result (text.new.items ≡ text.old.items ++ shown_line members.now from.now) }
 {
-    push_process(text, &from.name)?;
+    push_process(*text.allocator(), text, &from.name)?;
     text.extend_from_slice(b" ")?;
     text.extend_from_slice(from.user.as_bytes())?;
     text.extend_from_slice(b" tells")?;
@@ -170,7 +170,7 @@ fn push_name(text: &mut Vec<u8>, from: &Member, member: &Member) -> Result<(), A
     ensures { OnOk result (text.new.items ≡ text.old.items ++ shown_name from.now member.now) }
 {
     text.extend_from_slice(b" ")?;
-    push_process(text, &member.name)?;
+    push_process(*text.allocator(), text, &member.name)?;
     if !holds_one(from, member) {
         return Ok(());
     }

@@ -124,9 +124,9 @@ fn push_found(
 pub fn push_head(text: &mut Vec<u8>, node: &TreeNode) -> Result<(), AllocError>
     ensures { OnOk result (text.new.items ≡ text.old.items ++ head_text node.now) }
 {
-    push_path(text, &node.path)?;
+    push_path(*text.allocator(), text, &node.path)?;
     text.extend_from_slice(b" ")?;
-    push_stat(text, node.stat())?;
+    push_stat(*text.allocator(), text, node.stat())?;
     text.extend_from_slice(b"\n")
 }
 
@@ -420,7 +420,7 @@ fn push_process_entry(
 {
     text.extend_from_slice(word)?;
     text.extend_from_slice(b" ")?;
-    push_process(text, process)?;
+    push_process(*text.allocator(), text, process)?;
     text.extend_from_slice(b" ")?;
     text.extend_from_slice(user.as_bytes())
 }

@@ -100,7 +100,7 @@ pub fn push_by_path(text: &mut Vec<u8>, place: Option<Path>) -> Result<(), Alloc
         return Ok(());
     };
     text.extend_from_slice(b" by ")?;
-    push_path(text, &path)
+    push_path(*text.allocator(), text, &path)
 }
 
 /// Adds a job by which a process is bound, if there is one.
@@ -111,5 +111,5 @@ pub fn push_by_job(text: &mut Vec<u8>, job: Option<ProcName>) -> Result<(), Allo
         return Ok(());
     };
     text.extend_from_slice(b" by job ")?;
-    push_process(text, &name)
+    push_process(*text.allocator(), text, &name)
 }

@@ -69,6 +69,8 @@ impl<'a> Command for Trusted<'a> {
 
     type Answer = ();
 
+    type Memory = Global;
+
     ghost Runs = { λ command. TrustText command.options command.path.now };
 
     fn on_text<W: Sink>(self, alloc: Global, text: Vec<u8>, writer: &mut W) -> Result<(), Fault> {
@@ -143,6 +145,8 @@ impl Command for SecretFiles {
 
     type Answer = ();
 
+    type Memory = Global;
+
     ghost Runs = { λ _. SecretsText };
 
     fn on_text<W: Sink>(self, alloc: Global, text: Vec<u8>, writer: &mut W) -> Result<(), Fault> {
@@ -213,6 +217,8 @@ impl Command for FlowsBefore {
     ghost use Rattle.std.proofs.Common.{rules};
 
     type Answer = ();
+
+    type Memory = Global;
 
     ghost Runs = { λ command. FlowsText command.at };
 

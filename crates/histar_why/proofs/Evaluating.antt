@@ -64,7 +64,8 @@ use Rattle.histar_why.specs.declared.names.Caller.{Caller}
 use Rattle.histar_why.specs.declared.views.View.{View}
 use Rattle.histar_why.specs.declared.ways.Spot.{Spot}
 use Rattle.histar_why.specs.Asked.{IsAsked, beside_of, other_of, parts_of}
-use Rattle.histar_why.specs.Names.{NamesJobs, process_of}
+use Rattle.histar_why.specs.Names.{process_of}
+use Rattle.histar_names.specs.KnownBirths.{NamesBirths}
 use Rattle.histar_why.specs.Reasons.{bytes_then, first_reason, has_directory, has_file, part_reason, reason_of, unread_in, unwritten_in}
 use Rattle.histar_why.specs.Reasons.{bytes_of as spot_bytes}
 use Rattle.histar_why.specs.Views.{CountsEntries, CountsIn, IsViewOf}
@@ -169,7 +170,8 @@ made_is accounts p mode = ap (λ (c : Option Class). if is_free p then c else So
 
 -- ---- what a view reveals
 
-module _ (accounts : Accounts) (s : State) (f : Flat) (births : Births) (names : NamesJobs births accounts s f) (tree : IsTree f) (p : Process) where
+module _ (accounts : Accounts) (s : State) (f : Flat) (births : Births) (names : NamesBirths births accounts s f)
+    (tree : IsTree f) (p : Process) where
   abbrev users : Accounts
   users = without_passwords accounts
 

@@ -38,7 +38,8 @@ use Rattle.histar_reasons.specs.Reasons.{absence, first_absent, unseen, why_not_
 use Rattle.histar_reasons.specs.Reasons.Absence.{HasExited, WasKilled, WasNeverStarted}
 use Rattle.histar_reasons.specs.Reasons.Reason.{IsUnseen, NoProcess}
 use Rattle.histar_why.specs.Absences.{absence_by, first_absent_by, given_at, given_in, is_given_by, was_given_by}
-use Rattle.histar_why.specs.Names.{NamesJobs, caller_by, job_named, named_or_zero, node_at, running_at as running_named}
+use Rattle.histar_why.specs.Names.{caller_by, job_named, named_or_zero, node_at, running_at as running_named}
+use Rattle.histar_names.specs.KnownBirths.{NamesBirths}
 use Rattle.histar_why.specs.Views.{search_by, unfound_by}
 
 -- ---- users with no passwords
@@ -61,7 +62,7 @@ module _ (accounts : Accounts) (s : State) where
     life ← same_life home status.exited i
     Some (record { name = me; home = home; chain = jobs_in outer; life = life; born = status.born })
 
-module _ (accounts : Accounts) (s : State) (f : Flat) (births : Births) (names : NamesJobs births accounts s f) where
+module _ (accounts : Accounts) (s : State) (f : Flat) (births : Births) (names : NamesBirths births accounts s f) where
   abbrev l : ObjectsMatch accounts s f
   l = names.represents.matched
 
@@ -72,7 +73,7 @@ module _ (accounts : Accounts) (s : State) (f : Flat) (births : Births) (names :
 
   -- a job that is used has its name
   job_is : (job : ProcName) → IsUsed accounts f (OfJob job) → job_named births (l.category (OfJob job)) ≡ job
-  job_is job used = ap named_or_zero (names.jobs job used)
+  job_is job used = ap named_or_zero (names.noted (OfJob job) used refl)
 
   -- so have all jobs that are used
   pub jobs_are : (jobs : List ProcName) → ((job : ProcName) → has jobs job ≡ true → IsUsed accounts f (OfJob job))

@@ -1,6 +1,5 @@
 -- The lemmas of this crate.
 pub mod Lists
-pub mod NewJobs
 pub mod Naming
 pub mod Found
 pub mod Spots

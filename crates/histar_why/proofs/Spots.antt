@@ -62,7 +62,7 @@ use Rattle.histar_why.specs.declared.ways.Spot.{Spot}
 use Rattle.histar_why.specs.declared.ways.Way.{Way}
 use Rattle.histar_why.specs.Causes.{class_by, class_named, jobs_by}
 use Rattle.histar_why.specs.Views.{CountsIn}
-use Rattle.histar_why.specs.Names.{NamesJobs}
+use Rattle.histar_names.specs.KnownBirths.{NamesBirths}
 use Rattle.histar_why.specs.Reasons.{has_directory, reason_of, unread_in}
 use Rattle.histar_why.specs.Ways.{FindsBelow, FindsEntry, FindsSpot, HasClass, IsAt, IsSpot, IsWayTo, Lists, Reveals, Sight}
 use Rattle.histar_why.specs.Ways.{sight_at, sight_by, sight_of, why_into_by}
@@ -109,7 +109,7 @@ module _ (accounts : Accounts) where
   same_unwritten p (Scratch owner jobs) = refl
   same_unwritten p (Grouped group) = refl
 
-module _ (accounts : Accounts) (s : State) (f : Flat) (births : Births) (names : NamesJobs births accounts s f) where
+module _ (accounts : Accounts) (s : State) (f : Flat) (births : Births) (names : NamesBirths births accounts s f) where
   abbrev l : ObjectsMatch accounts s f
   l = names.represents.matched
 

@@ -1,5 +1,5 @@
--- Processes with their jobs by name, and when the names of jobs are right.
-use Rattle.std.specs.Prelude.{◌≡◌, ℕ, ◌≤◌, List, [], length, map, Option, None, Some, slice_get}
+-- Processes with their jobs by name, and what is known of a machine.
+use Rattle.std.specs.Prelude.{◌≡◌, ℕ, List, [], map, Option, None, Some, slice_get}
 use Rattle.histar_flat.specs.Words.{ProcName}
 use Rattle.histar_flat.specs.Accounts.{Accounts}
 use Rattle.histar_flat.specs.Classes.{Process}
@@ -11,21 +11,21 @@ use Rattle.histar_syscall.specs.KernelModel.{state}
 use Rattle.histar_layout.specs.Reading.{◌>>=◌}
 use Rattle.histar_programs.specs.Caller.{home_at}
 use Rattle.histar_programs.specs.declared.roots.Home.{Home}
-use Rattle.histar_refinement.specs.Categories.{IsUsed}
-use Rattle.histar_refinement.specs.Categories.CategoryName.{OfJob}
-use Rattle.histar_refinement.specs.Represents.{Represents}
 use Rattle.histar_readout.specs.Process.{node_in}
 use Rattle.histar_readout.specs.declared.process.Life.{Life}
 use Rattle.histar_readout.specs.declared.process.Life.TheVariants.{Running, Exited}
 use Rattle.histar_readout.specs.declared.process.ProcessNode.{ProcessNode}
 use Rattle.histar_names.specs.Births.{Births}
+use Rattle.histar_names.specs.KnownBirths.{NamesBirths}
+use Rattle.histar_names.specs.declared.purposes.Purpose.{Purpose}
+use Rattle.histar_names.specs.declared.purposes.Purpose.TheVariants.{Job}
 use Rattle.histar_shell.specs.Machine.{MachineModel}
 use Rattle.histar_shell.specs.Meaning.{Shows}
 use Rattle.histar_why.specs.declared.names.Caller.{Caller}
 
--- the name that was found, or process 0
-abbrev pub named_or_zero : Option (Option ProcName) → ProcName
-named_or_zero (Some (Some job)) = job
+-- the name of the job that was found, or process 0
+abbrev pub named_or_zero : Option (Option Purpose) → ProcName
+named_or_zero (Some (Some (Job job))) = job
 named_or_zero _ = []
 
 -- the name of the job of a category
@@ -71,20 +71,12 @@ running_at accounts births s first me = do
   node ← node_at accounts s first me
   caller_by births node
 
--- A state represents a flat state, under names by which each job that is used is the one of the process that was born
--- with its category.
-pub record NamesJobs (births : Births) (accounts : Accounts) (s : State) (f : Flat) : Type 0 where
-  pub represents : Represents accounts s f
-  pub jobs : (job : ProcName) → IsUsed accounts f (OfJob job)
-      → slice_get births (represents.matched.category (OfJob job)) ≡ Some (Some job)
-  pub few : length births ≤ s.next_category
-
 -- the flat state is one to which calls lead from the start
 abbrev pub IsReached : Accounts → Flat → Type 0
 IsReached accounts f = (calls : List CallLine) × (f ≡ flat_end accounts (boot accounts) calls)
 
--- a machine represents a flat state to which calls lead, and the names of its jobs are right
+-- a machine represents a flat state to which calls lead, and what was noted of its categories is right
 pub record Knows (births : Births) (accounts : Accounts) (m : MachineModel) (f : Flat) : Type 0 where
   pub shows : Shows accounts m f
   pub reached : IsReached accounts f
-  pub names : NamesJobs births accounts (state m.kernel) f
+  pub names : NamesBirths births accounts (state m.kernel) f

@@ -30,7 +30,7 @@ use Rattle.histar_reasons.specs.Reasons.Reason.{MayNotRead, IsMissing, HasFile}
 use Rattle.histar_why.specs.declared.ways.Spot.{Spot}
 use Rattle.histar_why.specs.declared.ways.Way.{Way}
 use Rattle.histar_why.specs.Causes.{cause_of, class_named}
-use Rattle.histar_why.specs.Names.{NamesJobs}
+use Rattle.histar_names.specs.KnownBirths.{NamesBirths}
 use Rattle.histar_why.specs.Reasons.{reason_of, has_directory, unread_in}
 
 -- what the rules say of a node: whether it is a directory, how many bytes it has, and why the process may not read or
@@ -120,7 +120,7 @@ module _ (users : Accounts) (roots : Roots) (births : Births) (s : State) where
   pub record Reveals (accounts : Accounts) (f : Flat) : Type 0 where
     pub users_are : users ≡ without_passwords accounts
     pub roots_are : roots ≡ roots_of (length accounts.users)
-    pub names : NamesJobs births accounts s f
+    pub names : NamesBirths births accounts s f
 
   -- what is found leads where the path does, and is what the process of the flat state sees there
   pub record IsAt (accounts : Accounts) (f : Flat) (p : Process) (q : Path) (found : Option Spot) : Type 0 where

@@ -92,7 +92,7 @@ fn push_head(
 {
     let said = reply_text(alloc, reply)?;
     text.extend_from_slice(b"!")?;
-    push_number(text, number)?;
+    push_number(alloc, text, number)?;
     text.extend_from_slice(b" ")?;
     text.extend_from_slice(said.as_slice())?;
     text.extend_from_slice(b": ")

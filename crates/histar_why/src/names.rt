@@ -8,6 +8,7 @@ use crate::causes::has;
 use histar_flat::{Name, ProcName};
 use histar_label::{Category, LabelStore};
 use histar_layout::UserTable;
+use histar_names::Purpose;
 use histar_programs::{Roots, home_at};
 use histar_readout::{Life, ProcessError, ProcessNode, read_process};
 use histar_syscall::Kernel;
@@ -21,8 +22,8 @@ pub(crate) struct Reader<'k, S: LabelStore + Drop> {
     pub roots: &'k Roots,
     /// The users and the groups, with no passwords.
     pub users: &'k UserTable,
-    /// For each category, by its number, the process that was born with it.
-    pub births: &'k [Option<ProcName>],
+    /// For each category, by its number, what it was made for.
+    pub births: &'k [Option<Purpose>],
 }
 
 /// A process that runs, with each of its jobs by name.
@@ -69,7 +70,7 @@ pub(crate) fn node_at<S: LabelStore + Drop>(
 /// Returns a process with its jobs by name, if it runs.
 pub(crate) fn caller_of(
     alloc: Global,
-    births: &[Option<ProcName>],
+    births: &[Option<Purpose>],
     node: &ProcessNode,
 ) -> Result<Option<Caller>, AllocError>
     ensures { IfOk result (λ found. option_map process_of found ≡ caller_by births.now node.now) }
@@ -88,7 +89,7 @@ pub(crate) fn caller_of(
 /// Returns the names of the jobs of these categories.
 pub(crate) fn names_of(
     alloc: Global,
-    births: &[Option<ProcName>],
+    births: &[Option<Purpose>],
     categories: &[Category],
 ) -> Result<Vec<ProcName>, AllocError>
     ensures { IfOk result (λ names. names.items ≡ map (job_named births.now) categories.now) }
@@ -100,12 +101,12 @@ pub(crate) fn names_of(
     Ok(names)
 }
 
-/// Returns the name of the job of a category, or process 0 where no process was born with it.
-fn job_named(births: &[Option<ProcName>], category: Category) -> ProcName
+/// Returns the name of the job of a category, or process 0 where it was made for none.
+fn job_named(births: &[Option<Purpose>], category: Category) -> ProcName
     ensures { result ≡ job_named births.now category }
 {
     match births.get(category.number() as usize) {
-        Some(Some(job)) => *job,
+        Some(Some(Purpose::Job(job))) => *job,
         _ => ProcName::zero(),
     }
 }

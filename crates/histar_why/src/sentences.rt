@@ -153,7 +153,7 @@ fn push_no_child(text: &mut Vec<u8>, me: &ProcName, name: &ProcName) -> Result<(
         ++ (process_text name.now ++ codes " is no child of " ++ process_text me.now)) }
 {
     push_about_process(text, "", name, " is no child of ")?;
-    push_process(text, me)
+    push_process(*text.allocator(), text, me)
 }
 
 /// Adds that a process may not log in, which is in a job.
@@ -265,7 +265,7 @@ fn push_about_path(
         ≡ text.old.items ++ (before.now ++ path_text path.now ++ after.now)) }
 {
     push_str(text, before)?;
-    push_path(text, path)?;
+    push_path(*text.allocator(), text, path)?;
     push_str(text, after)
 }
 
@@ -280,7 +280,7 @@ fn push_about_process(
         ≡ text.old.items ++ (before.now ++ process_text process.now ++ after.now)) }
 {
     push_str(text, before)?;
-    push_process(text, process)?;
+    push_process(*text.allocator(), text, process)?;
     push_str(text, after)
 }
 

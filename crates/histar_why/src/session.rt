@@ -16,9 +16,10 @@ ghost use Rattle.histar_why.specs.Session.{HasLogged, IsWithText, LogsCall, Logs
 use crate::asked::asked_of;
 use crate::logging::log_call;
 use histar_command::{Command, run_command};
-use histar_flat::{CallLine, ProcName, Reply, each_call_is_right};
+use histar_flat::{CallLine, Reply, each_call_is_right};
 use histar_io::{Sink, Source, write_bytes};
 use histar_label::{InternStore, LabelStore};
+use histar_names::Purpose;
 use histar_script::{Fault, read_script};
 use histar_shell::{Machine, Options, reply_text, write_ending};
 use histar_texts::push_number;
@@ -30,8 +31,8 @@ const REMEMBERED_ANSWERS: usize = 256;
 /// The lines of refused calls, and what they are made from.
 #[derive(Drop)]
 pub struct Log {
-    /// For each category, by its number, the process that was born with it.
-    pub births: Vec<Option<ProcName>>,
+    /// For each category, by its number, what it was made for.
+    pub births: Vec<Option<Purpose>>,
     /// The lines so far.
     pub text: Vec<u8>,
 }
@@ -95,6 +96,8 @@ impl Command for ReasonedRun {
     ghost use Rattle.std.proofs.Common.{rules};
 
     type Answer = ();
+
+    type Memory = Global;
 
     ghost Runs = { λ command. RunsWithReasons command.options };
 
@@ -326,7 +329,7 @@ pub(crate) fn reply_line(alloc: Global, line: u32, reply: &Reply) -> Result<Vec<
 {
     let said = reply_text(alloc, reply)?;
     let mut text = Vec::new(alloc);
-    push_number(&mut text, line)?;
+    push_number(alloc, &mut text, line)?;
     text.extend_from_slice(b" ")?;
     text.extend_from_slice(said.as_slice())?;
     text.extend_from_slice(b"\n")?;

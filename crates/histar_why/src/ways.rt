@@ -15,6 +15,7 @@ use crate::reasons::{Reason, not_read};
 use histar_flat::{Name, Path, ProcName};
 use histar_label::LabelStore;
 use histar_layout::{Class, Target, class_of, look_up_checked};
+use histar_names::Purpose;
 use histar_syscall::Kernel;
 use std::alloc::{AllocError, Global};
 
@@ -168,7 +169,7 @@ fn spot_of<S: LabelStore + Drop>(
 /// Returns the names of the jobs of a class.
 fn jobs_of(
     alloc: Global,
-    births: &[Option<ProcName>],
+    births: &[Option<Purpose>],
     class: &Class,
 ) -> Result<Vec<ProcName>, AllocError>
     ensures { IfOk result (λ names. names.items ≡ jobs_by births.now class.now) }

@@ -36,14 +36,13 @@ use Rattle.histar_wrap.specs.Scratch.{ask_or_give_back, directory_label, hold_jo
 use Rattle.histar_wrap.specs.WrapCall.{wrap_program}
 use Rattle.histar_wrap.proofs.Scratching.{without_container}
 
-module _ (t : ℕ) (own : Levels × Levels) (label : Levels) (room : Room) (k : KernelModel) where
-  before_container : RunsPart (ask_or_give_back own (MakeContainer room.place.container label)) k k t (Err HasStopped)
-  unfolding RunsPart
-  before_container = λ rest. inl (same_kernel k)
+module _ {M : Type 0} (t : ℕ) (own : Levels × Levels) (label : Levels) (room : Room) (k : KernelModel) where
+  before_container : M → RunsPart M (ask_or_give_back own (MakeContainer room.place.container label)) k k t (Err HasStopped)
+  before_container memory = record { done = λ rest. inl (memory, same_kernel k) }
 
   -- memory ran out before a scratch directory was made
-  pub before_scratch : RunsPart (make_scratch own label room) k k t (Err HasStopped)
-  before_scratch = without_container t own label room k k HasStopped (Err HasStopped) refl before_container
+  pub before_scratch : M → RunsPart M (make_scratch own label room) k k t (Err HasStopped)
+  before_scratch memory = without_container t own label room k k HasStopped (Err HasStopped) refl (before_container memory)
 
 module _ (accounts : Accounts) (own : Levels) (job user : ℕ) (jobs : List ℕ)
     (is : IsUserOf own (length accounts.users) user) (jobs_are : jobs ≡ jobs_with own job) where
@@ -69,46 +68,48 @@ module _ (t : ℕ) (me : Home) (status : ProcessStatus) (room : Room) (plan : Jo
   after_scratch done rest = birth me status plan.kin (λ born. after_birth born rest)
 
   -- no scratch directory is made
-  pub no_scratch : (new : KernelModel) (call_error : CallError) (result : Result (Unit {0}) CallError) → IsErrAnd result (λ e. e ≡ call_error)
-      → RunsPart (make_scratch plan.own plan.label room) old new t (Err call_error) → RunsPart (fill_job me status room plan) old new t result
+  pub no_scratch : {M : Type 0} → (new : KernelModel) (call_error : CallError) (result : Result (Unit {0}) CallError)
+      → IsErrAnd result (λ e. e ≡ call_error)
+      → RunsPart M (make_scratch plan.own plan.label room) old new t (Err call_error) → RunsPart M (fill_job me status room plan) old new t result
   no_scratch = ends_in_so (make_scratch plan.own plan.label room) after_scratch (whole_part t (fill_job me status room plan) old)
 
-  module _ (mid : KernelModel) (made : RunsPart (make_scratch plan.own plan.label room) old mid t (Ok tt)) (kin : Kin) (same : kin ≡ plan.kin) where
+  module _ {M : Type 0} (mid : KernelModel) (made : RunsPart M (make_scratch plan.own plan.label room) old mid t (Ok tt)) (kin : Kin)
+      (same : kin ≡ plan.kin) where
     -- a scratch directory is made
-    with_scratch : LeavesPart (Unit {0}) t (fill_job me status room plan) old (after_scratch tt) mid
+    with_scratch : LeavesPart M (Unit {0}) t (fill_job me status room plan) old (after_scratch tt) mid
     with_scratch =
         further_in (make_scratch plan.own plan.label room) after_scratch (whole_part t (fill_job me status room plan) old) mid tt made
 
     -- no process is born
     pub no_birth : (new : KernelModel) (call_error : CallError) (result : Result (Unit {0}) CallError) → IsErrAnd result (λ e. e ≡ call_error)
-        → RunsPart (birth me status kin) mid new t (Err call_error) → RunsPart (fill_job me status room plan) old new t result
+        → RunsPart M (birth me status kin) mid new t (Err call_error) → RunsPart M (fill_job me status room plan) old new t result
     no_birth new call_error result gave first =
         ends_in_so (birth me status plan.kin) after_birth with_scratch new call_error result gave
         (born_so t mid new me status kin plan.kin same (Err call_error) first)
 
     -- the thread holds the job, or doesn't
-    pub held : (late new : KernelModel) → RunsPart (birth me status kin) mid late t (Ok tt)
-        → (result : Result (Unit {0}) CallError) → RunsPart (hold_job plan.own plan.job) late new t result
-        → RunsPart (fill_job me status room plan) old new t result
+    pub held : (late new : KernelModel) → RunsPart M (birth me status kin) mid late t (Ok tt)
+        → (result : Result (Unit {0}) CallError) → RunsPart M (hold_job plan.own plan.job) late new t result
+        → RunsPart M (fill_job me status room plan) old new t result
     held late new first =
         (further_in (birth me status plan.kin) after_birth with_scratch late tt (born_so t mid late me status kin plan.kin same (Ok tt) first)).leads
         new
 
 -- memory ran out before a job was filled
-pub before_filling : (t : ℕ) (me : Home) (status : ProcessStatus) (room : Room) (plan : JobPlan) (k : KernelModel)
-    → RunsPart (fill_job me status room plan) k k t (Err HasStopped)
-before_filling t me status room plan k =
+pub before_filling : {M : Type 0} → (t : ℕ) (me : Home) (status : ProcessStatus) (room : Room) (plan : JobPlan) (k : KernelModel) → M
+    → RunsPart M (fill_job me status room plan) k k t (Err HasStopped)
+before_filling t me status room plan k memory =
     ends_in (make_scratch plan.own plan.label room) (after_scratch t me status room plan k) (whole_part t (fill_job me status room plan) k)
-    k HasStopped (before_scratch t plan.own plan.label room k)
+    k HasStopped (before_scratch t plan.own plan.label room k memory)
 
 -- a job was filled by the expected plan, and by the expected thread
-pub filled_so : (me : Home) (status : ProcessStatus) (room : Room) (old new : KernelModel) (plan due : JobPlan) → plan ≡ due → (thread t : ℕ) → thread
-    ≡ t
-    → (result : Result (Unit {0}) CallError) → RunsPart (fill_job me status room plan) old new thread result
-    → RunsPart (fill_job me status room due) old new t result
-filled_so me status room old new plan due same thread t is result runs =
-    subst (λ (p : JobPlan). RunsPart {A = Unit {0}} (fill_job me status room p) old new t result) same
-    (subst (λ (u : ℕ). RunsPart {A = Unit {0}} (fill_job me status room plan) old new u result) is runs)
+pub filled_so : {M : Type 0} → (me : Home) (status : ProcessStatus) (room : Room) (old new : KernelModel) (plan due : JobPlan) → plan ≡ due
+    → (thread t : ℕ) → thread ≡ t → (result : Result (Unit {0}) CallError)
+    → RunsPart M (fill_job me status room plan) old new thread result
+    → RunsPart M (fill_job me status room due) old new t result
+filled_so {M} me status room old new plan due same thread t is result runs =
+    subst (λ (p : JobPlan). RunsPart {A = Unit {0}} M (fill_job me status room p) old new t result) same
+    (subst (λ (u : ℕ). RunsPart {A = Unit {0}} M (fill_job me status room plan) old new u result) is runs)
 
 -- the parts of starting a job, one after another
 module _ (accounts : Accounts) (me : Home) (status : ProcessStatus) (room : Room) (t : ℕ) (old : KernelModel) where
@@ -121,25 +122,28 @@ module _ (accounts : Accounts) (me : Home) (status : ProcessStatus) (room : Room
   after_own own rest = ask MakeCategory (λ job. after_job own job rest)
 
   -- the thread's own labels aren't told
-  pub no_labels : (new : KernelModel) (call_error : CallError) (result : Result (Unit {0}) CallError) → IsErrAnd result (λ e. e ≡ call_error)
-      → RunsPart (ask OwnLabel) old new t (Err call_error) → RunsPart (start_job accounts me status room) old new t result
+  pub no_labels : {M : Type 0} → (new : KernelModel) (call_error : CallError) (result : Result (Unit {0}) CallError)
+      → IsErrAnd result (λ e. e ≡ call_error)
+      → RunsPart M (ask OwnLabel) old new t (Err call_error) → RunsPart M (start_job accounts me status room) old new t result
   no_labels = ends_in_so (ask OwnLabel) after_own (whole_part t (start_job accounts me status room) old)
 
   module _ (own : Levels × Levels) (mid : KernelModel) (told : Called old mid t OwnLabel None × IsAnswer (state old) t OwnLabel own) where
     -- the thread's own labels are told
-    with_labels : LeavesPart (Unit {0}) t (start_job accounts me status room) old (after_own own) mid
+    with_labels : {M : Type 0} → LeavesPart M (Unit {0}) t (start_job accounts me status room) old (after_own own) mid
     with_labels =
         further_in (ask OwnLabel) after_own (whole_part t (start_job accounts me status room) old) mid own
         (grants t OwnLabel old mid own told.0 told.1)
 
     -- no category is made
-    pub no_category : (new : KernelModel) (call_error : CallError) (result : Result (Unit {0}) CallError) → IsErrAnd result (λ e. e ≡ call_error)
-        → RunsPart (ask MakeCategory) mid new t (Err call_error) → RunsPart (start_job accounts me status room) old new t result
+    pub no_category : {M : Type 0} → (new : KernelModel) (call_error : CallError) (result : Result (Unit {0}) CallError)
+        → IsErrAnd result (λ e. e ≡ call_error)
+        → RunsPart M (ask MakeCategory) mid new t (Err call_error) → RunsPart M (start_job accounts me status room) old new t result
     no_category = ends_in_so (ask MakeCategory) (after_job own) with_labels
 
     -- the category of the job is made
-    pub with_category : (job : ℕ) (later : KernelModel) → Called mid later t MakeCategory None × IsAnswer (state mid) t MakeCategory job
-        → LeavesPart (Unit {0}) t (start_job accounts me status room) old (after_job own job) later
+    pub with_category : {M : Type 0} → (job : ℕ) (later : KernelModel)
+        → Called mid later t MakeCategory None × IsAnswer (state mid) t MakeCategory job
+        → LeavesPart M (Unit {0}) t (start_job accounts me status room) old (after_job own job) later
     with_category job later made =
         further_in (ask MakeCategory) (after_job own) with_labels later job (grants t MakeCategory mid later job made.0 made.1)
 
@@ -154,14 +158,16 @@ module _ (unix : Unix) (path : Path) (status : ProcessStatus) (old : KernelModel
   after_place = start_job unix.users.now unix.caller.now.home status
 
   -- there is no room for an entry
-  pub no_place : (new : KernelModel) (call_error : CallError) (result : Result (Unit {0}) CallError) → IsErrAnd result (λ e. e ≡ call_error)
-      → RunsPart (find_room unix.roots.now path) old new unix.caller.now.thread (Err call_error)
-      → RunsPart its_job old new unix.caller.now.thread result
+  pub no_place : {M : Type 0} → (new : KernelModel) (call_error : CallError) (result : Result (Unit {0}) CallError)
+      → IsErrAnd result (λ e. e ≡ call_error)
+      → RunsPart M (find_room unix.roots.now path) old new unix.caller.now.thread (Err call_error)
+      → RunsPart M its_job old new unix.caller.now.thread result
   no_place = ends_in_so (find_room unix.roots.now path) after_place (whole_part unix.caller.now.thread its_job old)
 
   -- there is room for an entry
-  pub with_place : (mid : KernelModel) (room : Room) → RunsPart (find_room unix.roots.now path) old mid unix.caller.now.thread (Ok room)
-      → LeavesPart (Unit {0}) unix.caller.now.thread its_job old (after_place room) mid
+  pub with_place : {M : Type 0} → (mid : KernelModel) (room : Room)
+      → RunsPart M (find_room unix.roots.now path) old mid unix.caller.now.thread (Ok room)
+      → LeavesPart M (Unit {0}) unix.caller.now.thread its_job old (after_place room) mid
   with_place = further_in (find_room unix.roots.now path) after_place (whole_part unix.caller.now.thread its_job old)
 
 -- the parts of the whole program, one after another
@@ -179,20 +185,21 @@ module _ (unix : Unix) (path : Path) (old : KernelModel) where
   after_status status = make_job unix.users.now unix.roots.now unix.caller.now.home path status (after_start status)
 
   -- at first the whole program is left
-  begun : Leaves unix.caller.now.thread its_program old (room_for_child unix.process.now unix.caller.now.home after_status) old
+  begun : {M : Type 0} → Leaves M unix.caller.now.thread its_program old (room_for_child unix.process.now unix.caller.now.home after_status) old
   unfolding wrap_program
   begun = record { leads = λ new result on. on }
 
   -- there is no room for a child
-  pub no_room : (new : KernelModel) (call_error : CallError) (result : Result Reply CallError) → IsErrAnd result (λ e. e ≡ call_error)
-      → RunsPart (room_for_child unix.process.now unix.caller.now.home) old new unix.caller.now.thread (Err call_error)
-      → Runs its_program old new unix.caller.now.thread (settled result)
+  pub no_room : {M : Type 0} → (new : KernelModel) (call_error : CallError) (result : Result Reply CallError)
+      → IsErrAnd result (λ e. e ≡ call_error)
+      → RunsPart M (room_for_child unix.process.now unix.caller.now.home) old new unix.caller.now.thread (Err call_error)
+      → Runs M its_program old new unix.caller.now.thread (settled result)
   no_room = ends_so (room_for_child unix.process.now unix.caller.now.home) after_status begun
 
-  module _ (mid : KernelModel) (segment : Segment)
-      (room : RunsRoom unix.process.now unix.caller.now.home old mid unix.caller.now.thread (Ok segment)) where
+  module _ {M : Type 0} (mid : KernelModel) (segment : Segment)
+      (room : RunsRoom M unix.process.now unix.caller.now.home old mid unix.caller.now.thread (Ok segment)) where
     -- there is room for a child
-    with_room : Leaves unix.caller.now.thread its_program old (after_status room.0) mid
+    with_room : Leaves M unix.caller.now.thread its_program old (after_status room.0) mid
     with_room = further (room_for_child unix.process.now unix.caller.now.home) after_status begun mid room.0 room.2
 
     module _ (bytes : List ℕ) (same : bytes ≡ segment.bytes) (new : KernelModel) where
@@ -202,13 +209,13 @@ module _ (unix : Unix) (path : Path) (old : KernelModel) where
 
       -- the job isn't made
       pub not_made : (call_error : CallError) (result : Result Reply CallError) → IsErrAnd result (λ e. e ≡ call_error)
-          → MakesJob unix path bytes mid new (Err call_error) → Runs its_program old new unix.caller.now.thread (settled result)
+          → MakesJob M unix path bytes mid new (Err call_error) → Runs M its_program old new unix.caller.now.thread (settled result)
       not_made call_error result gave makes =
           ends_so (its_job unix path room.0 mid) (after_start room.0) with_room new call_error result gave (makes room.0 status_is)
 
       -- the job is made, and the name of its first process is replied
-      pub made : MakesJob unix path bytes mid new (Ok tt) → (child : ProcName) → child ≡ (segment.head.born + 1) ∷ unix.process.now
-          → Runs its_program old new unix.caller.now.thread (Ok (Child child))
+      pub made : MakesJob M unix path bytes mid new (Ok tt) → (child : ProcName) → child ≡ (segment.head.born + 1) ∷ unix.process.now
+          → Runs M its_program old new unix.caller.now.thread (Ok (Child child))
       made makes child is =
           (further (its_job unix path room.0 mid) (after_start room.0) with_room new tt (makes room.0 status_is)).leads new (Ok (Child child))
           (replies_so unix.caller.now.thread new (Child ((room.0.born + 1) ∷ unix.process.now)) (Child child)

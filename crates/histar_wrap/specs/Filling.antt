@@ -42,9 +42,10 @@ fill_job me status room plan rest = do
   rest tt
 
 -- a job was filled by a thread of the process whose segment has these bytes, whatever status they show
-abbrev pub FillsJob : Home → List ℕ → Room → JobPlan → KernelModel → KernelModel → ℕ → Result (Unit {0}) CallError → Type 0
-FillsJob home bytes room plan old new thread result =
-    (status : ProcessStatus) → status_in bytes ≡ Some status → RunsPart (fill_job home status room plan) old new thread result
+abbrev pub FillsJob : Type 0 → Home → List ℕ → Room → JobPlan → KernelModel → KernelModel → ℕ
+    → Result (Unit {0}) CallError → Type 0
+FillsJob M home bytes room plan old new thread result =
+    (status : ProcessStatus) → status_in bytes ≡ Some status → RunsPart M (fill_job home status room plan) old new thread result
 
 -- The thread asks for its own labels and makes the job's category, and the job is filled.
 abbrev pub start_job : Accounts → Home → ProcessStatus → Room → Part (Unit {0})
@@ -55,9 +56,10 @@ start_job accounts me status room rest = do
   rest tt
 
 -- a job was started by a thread of the process whose segment has these bytes, whatever status they show
-abbrev pub StartsJob : Accounts → Home → List ℕ → Room → KernelModel → KernelModel → ℕ → Result (Unit {0}) CallError → Type 0
-StartsJob accounts home bytes room old new thread result =
-    (status : ProcessStatus) → status_in bytes ≡ Some status → RunsPart (start_job accounts home status room) old new thread result
+abbrev pub StartsJob : Type 0 → Accounts → Home → List ℕ → Room → KernelModel → KernelModel → ℕ
+    → Result (Unit {0}) CallError → Type 0
+StartsJob M accounts home bytes room old new thread result =
+    (status : ProcessStatus) → status_in bytes ≡ Some status → RunsPart M (start_job accounts home status room) old new thread result
 
 -- There is room for an entry, and the job is started there.
 abbrev pub make_job : Accounts → Roots → Home → Path → ProcessStatus → Part (Unit {0})
@@ -67,8 +69,8 @@ make_job accounts roots me path status rest = do
   rest tt
 
 -- a job was made at a path by the caller, whose segment has these bytes, whatever status they show
-abbrev pub MakesJob : Unix → Path → List ℕ → KernelModel → KernelModel → Result (Unit {0}) CallError → Type 0
-MakesJob unix path bytes old new result =
+abbrev pub MakesJob : Type 0 → Unix → Path → List ℕ → KernelModel → KernelModel → Result (Unit {0}) CallError → Type 0
+MakesJob M unix path bytes old new result =
     let caller = unix.caller.now in
     (status : ProcessStatus) → status_in bytes ≡ Some status
-    → RunsPart (make_job unix.users.now unix.roots.now caller.home path status) old new caller.thread result
+    → RunsPart M (make_job unix.users.now unix.roots.now caller.home path status) old new caller.thread result

@@ -22,7 +22,7 @@ pub returns : goal.returns
 returns g c =
     let m = c.args.machine.now in
     IfOk-weaker c.table_by.result _ _
-    (λ table is. table_shows m c.in_ok-tree.tree.items c.in_ok-tree.ensures c.in_ok-processes.processes.items c.in_ok-processes.ensures table
+    (λ table is. table_shows m c.in_ok-tree.tree.items c.in_ok-tree.ensures.ok c.in_ok-processes.processes.items c.in_ok-processes.ensures table
     (is.runners ∙ ap (filter_map runner_of) c.as_slice.ensures.value)
     (is.lines
     ∙ (λ i. map rights_line (lines_from (state m.kernel) (visitors_in m (c.as_slice.ensures.value i)) [] (c.as_slice-2.ensures.value i)))))

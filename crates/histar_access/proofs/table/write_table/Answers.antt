@@ -32,7 +32,7 @@ returns-in_err-visitors-clause-err g c =
 pub returns-clause-ok : goal.returns-clause-ok
 returns-clause-ok g c =
     let is : IsTreeIn c.args.machine.now c.as_slice-3.result.now = subst (IsTreeIn c.args.machine.now) (sym c.as_slice-3.ensures.value)
-    c.in_ok-tree.ensures in
+    c.in_ok-tree.ensures.ok in
     let are : AreVisitors c.args.machine.now c.as_slice-2.result.now = (
       c.in_ok-processes.processes.items,
       c.in_ok-processes.ensures,
@@ -45,7 +45,7 @@ returns-clause-ok g c =
 pub returns-clause-err : goal.returns-clause-err
 returns-clause-err g c =
     let is : IsTreeIn c.args.machine.now c.as_slice-3.result.now = subst (IsTreeIn c.args.machine.now) (sym c.as_slice-3.ensures.value)
-    c.in_ok-tree.ensures in
+    c.in_ok-tree.ensures.ok in
     let are : AreVisitors c.args.machine.now c.as_slice-2.result.now = (
       c.in_ok-processes.processes.items,
       c.in_ok-processes.ensures,

@@ -17,5 +17,5 @@ returns g c =
     (λ text is. subst (IsUsersText m) (sym (is
     ∙ (λ i. users_text (users_from (c.users-2.ensures i)
     ((c.as_slice.ensures.value ∙ c.in_ok-start.ensures ∙ (λ j. starting (c.users.ensures j))) i) [] (c.as_slice-2.ensures.value i)))))
-    (users_shown m c.in_ok-tree.tree.items c.in_ok-tree.ensures))
+    (users_shown m c.in_ok-tree.tree.items c.in_ok-tree.ensures.ok))
     c.tree_text.ensures

@@ -14,7 +14,7 @@ pub returns : goal.returns
 returns g c =
     let m = c.args.machine.now in
     let start = c.in_ok-start.ensures ∙ (λ i. starting (c.users.ensures i)) in
-    users_table_shown m c.in_ok-tree.tree.items c.in_ok-tree.ensures _
+    users_table_shown m c.in_ok-tree.tree.items c.in_ok-tree.ensures.ok _
     (c.in_ok-users.ensures ∙ ap (map name_of) (c.as_slice-3.ensures.value ∙ start))
     (c.in_ok-lines.ensures
     ∙ (λ i. map users_rights (users_from (c.users-2.ensures i) ((c.as_slice.ensures.value ∙ start) i) [] (c.as_slice-2.ensures.value i))))

@@ -16,11 +16,11 @@ use Rattle.histar_calls.proofs.create.add_file.Goals.{In_ok-file}
 pub returns-in_err-file : goal.returns-in_err-file
 returns-in_err-file g c =
     ends_in_so _ (after_segment _) (whole_part _ _ _) _ _ _ c.from_residual.ensures.1 (makes _ _ _ _ _ _ _ refl c.new-empty.ensures _
-    (refuses _ _ _ _ _ _ c.in_err-file.ensures.answered))
+    (refuses _ _ _ _ _ _ c.in_err-file.ensures.answered c.in_err-file.ensures.memory))
 
 -- once the segment was made, the entry is left
 entering : (g : given.Over) (c : In_ok-file g)
-    → LeavesPart (Unit {0}) c.args.thread (add_file c.args.label c.args.room) c.args.kernel.now
+    → LeavesPart g.H.Heap.Refused (Unit {0}) c.args.thread (add_file c.args.label c.args.room) c.args.kernel.now
     (after_segment c.args.room c.in_ok-file.file) c.make_segment.new.self
 entering g c =
     further_in _ (after_segment _) (whole_part _ _ _) _ _ (makes _ _ _ _ _ _ _ refl c.new-empty.ensures _ (grants _ _ _ _
@@ -30,7 +30,7 @@ pub returns-in_err-insert : goal.returns-in_err-insert
 returns-in_err-insert g c =
     fails_so _ _ _ _ Stopped _ c.from_residual-in_err-insert.ensures.1
     ((entering g (goal.at.returns-in_err-insert g c).In_ok-file).leads c.make_segment.new.self (Err Stopped)
-    (before_ask _ (Write c.args.room.place.container c.args.room.place.listing 0 (spelling (grown c.args.room _))) _))
+    (before_ask _ (Write c.args.room.place.container c.args.room.place.listing 0 (spelling (grown c.args.room _))) _ c.in_err-insert.ensures.memory))
 
 pub returns : goal.returns
 returns g c =

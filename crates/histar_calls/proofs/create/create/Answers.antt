@@ -16,7 +16,7 @@ returns-in_err-room g c =
 
 -- once there is room, it is left to make the file
 making : (g : given.Over) (c : In_ok-room g)
-    → Leaves c.args.unix.now.caller.now.thread
+    → Leaves g.H.Heap.Refused c.args.unix.now.caller.now.thread
     (create_program c.args.unix.now.users.now c.args.unix.now.roots.now c.args.path.now c.args.mode) c.args.kernel.now
     (after_room c.args.unix.now.users.now c.args.mode c.in_ok-room.room) c.find_room.new.kernel
 making g c =

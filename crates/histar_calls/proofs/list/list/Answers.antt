@@ -8,11 +8,11 @@ use Rattle.histar_programs.proofs.Directories.{before_walk}
 use Rattle.histar_programs.proofs.Running.{then_call, call_fails, call_fails_so, replies_so}
 use Rattle.histar_calls.proofs.list.list.Goals as goal
 
-pub returns-in_err-reserve : goal.returns-in_err-reserve
+pub returns-in_err-entries : goal.returns-in_err-entries
 unfolding list_program
-returns-in_err-reserve g c =
+returns-in_err-entries g c =
     let k = c.args.kernel.now in
-    call_fails_so _ _ k k Stopped _ c.from_residual.ensures.1 (call_fails _ _ k k _ Stopped (before_walk _ _ _ k))
+    call_fails_so _ _ k k Stopped _ c.from_residual.ensures.1 (call_fails _ _ k k _ Stopped (before_walk _ _ _ k c.in_err-entries.ensures.memory))
 
 pub returns-in_err-directory : goal.returns-in_err-directory
 unfolding list_program
@@ -22,6 +22,7 @@ returns-in_err-directory g c =
 pub returns : goal.returns
 unfolding list_program
 returns g c =
-    let nothing_yet = c.in_ok-reserve.ensures.items ∙ c.new-entries.ensures.items in
-    let listing_is = c.new.ensures ∙ c.list.ensures ∙ ap (λ es. es ++ names_in c.in_ok-directory.directory.entries) nothing_yet in
+    let listing_is =
+    c.new.ensures ∙ c.list.ensures
+    ∙ ap (λ es. es ++ names_in c.in_ok-directory.directory.entries) c.in_ok-entries.ensures.items in
     then_call _ _ _ _ _ _ _ c.in_ok-directory.ensures _ (replies_so _ _ _ _ (ap Entries listing_is))

@@ -1,6 +1,7 @@
 -- Proves the goals of `make_directory` of src/mkdir.rt that the search leaves open.
 use Rattle.std.proofs.Common.{Ok, Err, Result, subst}
 use Rattle.histar_rules.specs.declared.raw.RawCall.TheVariants.{OwnLabel}
+use Rattle.histar_rules.specs.Memory.{OnOutOfMemory}
 use Rattle.histar_syscall.specs.KernelModel.{OwnLent}
 use Rattle.histar_layout.specs.Categories.{label_made}
 use Rattle.histar_programs.specs.declared.call_error.CallError.TheVariants.{Stopped}
@@ -17,7 +18,8 @@ returns-in_err-own g c =
     ends_in_so _ (after_own _ _ _) (whole_part _ _ _) c.lend_own_label.follows.lender-at-none _ _ c.from_residual.ensures.1
     (refuses _ OwnLabel _ c.lend_own_label.follows.lender-at-none _ _
     (subst (λ (r : Result _ _). OwnLent c.args.kernel.now c.args.unix.now.caller.now.thread r c.lend_own_label.follows.lender-at-none)
-    c.in_err-own.was c.lend_own_label.follows.holds-at-none))
+    c.in_err-own.was c.lend_own_label.follows.holds-at-none)
+    (subst (λ (r : Result _ _). OnOutOfMemory r g.H.Heap.Refused) c.in_err-own.was c.lend_own_label.ensures.memory))
 
 -- the thread's own label was lent
 lent : (g : given.Over) (c : In_ok-own g)
@@ -28,7 +30,8 @@ lent g c =
 
 -- once the label was lent, it is left to add the directory
 adding : (g : given.Over) (c : In_ok-own g)
-    → LeavesPart (Unit {0}) c.args.unix.now.caller.now.thread (make_directory c.args.unix.now.users.now c.args.mode c.args.room) c.args.kernel.now
+    → LeavesPart g.H.Heap.Refused (Unit {0}) c.args.unix.now.caller.now.thread (make_directory c.args.unix.now.users.now c.args.mode c.args.room)
+    c.args.kernel.now
     (add_directory (label_made c.args.unix.now.users.now c.in_ok-own.own.now c.args.mode) c.args.room) c.lend_own_label.follows.lender-at-none
 adding g c =
     further_in _ (after_own _ _ _) (whole_part _ _ _) c.lend_own_label.follows.lender-at-none (c.in_ok-own.own.now, (lent g c).1.0)
@@ -38,9 +41,9 @@ pub returns-in_err-label : goal.returns-in_err-label
 returns-in_err-label g c =
     fails_so _ _ _ c.lend_own_label.follows.lender-at-none Stopped _ c.from_residual-in_err-label.ensures.1
     ((adding g (goal.at.returns-in_err-label g c).In_ok-own).leads c.lend_own_label.follows.lender-at-none (Err Stopped) (before_adding _ _ _
-    c.lend_own_label.follows.lender-at-none))
+    c.lend_own_label.follows.lender-at-none c.in_err-label.ensures.memory))
 
 pub returns : goal.returns
 returns g c =
     (adding g (goal.at.returns g c).In_ok-own).leads c.add_directory.new.kernel c.add_directory.result
-    (adds_so _ c.lend_own_label.follows.lender-at-none _ _ _ _ c.in_ok-label.ensures _ c.add_directory.ensures)
+    (adds_so _ c.lend_own_label.follows.lender-at-none _ _ _ _ c.in_ok-label.ensures.ok _ c.add_directory.ensures)

@@ -17,7 +17,7 @@ returns-in_err-file g c =
 
 -- once the file was found, it is left to read it
 reading : (g : given.Over) (c : In_ok-file g)
-    → Leaves c.args.unix.now.caller.now.thread (read_program c.args.unix.now.roots.now c.args.path.now) c.args.kernel.now
+    → Leaves g.H.Heap.Refused c.args.unix.now.caller.now.thread (read_program c.args.unix.now.roots.now c.args.path.now) c.args.kernel.now
     (to_read c.in_ok-file.file) c.find_file.new.kernel
 reading g c =
     further _ to_read (read_begun _ _ _ _) _ _ c.in_ok-file.ensures
@@ -25,7 +25,7 @@ reading g c =
 pub returns-in_err-bytes : goal.returns-in_err-bytes
 returns-in_err-bytes g c =
     ends_so (ask (read_of _)) (λ bytes. Answers (Data bytes)) (reading g (goal.at.returns-in_err-bytes g c).In_ok-file)
-    _ _ _ c.from_residual-in_err-bytes.ensures.1 (refuses _ (read_of _) _ _ _ _ c.in_err-bytes.ensures.ok)
+    _ _ _ c.from_residual-in_err-bytes.ensures.1 (refuses _ (read_of _) _ _ _ _ c.in_err-bytes.ensures.ok c.in_err-bytes.ensures.memory)
 
 pub returns : goal.returns
 returns g c =

@@ -36,11 +36,11 @@ abbrev parent_of : Path → Path
 parent_of path = take (length path - 1) (drop 1 path)
 
 -- at first the place of the directory above is left, and what comes after it
-begun : (t : ℕ) (roots : Roots) (path : Path) (old : KernelModel) (name : Name) → path ≡ name ∷ parent_of path
-    → LeavesPart FoundObject t (find_object roots path) old (λ rest. find_place roots (parent_of path) (λ place. in_place name place rest)) old
+begun : {M : Type 0} → (t : ℕ) (roots : Roots) (path : Path) (old : KernelModel) (name : Name) → path ≡ name ∷ parent_of path
+    → LeavesPart M FoundObject t (find_object roots path) old (λ rest. find_place roots (parent_of path) (λ place. in_place name place rest)) old
 unfolding find_object
-begun t roots path old name split = record {
-  leads = λ new result on. subst (λ (names : Path). RunsPart (find_object roots names) old new t result) (sym split) on;
+begun {M} t roots path old name split = record {
+  leads = λ new result on. subst (λ (names : Path). RunsPart M (find_object roots names) old new t result) (sym split) on;
 }
 
 pub returns-in_default : goal.returns-in_default
@@ -48,7 +48,8 @@ unfolding find_object
 returns-in_default g c =
     let k = c.args.kernel.now in
     let roots = c.args.roots.now in
-    part_as _ _ k k _ (ap (find_object roots) (no_names _ (omega arith))) _ (subst (λ root. RunsPart (find_object roots []) k k c.args.thread
+    part_as _ _ k k _ (ap (find_object roots) (no_names _ (omega arith))) _
+    (subst (λ root. RunsPart g.H.Heap.Refused (find_object roots []) k k c.args.thread
     (Ok (record { container = root; object = roots.slash.container; is_directory = true }))) (sym c.new.ensures)
     (hands _ k (record { container = root_number; object = roots.slash.container; is_directory = true })))
 
@@ -58,7 +59,7 @@ returns-in_err-place g c =
 
 -- once the place is known, the name is looked up there
 looking : (g : given.Over) (c : In_ok-place g)
-    → LeavesPart FoundObject c.args.thread (find_object c.args.roots.now c.args.path.now) c.args.kernel.now
+    → LeavesPart g.H.Heap.Refused FoundObject c.args.thread (find_object c.args.roots.now c.args.path.now) c.args.kernel.now
     (in_place c.name-item.result c.in_ok-place.place) c.find_place.new.kernel
 looking g c =
     further_in _ _ (begun _ _ _ _ _ (first_of_names _ _ (omega arith) c.name-item.is)) _ _ c.in_ok-place.ensures
@@ -69,7 +70,7 @@ returns-in_err-found g c =
 
 -- once the name was looked up, what it leads to is left
 looked : (g : given.Over) (c : In_ok-found g)
-    → LeavesPart FoundObject c.args.thread (find_object c.args.roots.now c.args.path.now) c.args.kernel.now
+    → LeavesPart g.H.Heap.Refused FoundObject c.args.thread (find_object c.args.roots.now c.args.path.now) c.args.kernel.now
     (after_look c.in_ok-place.place c.in_ok-found.found) c.look_in.new.kernel
 looked g c =
     further_in _ _ (looking g c.before.before.before.before.before) _ _ c.in_ok-found.ensures
@@ -81,7 +82,8 @@ returns-in_err-target g c =
 
 pub returns : goal.returns
 returns g c =
-    subst (λ (found : FoundObject). RunsPart (find_object c.args.roots.now c.args.path.now) c.args.kernel.now c.look_in.new.kernel c.args.thread
+    subst (λ (found : FoundObject). RunsPart g.H.Heap.Refused (find_object c.args.roots.now c.args.path.now) c.args.kernel.now c.look_in.new.kernel
+    c.args.thread
     (Ok found)) (λ i. record {
       container = c.in_ok-place.place.container;
       object = sym c.object.ensures i;

@@ -35,8 +35,8 @@ abbrev after_object : Accounts → FoundObject → Program
 after_object accounts object = ask (label_of object) (after_label accounts object)
 
 -- at first the whole program is left
-begun : (accounts : Accounts) (roots : Roots) (path : Path) (t : ℕ) (old : KernelModel)
-    → Leaves t (stat_program accounts roots path) old (find_object roots path (after_object accounts)) old
+begun : {M : Type 0} → (accounts : Accounts) (roots : Roots) (path : Path) (t : ℕ) (old : KernelModel)
+    → Leaves M t (stat_program accounts roots path) old (find_object roots path (after_object accounts)) old
 unfolding stat_program
 begun accounts roots path t old = record { leads = λ new result on. on }
 
@@ -46,7 +46,8 @@ returns-in_err-found g c =
 
 -- once the object was found, its label is left
 asking : (g : given.Over) (c : In_ok-found g)
-    → Leaves c.args.unix.now.caller.now.thread (stat_program c.args.unix.now.users.now c.args.unix.now.roots.now c.args.path.now) c.args.kernel.now
+    → Leaves g.H.Heap.Refused c.args.unix.now.caller.now.thread (stat_program c.args.unix.now.users.now c.args.unix.now.roots.now c.args.path.now)
+    c.args.kernel.now
     (after_object c.args.unix.now.users.now c.in_ok-found.found) c.find_object.new.kernel
 asking g c =
     further _ _ (begun _ _ _ _ _) _ _ c.in_ok-found.ensures
@@ -54,11 +55,12 @@ asking g c =
 pub returns-in_err-label : goal.returns-in_err-label
 returns-in_err-label g c =
     ends_so _ _ (asking g (goal.at.returns-in_err-label g c).In_ok-found) _ _ _ c.from_residual-in_err-label.ensures.1 (refuses _ _ _ _ _
-    _ c.in_err-label.ensures.ok)
+    _ c.in_err-label.ensures.ok c.in_err-label.ensures.memory)
 
 -- once the label is known, the reply is left
 labelled : (g : given.Over) (c : In_ok-label g)
-    → Leaves c.args.unix.now.caller.now.thread (stat_program c.args.unix.now.users.now c.args.unix.now.roots.now c.args.path.now) c.args.kernel.now
+    → Leaves g.H.Heap.Refused c.args.unix.now.caller.now.thread (stat_program c.args.unix.now.users.now c.args.unix.now.roots.now c.args.path.now)
+    c.args.kernel.now
     (after_label c.args.unix.now.users.now c.in_ok-found.found c.in_ok-label.label) c.label_of.new.self
 labelled g c =
     further _ _ (asking g c.before.before.before.before) _ _ (grants _ _ _ _ _ c.in_ok-label.ensures.ok.0 c.in_ok-label.ensures.ok.1)

@@ -17,7 +17,8 @@ returns-in_err-file g c =
 
 -- once the file was found, it is left to write it
 writing : (g : given.Over) (c : In_ok-file g)
-    → Leaves c.args.unix.now.caller.now.thread (write_program c.args.unix.now.roots.now c.args.path.now c.args.bytes) c.args.kernel.now
+    → Leaves g.H.Heap.Refused c.args.unix.now.caller.now.thread (write_program c.args.unix.now.roots.now c.args.path.now c.args.bytes)
+    c.args.kernel.now
     (to_write 0 c.args.bytes c.in_ok-file.file) c.find_file.new.kernel
 writing g c =
     further _ (to_write 0 _) (write_begun _ _ _ _ _) _ _ c.in_ok-file.ensures
@@ -26,11 +27,11 @@ pub returns-in_err-written : goal.returns-in_err-written
 returns-in_err-written g c =
     ends_so (ask (write_of 0 _ _)) (λ (done : Unit {0}). Answers Done)
     (writing g (goal.at.returns-in_err-written g c).In_ok-file) _ _ _ c.from_residual-in_err-written.ensures.1 (asks _ (write_of 0 _ _) _ _ _
-    c.write.ensures.ok _ c.in_err-written.ensures)
+    c.write.ensures.ok c.write.ensures.memory _ c.in_err-written.ensures)
 
 pub returns : goal.returns
 returns g c =
     let end = c.write.new.self in
     let written = further (ask (write_of 0 _ _)) (λ (done : Unit {0}). Answers Done) (writing g (goal.at.returns g c).In_ok-file) end tt
-    (asks _ (write_of 0 _ _) _ end _ c.write.ensures.ok _ c.in_ok-written.ensures) in
+    (asks _ (write_of 0 _ _) _ end _ c.write.ensures.ok c.write.ensures.memory _ c.in_ok-written.ensures) in
     written.leads end (Ok Done) (says _ end Done)

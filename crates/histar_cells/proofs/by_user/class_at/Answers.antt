@@ -8,4 +8,4 @@ pub returns : goal.returns
 returns g c =
     IfOk-weaker c.class_of.result _ _
     (class_found c.args.source.now.users.now (state c.args.source.now.kernel.now) c.args.object c.in-Some.label.now c.in-Some.ensures)
-    c.class_of.ensures
+    c.class_of.ensures.ok

@@ -8,37 +8,37 @@ use Rattle.histar_comparison.proofs.Verdicts.{can_run, compared_found, compared_
 use Rattle.histar_comparison.proofs.comparison.compare.Goals as goal
 
 pub observe-requires : goal.observe-requires
-observe-requires c = can_run c.args.job.now c.args.text.now c.in_ok-script.script c.in_ok-script.ensures.exact
+observe-requires g c = can_run c.args.job.now c.args.text.now c.in_ok-script.script c.in_ok-script.ensures.exact
 
 pub returns-then-not-is_started-clause-exact : goal.returns-then-not-is_started-clause-exact
-returns-then-not-is_started-clause-exact c =
+returns-then-not-is_started-clause-exact g c =
     let none : c.first.inside.replies.is_started ≡ false = search rules in
     let seen = ap (λ (o : ObservationModel). o.replies.is_started) (sym c.first.view_is) ∙ none in
-    compared_none c.args.job.now c.args.text.now c.in_ok-script.script c.in_ok-script.ensures.exact c.in_ok-first.first c.in_ok-first.ensures seen
+    compared_none c.args.job.now c.args.text.now c.in_ok-script.script c.in_ok-script.ensures.exact c.in_ok-first.first c.in_ok-first.ensures.ok seen
 
 pub returns-then-not-is_started-clause-isolated : goal.returns-then-not-is_started-clause-isolated
-returns-then-not-is_started-clause-isolated c quiet =
-    quiet_is_same c.args.job.now only_releases_differ c.args.text.now _ quiet (returns-then-not-is_started-clause-exact c)
+returns-then-not-is_started-clause-isolated g c quiet =
+    quiet_is_same c.args.job.now only_releases_differ c.args.text.now _ quiet (returns-then-not-is_started-clause-exact g c)
 
 pub observe-requires-2 : goal.observe-requires-2
-observe-requires-2 c =
+observe-requires-2 g c =
     let script = c.in_ok-read_script.field-0 in
     subst CanRun (sym c.without-rest.ensures) (rest_runs c.args.job.now script
     (can_run c.args.job.now c.args.text.now script c.in_ok-read_script.ensures.exact))
 
 pub returns-clause-exact : goal.returns-clause-exact
-returns-clause-exact c =
+returns-clause-exact g c =
     let job = c.args.job.now in
     let some : c.first.inside.replies.is_started ≡ true = search rules in
     let seen = ap (λ (o : ObservationModel). o.replies.is_started) (sym c.first.view_is) ∙ some in
     let again =
     read_again c.args.text.now c.in_ok-script.script c.in_ok-read_script.field-0 c.in_ok-script.ensures.exact
     c.in_ok-read_script.ensures.exact in
-    let second = c.in_ok-second.ensures ∙ ap (observation job) (c.without-rest.ensures ∙ ap (without_job job) again) in
+    let second = c.in_ok-second.ensures.ok ∙ ap (observation job) (c.without-rest.ensures ∙ ap (without_job job) again) in
     compared_found job c.args.text.now c.in_ok-script.script c.in_ok-script.ensures.exact finds_first_path
-    c.in_ok-first.first c.in_ok-second.second c.in_ok-first.ensures second seen c.find_difference.result
+    c.in_ok-first.first c.in_ok-second.second c.in_ok-first.ensures.ok second seen c.find_difference.result
     c.find_difference.ensures
 
 pub returns-clause-isolated : goal.returns-clause-isolated
-returns-clause-isolated c quiet = quiet_is_same c.args.job.now only_releases_differ c.args.text.now c.find_difference.result quiet
-    (returns-clause-exact c)
+returns-clause-isolated g c quiet = quiet_is_same c.args.job.now only_releases_differ c.args.text.now c.find_difference.result quiet
+    (returns-clause-exact g c)

@@ -2,7 +2,7 @@
 use Rattle.std.proofs.Common.{◌≡◌, ℕ, ◌+◌, List, [], ◌∷◌, ◌++◌, Ok, map, take, refl, sym, ap, ap₂, ◌∙◌}
 use Rattle.std.proofs.lemmas.List.{map_push, take_more, take_all}
 use Rattle.histar_flat.specs.Words.{ProcName}
-use Rattle.histar_flat.specs.Meaning.{RepliedCall, meaning}
+use Rattle.histar_flat.specs.Meaning.{RepliedCall}
 use Rattle.histar_script.specs.Reading.{script_of}
 use Rattle.histar_script.specs.Script.{ScriptModel}
 use Rattle.histar_comparison.specs.declared.explained.Explained.{Explained}
@@ -31,18 +31,18 @@ one_more script text jobs i job found old new given more read is added =
     ∙ sym (ap (λ (all : List ProcName). map (job_verdict script) all) more ∙ map_push (job_verdict script) (take i jobs) job)
 
 pub jobs-init : goal.jobs-init
-jobs-init c = (refl, λ script read. c.in_ok-verdicts.ensures.items)
+jobs-init g c = (refl, λ script read. c.new-verdicts.ensures.items)
 
 pub explain_against-found-requires : goal.explain_against-found-requires
-explain_against-found-requires c =
+explain_against-found-requires g c =
     let run = c.requires in
     let answers = (λ i. answered (run.calls_are i) (c.as_slice-replies.ensures.value i)) ∙ run.is.replies in
-    let replies = c.in_ok-replies_kept.ensures ∙ ap (λ (as' : List RepliedCall). with_replies c.job-item.result no_replies as') answers in
+    let replies = c.in_ok-replies_kept.ensures.ok ∙ ap (λ (as' : List RepliedCall). with_replies c.job-item.result no_replies as') answers in
     let tree = c.jobs.invariant.0 ∙ run.is.tree in
     record { script = run.script; is_read = run.is_read; is = λ i. record { replies = replies i; tree = tree i } }
 
 pub jobs-preserved : goal.jobs-preserved
-jobs-preserved c = (
+jobs-preserved g c = (
   c.jobs.invariant.0,
   λ script read.
       let jobs = c.deref-job-items.result.now in
@@ -53,12 +53,12 @@ jobs-preserved c = (
       c.in_ok-found.ensures.exact more read (c.jobs.invariant.1 script read) c.in_ok-push.ensures.items,
 )
 
-pub returns : goal.returns
-returns c =
+pub returns-clause-exact : goal.returns-clause-exact
+returns-clause-exact g c =
     let run = c.requires in
     let script = run.script in
     let answers = (λ i. answered (run.calls_are i) (c.as_slice-replies.ensures.value i)) ∙ run.is.replies in
     ap verdicts_of run.is_read
     ∙ ap (λ (verdicts : List JobVerdict). Ok verdicts) (sym (c.jobs.invariant.1 script run.is_read
     ∙ ap (λ jobs. map (job_verdict script) jobs) (take_all c.jobs.job-index c.deref-job-items.result.now c.jobs-test.false
-    ∙ c.deref-job-items.ensures.value ∙ c.in_ok-jobs.ensures ∙ ap jobs_started answers)))
+    ∙ c.deref-job-items.ensures.value ∙ c.in_ok-jobs.ensures.ok ∙ ap jobs_started answers)))

@@ -6,6 +6,6 @@ use Rattle.histar_comparison.specs.Jobs.{job_verdict}
 use Rattle.histar_comparison.proofs.jobs.compare_each.Given as goal
 
 abbrev pub invariant-jobs : goal.invariant-jobs
-invariant-jobs l =
+invariant-jobs g l =
     (l.tree.items ≡ l.initial.tree.items)
     × ((script : ScriptModel) → script_of l.text ≡ Ok script → l.verdicts.items ≡ map (job_verdict script) (take l.job-index l.job-items))

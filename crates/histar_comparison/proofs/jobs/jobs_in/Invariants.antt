@@ -5,7 +5,7 @@ use Rattle.histar_comparison.specs.Whole.{answered}
 use Rattle.histar_comparison.proofs.jobs.jobs_in.Given as goal
 
 abbrev pub invariant-answers : goal.invariant-answers
-invariant-answers l = l.jobs.items ++ jobs_started (answered l.calls l.replies) ≡ jobs_started (answered l.fn.calls l.fn.replies)
+invariant-answers g l = l.jobs.items ++ jobs_started (answered l.calls l.replies) ≡ jobs_started (answered l.fn.calls l.fn.replies)
 
 abbrev pub decreases-answers : goal.decreases-answers
-decreases-answers l = length l.calls
+decreases-answers g l = length l.calls

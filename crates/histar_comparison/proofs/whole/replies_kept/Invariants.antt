@@ -5,8 +5,8 @@ use Rattle.histar_comparison.specs.Whole.{answered}
 use Rattle.histar_comparison.proofs.whole.replies_kept.Given as goal
 
 abbrev pub invariant-answers : goal.invariant-answers
-invariant-answers l = with_replies l.job l.kept (answered l.calls l.replies)
+invariant-answers g l = with_replies l.job l.kept (answered l.calls l.replies)
     ≡ with_replies l.job no_replies (answered l.fn.calls l.fn.replies)
 
 abbrev pub decreases-answers : goal.decreases-answers
-decreases-answers l = length l.calls
+decreases-answers g l = length l.calls

@@ -10,6 +10,7 @@ use Rattle.std.proofs.lemmas.Option.{cond_some}
 use Rattle.histar_flat.specs.Words.{Name, Path, is_name, is_path, slash, split_at_first, name_of, path_from}
 use Rattle.histar_flat.proofs.PathLemmas.{no_name, last_name, next_name}
 use Rattle.histar_flat.proofs.owned_paths.read_owned_names.Goals as goal
+use Rattle.histar_flat.proofs.owned_paths.read_owned_names.Given as given
 use Rattle.histar_flat.proofs.owned_paths.read_owned_names.Goals.{In-Some}
 
 -- a path of fewer than eight names leads on to an entry
@@ -29,47 +30,47 @@ spelled word name is =
 turned : (names more : List Name) (name : Name) → more ≡ names ++ name ∷ [] → reverse more ≡ name ∷ reverse names
 turned names more name is = ap reverse is ∙ reverse-append names (name ∷ [])
 
-pub returns-in_default : goal.returns-in_default
-returns-in_default c =
+pub returns-in_default-clause-ok : goal.returns-in_default-clause-ok
+returns-in_default-clause-ok g c =
     let none : name_of (split_at_first slash c.loop.rest.now).0 ≡ None =
     ap name_of (sym c.split_at_first.ensures.before) ∙ sym c.read_name.ensures ∙ c.in_default.is in
     sym (no_name (8 - c.loop.counter) (reverse c.loop.names.items) c.loop.rest.now none) ∙ c.loop.invariant.0
 
 -- the word before the slash is the name
-word_is : (c : In-Some) → name_of (split_at_first slash c.loop.rest.now).0 ≡ Some c.in-Some.name
-word_is c = ap name_of (sym c.split_at_first.ensures.before) ∙ sym c.read_name.ensures ∙ c.in-Some.is
+word_is : (g : given.Over) (c : In-Some g) → name_of (split_at_first slash c.loop.rest.now).0 ≡ Some c.in-Some.name
+word_is g c = ap name_of (sym c.split_at_first.ensures.before) ∙ sym c.read_name.ensures ∙ c.in-Some.is
 
 -- one more name may come
-one_left : (c : In-Some) → 0 < 8 - c.loop.counter
-one_left c = omega (arith, c.loop-test.true)
+one_left : (g : given.Over) (c : In-Some g) → 0 < 8 - c.loop.counter
+one_left g c = omega (arith, c.loop-test.true)
 
-pub returns-in-None : goal.returns-in-None
-returns-in-None c =
-    let here = (goal.at.returns-in-None c).In-Some in
+pub returns-in-None-clause-ok : goal.returns-in-None-clause-ok
+returns-in-None-clause-ok g c =
+    let here = (goal.at.returns-in-None-clause-ok g c).In-Some in
     let end : (split_at_first slash c.loop.rest.now).1 ≡ None = sym c.split_at_first.ensures.after ∙ ap option_copied c.in-None.is in
-    ap Some (c.along.ensures ∙ turned c.loop.names.items c.push.new.self.items c.in-Some.name c.in_ok-push.ensures.items)
-    ∙ sym (last_name (8 - c.loop.counter) (reverse c.loop.names.items) c.loop.rest.now c.in-Some.name (one_left here) (word_is here) end)
+    ap Some (c.along.ensures ∙ turned c.loop.names.items c.push.new.list.items c.in-Some.name c.in_ok-push.ensures.items)
+    ∙ sym (last_name (8 - c.loop.counter) (reverse c.loop.names.items) c.loop.rest.now c.in-Some.name (one_left g here) (word_is g here) end)
     ∙ c.loop.invariant.0
 
 pub loop-preserved : goal.loop-preserved
-loop-preserved c =
+loop-preserved g c =
     let path = reverse c.loop.names.items in
     let others = c.in-Some-after.others.now in
     let on : (split_at_first slash c.loop.rest.now).1 ≡ Some others =
     sym c.split_at_first.ensures.after ∙ ap option_copied c.in-Some-after.is in
     let less : 8 - (c.loop.counter + 1) ≡ 8 - c.loop.counter - 1 = omega arith in
-    let longer = turned c.loop.names.items c.push.new.self.items c.in-Some.name c.in_ok-push.ensures.items in (
+    let longer = turned c.loop.names.items c.push.new.list.items c.in-Some.name c.in_ok-push.ensures.items in (
       (λ i. path_from (less i) (longer i) others) ∙ sym (next_name (8 - c.loop.counter) path c.loop.rest.now others c.in-Some.name
-          (one_left (goal.at.loop-preserved c).In-Some) (word_is (goal.at.loop-preserved c).In-Some) on)
+          (one_left g (goal.at.loop-preserved g c).In-Some) (word_is g (goal.at.loop-preserved g c).In-Some) on)
           ∙ c.loop.invariant.0,
       ap length longer ∙ omega (arith, c.loop.invariant.1),
       subst (λ (p : Path). IsTrue (is_path p)) (sym longer)
           (leads_on c.in-Some.name path (omega (arith, c.loop.invariant.1, c.loop-test.true))
-          (spelled (split_at_first slash c.loop.rest.now).0 c.in-Some.name (word_is (goal.at.loop-preserved c).In-Some)) c.loop.invariant.2),
+          (spelled (split_at_first slash c.loop.rest.now).0 c.in-Some.name (word_is g (goal.at.loop-preserved g c).In-Some)) c.loop.invariant.2),
     )
 
-pub returns : goal.returns
+pub returns-clause-ok : goal.returns-clause-ok
 unfolding path_from
-returns c =
+returns-clause-ok g c =
     let none : 8 - c.loop.counter ≡ 0 = omega (arith, c.loop-test.false) in
     subst (λ left. path_from left (reverse c.loop.names.items) c.loop.rest.now ≡ path_from 8 [] c.args.text.now) none c.loop.invariant.0

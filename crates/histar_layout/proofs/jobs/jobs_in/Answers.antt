@@ -6,7 +6,7 @@ use Rattle.histar_layout.proofs.jobs.jobs_in.Goals as goal
 use Rattle.histar_layout.proofs.jobs.jobs_in.Goals.{then-is_three+in_ok-push, else-is_three}
 
 pub loop-category-preserved : goal.loop-category-preserved
-loop-category-preserved c =
+loop-category-preserved g c =
     passed_more (λ e. is_three e.1) c.exceptions-exceptions.result.now c.loop-category-item.result c.loop-category.category-index
     c.loop-category.jobs.items _ _ c.loop-category-test.true c.loop-category-item.is c.loop-category.invariant
     (elim c.if-is_three.branch [

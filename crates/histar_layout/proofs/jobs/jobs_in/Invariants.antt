@@ -5,4 +5,4 @@ use Rattle.histar_layout.proofs.Scanning.{passed}
 use Rattle.histar_layout.proofs.jobs.jobs_in.Given as goal
 
 abbrev pub invariant-loop-category : goal.invariant-loop-category
-invariant-loop-category l = l.jobs.items ++ passed (λ e. is_three e.1) (drop l.category-index l.exceptions) ≡ jobs_in l.own
+invariant-loop-category g l = l.jobs.items ++ passed (λ e. is_three e.1) (drop l.category-index l.exceptions) ≡ jobs_in l.own

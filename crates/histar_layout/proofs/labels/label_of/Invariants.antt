@@ -4,4 +4,4 @@ use Rattle.histar_layout.specs.Labelling.{labelled}
 use Rattle.histar_layout.proofs.labels.label_of.Given as goal
 
 abbrev pub invariant-loop-category : goal.invariant-loop-category
-invariant-loop-category l = l.label ≡ labelled (take l.category-index l.exceptions) l.fn.default
+invariant-loop-category g l = l.label ≡ labelled (take l.category-index l.exceptions) l.fn.default

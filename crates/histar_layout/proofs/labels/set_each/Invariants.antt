@@ -4,4 +4,4 @@ use Rattle.histar_layout.specs.Labelling.{each_at, with_levels}
 use Rattle.histar_layout.proofs.labels.set_each.Given as goal
 
 abbrev pub invariant-loop-category : goal.invariant-loop-category
-invariant-loop-category l = l.label ≡ with_levels l.fn.label (each_at l.level (take l.category-index l.categories))
+invariant-loop-category g l = l.label ≡ with_levels l.fn.label (each_at l.level (take l.category-index l.categories))

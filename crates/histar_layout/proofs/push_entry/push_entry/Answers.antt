@@ -4,4 +4,4 @@ use Rattle.histar_flat.proofs.WordLemmas.{short_name}
 use Rattle.histar_layout.proofs.push_entry.push_entry.Goals as goal
 
 pub overflow_cast-text : goal.overflow_cast-text
-overflow_cast-text c = omega (arith, short_name c.args.name.now c.as_bytes-text.ensures.right, ap length c.as_bytes-text.ensures.value)
+overflow_cast-text g c = omega (arith, short_name c.args.name.now c.as_bytes-text.ensures.right, ap length c.as_bytes-text.ensures.value)

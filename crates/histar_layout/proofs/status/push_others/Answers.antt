@@ -8,22 +8,22 @@ use Rattle.histar_layout.proofs.WritingStatuses.{IsLeft, child_passed, all_passe
 use Rattle.histar_layout.proofs.status.push_others.Goals as goal
 
 pub children-init : goal.children-init
-children-init c = λ those are. (those, are, refl)
+children-init g c = λ those are. (those, are, refl)
 
-pub children-preserved-in_ok-extend_from_slice : goal.children-preserved-in_ok-extend_from_slice
-children-preserved-in_ok-extend_from_slice c = λ those are.
+pub children-preserved-in_ok-extend : goal.children-preserved-in_ok-extend
+children-preserved-in_ok-extend g c = λ those are.
     let parts = c.in-Some.ensures.cases in
     subst (λ (out : List ℕ). IsLeft c.args.number out c.in-Some.after.now
     (c.args.out.now.items ++ flat_map child_bytes (others c.args.number those)))
-    (sym c.in_ok-extend_from_slice.ensures.items)
+    (sym c.in_ok-extend.ensures.items)
     (child_passed c.args.number c.children.out.items c.children.rest.now _ c.in-Some.child.now c.in-Some.after.now
     (omega arith) parts.0 parts.1 (c.children.invariant those are) false (differs _ _ c.if-child-number.true))
 
 pub children-preserved : goal.children-preserved
-children-preserved c = λ those are.
+children-preserved g c = λ those are.
     let parts = c.in-Some.ensures.cases in
     child_passed c.args.number c.children.out.items c.children.rest.now _ c.in-Some.child.now c.in-Some.after.now
     (omega arith) parts.0 parts.1 (c.children.invariant those are) true (eq-eqb _ _ c.if-child-number.false)
 
-pub returns : goal.returns
-returns c = λ those are. let short = c.in_default.ensures.cases in all_passed _ _ _ _ (omega arith) (c.children.invariant those are)
+pub returns-clause-ok : goal.returns-clause-ok
+returns-clause-ok g c = λ those are. let short = c.in_default.ensures.cases in all_passed _ _ _ _ (omega arith) (c.children.invariant those are)

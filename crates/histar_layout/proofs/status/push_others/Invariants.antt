@@ -8,9 +8,9 @@ use Rattle.histar_layout.proofs.WritingStatuses.{IsLeft}
 use Rattle.histar_layout.proofs.status.push_others.Given as goal
 
 abbrev pub invariant-children : goal.invariant-children
-invariant-children l =
+invariant-children g l =
     (those : List Child) → l.children ≡ flat_map child_bytes those
     → IsLeft l.number l.out.items l.rest (l.fn.out.items ++ flat_map child_bytes (others l.number those))
 
 abbrev pub decreases-children : goal.decreases-children
-decreases-children l = length l.rest
+decreases-children g l = length l.rest

@@ -3,4 +3,4 @@ use Rattle.std.proofs.Common.{◌≡◌, take}
 use Rattle.histar_layout.proofs.user_table.copies_of.Given as goal
 
 abbrev pub invariant-loop-group : goal.invariant-loop-group
-invariant-loop-group l = l.copies.items ≡ take l.group-index l.groups
+invariant-loop-group g l = l.copies.items ≡ take l.group-index l.groups

@@ -5,4 +5,4 @@ use Rattle.histar_layout.proofs.Lookups.{key}
 use Rattle.histar_layout.proofs.user_table.names_of.Given as goal
 
 abbrev pub invariant-loop-user : goal.invariant-loop-user
-invariant-loop-user l = l.names.keys ≡ map key (take l.user-index l.users)
+invariant-loop-user g l = l.names.keys ≡ map key (take l.user-index l.users)

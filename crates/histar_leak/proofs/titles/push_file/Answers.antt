@@ -12,7 +12,7 @@ pub returns : goal.returns
 returns g c =
     let old = c.args.text.now.items in
     let path = path_text c.args.path.now in
-    let line = c.in_ok-extend_from_slice.ensures.items ∙ ap (λ (t : List ℕ). t ++ codes "\n") c.in_ok-push_path.ensures in
+    let line = c.in_ok-extend_from_slice.ensures.items ∙ ap (λ (t : List ℕ). t ++ codes "\n") c.in_ok-push_path.ensures.ok in
     let titles = ap title_lines (c.behind_first.ensures ∙ ap (λ (t : List ℕ). drop 1 (lines_of t)) c.as_slice.ensures.value) in
     ok_so c.push_titles.result
     (λ added f r. added ∙ (λ i. line i ++ titles i) ∙ behind_three old path (codes "\n") (titles_in c.in_ok-lines.lines.items)

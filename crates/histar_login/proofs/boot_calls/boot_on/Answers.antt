@@ -28,53 +28,60 @@ returns-in_err-make_categories-clause-err g c =
 pub make_users-requires : goal.make_users-requires
 make_users-requires g c =
     first_user_way _ c.users.ensures.few _ c.requires.state
-    _ (subst (λ (n : ℕ). BootsOn c.args.kernel.now c.make_categories.new.kernel IsAnywhere (categories_part n)) (count_is _ _ _ c.users.ensures.users
-    c.groups.ensures.groups) c.in_ok-make_categories.ensures.ok)
+    _ (subst (λ (n : ℕ). BootsOn c.args.kernel.now c.make_categories.new.kernel IsAnywhere (categories_part n))
+    (count_is _ _ _ c.users.ensures.users c.groups.ensures.groups) c.in_ok-make_categories.ensures.ok)
 
 pub returns-in_err-make_users-clause-err : goal.returns-in_err-make_users-clause-err
 returns-in_err-make_users-clause-err g c =
     on_err _ _ (users_stop _ c.users.ensures.few _ c.requires.state
-    _ (subst (λ (n : ℕ). BootsOn c.args.kernel.now c.make_categories.new.kernel IsAnywhere (categories_part n)) (count_is _ _ _ c.users.ensures.users
-    c.groups.ensures.groups) c.in_ok-make_categories.ensures.ok) _ c.in_err-make_users.ensures.err)
+    _ (subst (λ (n : ℕ). BootsOn c.args.kernel.now c.make_categories.new.kernel IsAnywhere (categories_part n))
+    (count_is _ _ _ c.users.ensures.users c.groups.ensures.groups) c.in_ok-make_categories.ensures.ok)
+    _ c.in_err-make_users.ensures.err)
 
 pub make_directory-requires-clause-begins : goal.make_directory-requires-clause-begins
 make_directory-requires-clause-begins g c =
     directory_way _ c.users.ensures.few _ c.requires.state
-    _ (subst (λ (n : ℕ). BootsOn c.args.kernel.now c.make_categories.new.kernel IsAnywhere (categories_part n)) (count_is _ _ _ c.users.ensures.users
-    c.groups.ensures.groups) c.in_ok-make_categories.ensures.ok) _ c.in_ok-make_users.ensures.ok
+    _ (subst (λ (n : ℕ). BootsOn c.args.kernel.now c.make_categories.new.kernel IsAnywhere (categories_part n))
+    (count_is _ _ _ c.users.ensures.users c.groups.ensures.groups) c.in_ok-make_categories.ensures.ok)
+    _ c.in_ok-make_users.ensures.ok
 
 pub returns-in_err-slash-clause-err : goal.returns-in_err-slash-clause-err
 returns-in_err-slash-clause-err g c =
     on_err _ _ (directory_stop _ c.users.ensures.few _ c.requires.state
-    _ (subst (λ (n : ℕ). BootsOn c.args.kernel.now c.make_categories.new.kernel IsAnywhere (categories_part n)) (count_is _ _ _ c.users.ensures.users
-    c.groups.ensures.groups) c.in_ok-make_categories.ensures.ok) _ c.in_ok-make_users.ensures.ok _ c.in_err-slash.ensures.err)
+    _ (subst (λ (n : ℕ). BootsOn c.args.kernel.now c.make_categories.new.kernel IsAnywhere (categories_part n))
+    (count_is _ _ _ c.users.ensures.users c.groups.ensures.groups) c.in_ok-make_categories.ensures.ok)
+    _ c.in_ok-make_users.ensures.ok _ c.in_err-slash.ensures.err)
 
 pub make_process-requires : goal.make_process-requires
 make_process-requires g c =
     process_way _ c.users.ensures.few _ c.requires.state
-    _ (subst (λ (n : ℕ). BootsOn c.args.kernel.now c.make_categories.new.kernel IsAnywhere (categories_part n)) (count_is _ _ _ c.users.ensures.users
-    c.groups.ensures.groups) c.in_ok-make_categories.ensures.ok) _ c.in_ok-make_users.ensures.ok _ c.in_ok-slash.ensures.boots
+    _ (subst (λ (n : ℕ). BootsOn c.args.kernel.now c.make_categories.new.kernel IsAnywhere (categories_part n))
+    (count_is _ _ _ c.users.ensures.users c.groups.ensures.groups) c.in_ok-make_categories.ensures.ok)
+    _ c.in_ok-make_users.ensures.ok _ c.in_ok-slash.ensures.boots
 
 pub returns-in_err-home-clause-err : goal.returns-in_err-home-clause-err
 returns-in_err-home-clause-err g c =
     on_err _ _ (process_stop _ c.users.ensures.few _ c.requires.state
-    _ (subst (λ (n : ℕ). BootsOn c.args.kernel.now c.make_categories.new.kernel IsAnywhere (categories_part n)) (count_is _ _ _ c.users.ensures.users
-    c.groups.ensures.groups) c.in_ok-make_categories.ensures.ok) _ c.in_ok-make_users.ensures.ok _ c.in_ok-slash.ensures.boots
+    _ (subst (λ (n : ℕ). BootsOn c.args.kernel.now c.make_categories.new.kernel IsAnywhere (categories_part n))
+    (count_is _ _ _ c.users.ensures.users c.groups.ensures.groups) c.in_ok-make_categories.ensures.ok)
+    _ c.in_ok-make_users.ensures.ok _ c.in_ok-slash.ensures.boots
     _ c.in_err-home.ensures.err)
 
 pub unlink_boot_thread-requires : goal.unlink_boot_thread-requires
 unlink_boot_thread-requires g c =
     unlink_way _ c.users.ensures.few _ c.requires.state
-    _ (subst (λ (n : ℕ). BootsOn c.args.kernel.now c.make_categories.new.kernel IsAnywhere (categories_part n)) (count_is _ _ _ c.users.ensures.users
-    c.groups.ensures.groups) c.in_ok-make_categories.ensures.ok) _ c.in_ok-make_users.ensures.ok _ c.in_ok-slash.ensures.boots
+    _ (subst (λ (n : ℕ). BootsOn c.args.kernel.now c.make_categories.new.kernel IsAnywhere (categories_part n))
+    (count_is _ _ _ c.users.ensures.users c.groups.ensures.groups) c.in_ok-make_categories.ensures.ok)
+    _ c.in_ok-make_users.ensures.ok _ c.in_ok-slash.ensures.boots
     _ c.in_ok-home.ensures.boots
 
 pub returns-in_err-unlink_boot_thread-clause-err : goal.returns-in_err-unlink_boot_thread-clause-err
 returns-in_err-unlink_boot_thread-clause-err g c =
     on_err _ _ (unlink_stop _ c.users.ensures.few _ c.requires.state
-    _ (subst (λ (n : ℕ). BootsOn c.args.kernel.now c.make_categories.new.kernel IsAnywhere (categories_part n)) (count_is _ _ _ c.users.ensures.users
-    c.groups.ensures.groups) c.in_ok-make_categories.ensures.ok) _ c.in_ok-make_users.ensures.ok _ c.in_ok-slash.ensures.boots
-    _ c.in_ok-home.ensures.boots _ c.in_err-unlink_boot_thread.ensures)
+    _ (subst (λ (n : ℕ). BootsOn c.args.kernel.now c.make_categories.new.kernel IsAnywhere (categories_part n))
+    (count_is _ _ _ c.users.ensures.users c.groups.ensures.groups) c.in_ok-make_categories.ensures.ok)
+    _ c.in_ok-make_users.ensures.ok _ c.in_ok-slash.ensures.boots
+    _ c.in_ok-home.ensures.boots _ c.in_err-unlink_boot_thread.ensures.grants)
 
 parts : (g : given.Over) (c : goal.In_ok-unlink_boot_thread g)
     → HasParts c.args.accounts.now c.args.kernel.now c.make_users.new.kernel c.make_directory.new.kernel c.make_process.new.kernel
@@ -85,11 +92,11 @@ parts g c =
 
 pub returns-clause-booted : goal.returns-clause-booted
 returns-clause-booted g c =
-    booted _ _ _ _ (parts g c).all c.in_ok-unlink_boot_thread.ensures.0 c.requires.state c.requires.trace c.requires.line
+    booted _ _ _ _ (parts g c).all c.in_ok-unlink_boot_thread.ensures.grants.0 c.requires.state c.requires.trace c.requires.line
 
 pub returns-clause-state : goal.returns-clause-state
 returns-clause-state g c =
-    started _ _ _ _ (parts g c).all c.in_ok-unlink_boot_thread.ensures.0
+    started _ _ _ _ (parts g c).all c.in_ok-unlink_boot_thread.ensures.grants.0
 
 slash_is : (g : given.Over) (c : goal.In_ok-unlink_boot_thread g) → c.in_ok-slash.slash ≡ (roots_of (length c.args.accounts.now.users)).slash
 slash_is g c = c.in_ok-slash.ensures.slash c.args.kernel.now (first_parts _) (parts g c).is_next (parts g c).before

@@ -23,26 +23,28 @@ make_password-requires g c =
 pub returns-in_err-make_password-clause-err : goal.returns-in_err-make_password-clause-err
 returns-in_err-make_password-clause-err g c =
     let begun : BeginsUser c.args.kernel.now c.make_password.new.kernel c.args.accounts.now c.args.number c.args.user.now = λ first p at b.
-    user_begun_none c.args.accounts.now _ c.args.user.now first _ p b _ c.in_err-make_password.ensures in
+    user_begun_none c.args.accounts.now _ c.args.user.now first _ p b _ c.in_err-make_password.ensures.grants in
     on_err _ _ begun
 
 pub make_login_gate-requires : goal.make_login_gate-requires
 make_login_gate-requires g c =
-    gate_allowed_for c.make_password.new.kernel c.args.number _ _ _ c.as_slice.ensures.value (c.in_ok-owners.ensures
+    gate_allowed_for c.make_password.new.kernel c.args.number _ _ _ c.as_slice.ensures.value (c.in_ok-owners.ensures.ok
     ∙ (λ i. owners_among (length (c.users-users.ensures.users i)) (c.groups-groups.ensures.groups i) c.args.number c.args.user.now.name))
     (login_allowed _ _ c.args.user.now c.requires.begins.0 _ c.requires.begins.1 c.requires.begins.3 _
-    (password_made _ _ _ _ _ c.as_bytes.ensures.value c.in_ok-make_password.ensures.0) c.requires.begins.2 c.ranges.number.fits c.requires.number)
+    (password_made _ _ _ _ _ c.as_bytes.ensures.value c.in_ok-make_password.ensures.grants.0)
+    c.requires.begins.2 c.ranges.number.fits c.requires.number)
 
 pub returns-in_err-make_login_gate-clause-err : goal.returns-in_err-make_login_gate-clause-err
 returns-in_err-make_login_gate-clause-err g c =
     let begun : BeginsUser c.args.kernel.now c.make_login_gate.new.kernel c.args.accounts.now c.args.number c.args.user.now = λ first p at b.
     user_begun_one c.args.accounts.now _ c.args.user.now first _ p b _
-    (password_made _ _ _ _ _ c.as_bytes.ensures.value c.in_ok-make_password.ensures.0) _ c.in_err-make_login_gate.ensures in
+    (password_made _ _ _ _ _ c.as_bytes.ensures.value c.in_ok-make_password.ensures.grants.0) _ c.in_err-make_login_gate.ensures.grants in
     on_err _ _ begun
 
 pub returns-clause-ok : goal.returns-clause-ok
 returns-clause-ok g c = λ first p at b.
-    user_boots c.args.accounts.now _ c.args.user.now first _ p b _ (password_made _ _ _ _ _ c.as_bytes.ensures.value c.in_ok-make_password.ensures.0)
-    _ at (gate_made _ _ _ _ _ (c.as_slice.ensures.value ∙ c.in_ok-owners.ensures
+    user_boots c.args.accounts.now _ c.args.user.now first _ p b _
+    (password_made _ _ _ _ _ c.as_bytes.ensures.value c.in_ok-make_password.ensures.grants.0)
+    _ at (gate_made _ _ _ _ _ (c.as_slice.ensures.value ∙ c.in_ok-owners.ensures.ok
     ∙ (λ i. owners_among (length (c.users-users.ensures.users i)) (c.groups-groups.ensures.groups i)
-    c.args.number c.args.user.now.name)) c.in_ok-make_login_gate.ensures.0)
+    c.args.number c.args.user.now.name)) c.in_ok-make_login_gate.ensures.grants.0)

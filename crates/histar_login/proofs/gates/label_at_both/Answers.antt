@@ -5,7 +5,7 @@ use Rattle.histar_login.proofs.GroupLemmas.{both_next}
 use Rattle.histar_login.proofs.gates.label_at_both.Goals as goal
 
 pub loop-owner-preserved : goal.loop-owner-preserved
-loop-owner-preserved c =
+loop-owner-preserved g c =
     let level = c.args.level in
     c.in_ok-set-2.ensures.ok
     ∙ (λ j. with_level ((c.in_ok-set.ensures.ok ∙ (λ k. with_level (c.loop-owner.invariant k) (c.read_category.ensures k) level))

@@ -5,4 +5,4 @@ use Rattle.histar_programs.specs.Start.{at_both}
 use Rattle.histar_login.proofs.gates.label_at_both.Given as goal
 
 abbrev pub invariant-loop-owner : goal.invariant-loop-owner
-invariant-loop-owner l = l.label ≡ labelled (at_both l.fn.level (take l.owner-index l.owners)) l.fn.default
+invariant-loop-owner g l = l.label ≡ labelled (at_both l.fn.level (take l.owner-index l.owners)) l.fn.default

@@ -1,6 +1,7 @@
 -- Proves the goals of `ask_password` of src/login.rt that the search leaves open.
 use Rattle.std.proofs.Common.{Result, subst}
 use Rattle.histar_rules.specs.declared.raw.RawCall.TheVariants.{Read}
+use Rattle.histar_rules.specs.Memory.{OnOutOfMemory}
 use Rattle.histar_syscall.specs.KernelModel.{ReadsLent}
 use Rattle.histar_programs.proofs.Running.{fails_so, grants, refuses}
 use Rattle.histar_login.proofs.LoginRuns.{asks_none, asks_password, reads}
@@ -11,7 +12,8 @@ returns-in_err-kept g c =
     let left = subst (λ (r : Result _ _). ReadsLent c.args.kernel.now c.args.thread c.new.result c.password_segment.result r
     c.read.follows.lender-at-none) c.in_err-kept.was c.read.follows.holds-at-none in
     fails_so _ _ _ c.read.follows.lender-at-none _ _ c.from_residual.ensures.1 (asks_none _ _ _ _ c.read.follows.lender-at-none _
-    (reads _ _ c.read.follows.lender-at-none _ _ _ _ c.new.ensures c.password_segment.ensures (refuses _ _ _ c.read.follows.lender-at-none _ _ left)))
+    (reads _ _ c.read.follows.lender-at-none _ _ _ _ c.new.ensures c.password_segment.ensures (refuses _ _ _ c.read.follows.lender-at-none _ _ left
+    (subst (λ (r : Result _ _). OnOutOfMemory r g.H.Heap.Refused) c.in_err-kept.was c.read.ensures.memory))))
 
 pub returns : goal.returns
 returns g c =

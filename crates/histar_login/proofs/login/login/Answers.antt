@@ -25,20 +25,20 @@ returns-in_default g c =
     (sym c.number_of.ensures.number ∙ c.in_default.is)) (says _ _ _)
 
 -- memory ran out before the first raw call of a login as the user of a number
-runs_out : (g : given.Over) (c : In-Some g) (result : Result Reply CallError) → IsErrAnd result (λ e. e ≡ Stopped)
-    → Runs (login_program c.args.unix.now.users.now c.args.unix.now.caller.now c.args.name c.args.password) c.args.kernel.now c.args.kernel.now
-    c.args.unix.now.caller.now.thread (settled result)
-runs_out g c result gave =
+runs_out : (g : given.Over) (c : In-Some g) → g.H.Heap.Refused → (result : Result Reply CallError) → IsErrAnd result (λ e. e ≡ Stopped)
+    → Runs g.H.Heap.Refused (login_program c.args.unix.now.users.now c.args.unix.now.caller.now c.args.name c.args.password)
+    c.args.kernel.now c.args.kernel.now c.args.unix.now.caller.now.thread (settled result)
+runs_out g c memory result gave =
     let owners = owners_of c.args.unix.now.users.now c.in-Some.number c.args.name in
     runs_as c.args.unix.now.caller.now.thread _ _ c.args.kernel.now c.args.kernel.now (settled result)
     (login_numbered c.args.unix.now.users.now c.args.unix.now.caller.now c.args.name c.args.password
     ∙ ap (login_of c.args.unix.now.users.now c.args.unix.now.caller.now c.args.name c.args.password)
     (sym c.number_of.ensures.number ∙ c.in-Some.is))
-    (ends_so _ (after_own _ _ owners c.args.password) (begun _ _ owners _ _ _) _ Stopped result gave (before_ask _ OwnLabel _))
+    (ends_so _ (after_own _ _ owners c.args.password) (begun _ _ owners _ _ _) _ Stopped result gave (before_ask _ OwnLabel _ memory))
 
 pub returns-in_err-owners : goal.returns-in_err-owners
-returns-in_err-owners g c = runs_out g (goal.at.returns-in_err-owners g c).In-Some _ c.from_residual.ensures.1
+returns-in_err-owners g c = runs_out g (goal.at.returns-in_err-owners g c).In-Some c.in_err-owners.ensures.memory _ c.from_residual.ensures.1
 
 pub returns-in_err-given : goal.returns-in_err-given
 returns-in_err-given g c =
-    runs_out g (goal.at.returns-in_err-given g c).In-Some _ c.from_residual-in_err-given.ensures.1
+    runs_out g (goal.at.returns-in_err-given g c).In-Some c.in_err-given.ensures.memory _ c.from_residual-in_err-given.ensures.1

@@ -12,11 +12,12 @@ use Rattle.histar_login.proofs.login.login_as.Goals.{In_ok-own, In_ok-enter_gate
 pub returns-in_err-own : goal.returns-in_err-own
 returns-in_err-own g c =
     ends_so _ (after_own c.args.caller.now _ c.args.given.owners.now c.args.password) (begun _ _ _ _ _ _) _ _ _ c.from_residual.ensures.1
-    (refuses _ OwnLabel _ _ _ _ c.in_err-own.ensures.ok)
+    (refuses _ OwnLabel _ _ _ _ c.in_err-own.ensures.ok c.in_err-own.ensures.memory)
 
 -- once the thread has its own label, the gate is left
 at_gate : (g : given.Over) (c : In_ok-own g)
-    → Leaves c.args.caller.now.thread (login_as_program c.args.caller.now c.args.number c.args.given.owners.now c.args.password) c.args.kernel.now
+    → Leaves g.H.Heap.Refused c.args.caller.now.thread
+    (login_as_program c.args.caller.now c.args.number c.args.given.owners.now c.args.password) c.args.kernel.now
     (after_own c.args.caller.now c.args.number c.args.given.owners.now c.args.password c.in_ok-own.own) c.own_label.new.self
 at_gate g c =
     further _ (after_own c.args.caller.now _ c.args.given.owners.now c.args.password) (begun _ _ _ _ _ _) _ _
@@ -29,7 +30,8 @@ returns-in_err-enter_gate g c =
 
 -- once the gate was entered, the password is left
 at_password : (g : given.Over) (c : In_ok-enter_gate g)
-    → Leaves c.args.caller.now.thread (login_as_program c.args.caller.now c.args.number c.args.given.owners.now c.args.password) c.args.kernel.now
+    → Leaves g.H.Heap.Refused c.args.caller.now.thread
+    (login_as_program c.args.caller.now c.args.number c.args.given.owners.now c.args.password) c.args.kernel.now
     (after_gate c.args.caller.now c.args.number c.args.given.owners.now c.args.password c.in_ok-own.own c.in_ok-enter_gate.field-0)
     c.enter_gate.new.kernel
 at_password g c =
@@ -42,7 +44,8 @@ returns-in_err-right g c =
 
 -- once the password was compared, the labels are left
 at_due : (g : given.Over) (c : In_ok-right g)
-    → Leaves c.args.caller.now.thread (login_as_program c.args.caller.now c.args.number c.args.given.owners.now c.args.password) c.args.kernel.now
+    → Leaves g.H.Heap.Refused c.args.caller.now.thread
+    (login_as_program c.args.caller.now c.args.number c.args.given.owners.now c.args.password) c.args.kernel.now
     (after_password c.args.caller.now c.args.number c.args.given.owners.now c.args.password c.in_ok-own.own c.in_ok-right.right)
     c.ask_password.new.kernel
 at_due g c =

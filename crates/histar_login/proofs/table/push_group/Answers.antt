@@ -11,13 +11,13 @@ use Rattle.histar_login.proofs.TableLengths.{group_few}
 use Rattle.histar_login.proofs.table.push_group.Goals as goal
 
 pub returns-clause-adds : goal.returns-clause-adds
-returns-clause-adds c =
+returns-clause-adds g c =
     let t0 = c.args.table.now.items in
-    let t1 = c.push.new.self.items in
-    let t2 = c.extend_from_slice.new.self.items in
-    let t3 = c.extend_from_slice-2.new.self.items in
-    let t4 = c.extend_from_slice-3.new.self.items in
-    let t5 = c.push-2.new.self.items in
+    let t1 = c.push.new.list.items in
+    let t2 = c.extend.new.list.items in
+    let t3 = c.extend-2.new.list.items in
+    let t4 = c.extend-3.new.list.items in
+    let t5 = c.push-2.new.list.items in
     let owner = group_owner (length _) c.args.number in
     let owner_is : c.group_owner-owner.result ≡ owner =
     c.group_owner-owner.ensures
@@ -27,16 +27,16 @@ returns-clause-adds c =
     let read : c.number.result ≡ read_category owner = c.number.ensures ∙ c.read_category.ensures ∙ ap read_category owner_is in
     let write : c.number-2.result ≡ write_category owner = c.number-2.ensures ∙ c.write_category.ensures ∙ ap write_category owner_is in
     on_ok_weaker _ (group_grows t0 t1 t2 t3 t4 t5 _ _ _ _ (c.in_ok-push.ensures.items ∙ ap (λ n. t0 ++ length n ∷ []) name)
-    (c.in_ok-extend_from_slice.ensures.items ∙ ap (λ n. t1 ++ n) name-2)
-    (c.in_ok-extend_from_slice-2.ensures.items ∙ ap (λ n. t2 ++ n) (c.to_be_bytes.ensures ∙ ap (to_be_bytes w64) read))
-    (c.in_ok-extend_from_slice-3.ensures.items ∙ ap (λ n. t3 ++ n) (c.to_be_bytes-2.ensures ∙ ap (to_be_bytes w64) write))
+    (c.in_ok-extend.ensures.items ∙ ap (λ n. t1 ++ n) name-2)
+    (c.in_ok-extend-2.ensures.items ∙ ap (λ n. t2 ++ n) (c.to_be_bytes.ensures ∙ ap (to_be_bytes w64) read))
+    (c.in_ok-extend-3.ensures.items ∙ ap (λ n. t3 ++ n) (c.to_be_bytes-2.ensures ∙ ap (to_be_bytes w64) write))
     (c.in_ok-push-2.ensures.items ∙ ap (λ n. t4 ++ length n ∷ []) c.members.ensures.members)) (on_ok_weaker c.push_members.result
-    (λ e. e ∙ ap (λ users. t5 ++ numbers_among 1 users c.args.group.now.members) c.users-users.ensures.users) c.push_members.ensures)
+    (λ e. e ∙ ap (λ users. t5 ++ numbers_among 1 users c.args.group.now.members) c.users-users.ensures.users) c.push_members.ensures.adds)
 
 pub returns-clause-few : goal.returns-clause-few
-returns-clause-few c =
+returns-clause-few g c =
     let short : length c.args.group.now.name ≤ 32 =
     rw (sym (c.as_bytes.ensures.value ∙ c.name-name.ensures)) (short_name _ (rw c.as_bytes.ensures.value c.as_bytes.ensures.right)) in
     on_ok_weaker c.push_members.result
     (λ adds. group_few c.args.table.now.items c.push_members.new.table.items c.args.accounts.now.users c.args.number
-    c.args.group.now adds short c.users-users.ensures.few.users) (returns-clause-adds c)
+    c.args.group.now adds short c.users-users.ensures.few.users) (returns-clause-adds g c)

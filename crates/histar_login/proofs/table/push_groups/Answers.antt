@@ -8,10 +8,10 @@ use Rattle.histar_login.proofs.GroupLemmas.{groups_next, groups_all}
 use Rattle.histar_login.proofs.table.push_groups.Goals as goal
 
 pub loop-k-init : goal.loop-k-init
-loop-k-init c = record { adds = sym (append-nil _); few = omega arith }
+loop-k-init g c = record { adds = sym (append-nil _); few = omega arith }
 
 pub loop-k-preserved : goal.loop-k-preserved
-loop-k-preserved c = record {
+loop-k-preserved g c = record {
   adds =
       groups_next _ _ _ _ _ _ _ (subst (λ (groups : List Group). c.loop-k.k < length groups) c.groups-groups.ensures.groups c.loop-k-test.true)
       (subst (λ (groups : List Group). c.index-groups-k.result ≡ get_or groups c.loop-k.k c.index-groups-k.result)
@@ -20,7 +20,7 @@ loop-k-preserved c = record {
 }
 
 pub returns-clause-adds : goal.returns-clause-adds
-returns-clause-adds c =
+returns-clause-adds g c =
     let some : 0 < length _ =
     subst (λ (groups : List Group). 0 < length groups) c.groups-groups.ensures.groups
     (grind (arith, nat_tests, c.is_empty.ensures, c.if-is_empty.false)) in
@@ -30,7 +30,7 @@ returns-clause-adds c =
     c.groups-groups.ensures.groups c.loop-k-test.false) j)))
 
 pub returns-clause-few : goal.returns-clause-few
-returns-clause-few c =
+returns-clause-few g c =
     omega (
       arith,
       c.loop-k.invariant.few,

@@ -5,7 +5,7 @@ use Rattle.histar_login.proofs.table.push_members.Goals.{then-has+in_ok-push, el
 use Rattle.histar_login.proofs.table.push_members.Goals as goal
 
 pub loop-i-preserved : goal.loop-i-preserved
-loop-i-preserved c = elim c.if-has.branch [
+loop-i-preserved g c = elim c.if-has.branch [
   | then-has+in_ok-push w ↦
       ap (λ t. t.items) w.table-is
       ∙ member_more _ _ _ _ _ _ _

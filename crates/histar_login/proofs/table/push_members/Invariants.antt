@@ -4,4 +4,4 @@ use Rattle.histar_programs.specs.Start.{numbers_among}
 use Rattle.histar_login.proofs.table.push_members.Given as goal
 
 abbrev pub invariant-loop-i : goal.invariant-loop-i
-invariant-loop-i l = l.table.items ≡ l.initial.table.items ++ numbers_among 1 (take l.i l.users) l.group.members
+invariant-loop-i g l = l.table.items ≡ l.initial.table.items ++ numbers_among 1 (take l.i l.users) l.group.members

@@ -8,7 +8,7 @@ pub returns-in_err-unlink : goal.returns-in_err-unlink
 returns-in_err-unlink g c =
     let end = c.unlink.new.self in
     fails_so _ _ _ end _ _ c.from_residual.ensures.1 (unlink_fails _ _ end _ _ (unlinks _ _ end c.args.entry _ c.object.ensures _ (refuses _
-    _ _ end _ _ c.in_err-unlink.ensures.ok)))
+    _ _ end _ _ c.in_err-unlink.ensures.ok c.in_err-unlink.ensures.memory)))
 
 pub returns : goal.returns
 returns g c =

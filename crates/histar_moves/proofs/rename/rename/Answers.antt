@@ -31,7 +31,7 @@ returns-in_err-entries g c =
     call_fails_so _ _ _ _ Stopped _ c.from_residual-in_err-entries.ensures.1 (then_call _ _ _ _ _ _ _ c.in_ok-entry.ensures.runs _
     (goes_on _ (must_be_free (map.get c.in_ok-entry.entry.entries c.args.name.now))
     (λ _. write_entries c.in_ok-entry.entry.place due (λ _. Answers Done)) _ _ tt c.in_ok-must_be_free.ensures _ (call_fails _ _ _ _
-    (λ _. Answers Done) Stopped (before_ask _ _ _))))
+    (λ _. Answers Done) Stopped (before_ask _ _ _ c.in_err-entries.ensures.memory))))
 
 pub returns-in_err-write_entries : goal.returns-in_err-write_entries
 unfolding rename_program
@@ -40,7 +40,7 @@ returns-in_err-write_entries g c =
     call_fails_so _ _ _ _ _ _ c.from_residual-in_err-write_entries.ensures.1 (then_call _ _ _ _ _ _ _ c.in_ok-entry.ensures.runs _
     (goes_on _ (must_be_free (map.get c.in_ok-entry.entry.entries c.args.name.now))
     (λ _. write_entries c.in_ok-entry.entry.place due (λ _. Answers Done)) _ _ tt c.in_ok-must_be_free.ensures _ (call_fails _ _ _ _
-    (λ _. Answers Done) _ (writes_due _ _ _ _ _ due c.in_ok-entries.ensures (Err _) c.in_err-write_entries.ensures))))
+    (λ _. Answers Done) _ (writes_due _ _ _ _ _ due c.in_ok-entries.ensures.ok (Err _) c.in_err-write_entries.ensures))))
 
 pub returns : goal.returns
 unfolding rename_program
@@ -48,4 +48,4 @@ returns g c =
     let due = map.insert (map.remove c.in_ok-entry.entry.entries c.in_ok-entry.entry.name) c.args.name.now c.in_ok-entry.entry.target in
     then_call _ _ _ _ _ _ _ c.in_ok-entry.ensures.runs _ (goes_on _ _ (λ _. write_entries c.in_ok-entry.entry.place due (λ _. Answers Done)) _
     _ tt c.in_ok-must_be_free.ensures _ (then_call _ _ _ _ (λ _. Answers Done) _ tt (writes_due _ _ _ _ _
-    due c.in_ok-entries.ensures (Ok tt) c.in_ok-write_entries.ensures) _ (says _ _ Done)))
+    due c.in_ok-entries.ensures.ok (Ok tt) c.in_ok-write_entries.ensures) _ (says _ _ Done)))

@@ -1,16 +1,31 @@
 -- Proves the goals of `render_rights` of src/page.rt that the search leaves open.
+use Rattle.std.proofs.Common.{◌++◌}
 use Rattle.std.proofs.lemmas.Result.{on_ok_weaker}
-use Rattle.histar_page.proofs.PageLemmas.{items_added, parts_added}
+use Rattle.histar_script.specs.Lines.{lines_of}
+use Rattle.histar_page.specs.Drawing.{drawing_items}
+use Rattle.histar_page.specs.Flows.{flows_items}
+use Rattle.histar_page.specs.Items.{items_of}
+use Rattle.histar_page.specs.Page.{files_shown, sources_of}
+use Rattle.histar_page.specs.Secrets.{secrets_items}
+use Rattle.histar_page.proofs.PageLemmas.{part_written, parts_written}
 use Rattle.histar_page.proofs.page.render_rights.Goals as goal
 
 pub returns : goal.returns
 returns c =
-    let files = items_added c.files_of.result (λ p. p.items) c.in_ok-render_part.ensures.0 c.in_ok-render_part.ensures.1 c.files_of.ensures in
-    let secrets = items_added c.secrets_pieces.result (λ p. p.items) c.in_ok-render_part-2.ensures.0 c.in_ok-render_part-2.ensures.1
-    c.secrets_pieces.ensures in
-    let flows = items_added c.flows_pieces.result (λ p. p.items) c.in_ok-render_part-3.ensures.0 c.in_ok-render_part-3.ensures.1
-    c.flows_pieces.ensures in
+    let texts = c.args.texts.now in
+    let files = files_shown (sources_of texts) in
+    let secrets = secrets_items (lines_of texts.secrets.now) (lines_of texts.titles.now) in
+    let flows = flows_items (lines_of texts.flows.now) in
+    let drawing = drawing_items (lines_of texts.script.now) (lines_of texts.output.now) (lines_of texts.table.now) in
+    let old = c.args.page.now.items in
+    let files_in = part_written old files c.files_of.result (λ p. items_of p.items) c.in_ok-render_part.ensures.0
+    c.in_ok-render_part.ensures.1 c.files_of.ensures in
+    let secrets_in = part_written _ secrets c.secrets_pieces.result (λ p. items_of p.items) c.in_ok-render_part-2.ensures.0
+    c.in_ok-render_part-2.ensures.1 c.secrets_pieces.ensures in
+    let flows_in = part_written _ flows c.flows_pieces.result (λ p. items_of p.items) c.in_ok-render_part-3.ensures.0
+    c.in_ok-render_part-3.ensures.1 c.flows_pieces.ensures in
     on_ok_weaker c.render_part-4.result
-    (λ done. parts_added (parts_added (parts_added files secrets) flows)
-    (items_added c.drawing_pieces.result (λ p. p.items) done.0 done.1 c.drawing_pieces.ensures))
+    (λ done. parts_written old (files ++ secrets ++ flows) drawing
+    (parts_written old (files ++ secrets) flows (parts_written old files secrets files_in secrets_in) flows_in)
+    (part_written _ drawing c.drawing_pieces.result (λ p. items_of p.items) done.0 done.1 c.drawing_pieces.ensures))
     c.render_part-4.ensures

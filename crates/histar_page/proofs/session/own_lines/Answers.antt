@@ -1,12 +1,12 @@
 -- Proves the goals of `own_lines` of src/session.rt that the search leaves open.
-use Rattle.std.proofs.Common.{ℕ, List, ◌++◌, length, take, arith, ◌∙◌, ap, sym}
+use Rattle.std.proofs.Common.{ℕ, List, take, arith, ◌∙◌, ap}
 use Rattle.std.specs.Borrow.{Bor}
-use Rattle.std.specs.List.{list_all, prefix_len}
-use Rattle.std.proofs.lemmas.List.{length-map, take-map}
+use Rattle.std.specs.List.{prefix_len}
+use Rattle.std.proofs.lemmas.List.{length-map}
 use Rattle.std.proofs.lemmas.List.Sums.{prefix_len-le-length}
 use Rattle.histar_page.specs.Texts.{texts}
 use Rattle.histar_page.specs.Lines.{is_own}
-use Rattle.histar_page.proofs.OwnLemmas.{own_pass, past_texts, taken_front, taken_texts}
+use Rattle.histar_page.proofs.OwnLemmas.{past_texts, taken_front}
 use Rattle.histar_page.proofs.session.own_lines.Goals as goal
 
 pub split_at-requires-2 : goal.split_at-requires-2
@@ -31,24 +31,6 @@ returns-clause-fits c =
       c.split_at.ensures.back_len,
       c.split_at-2.ensures.front_len,
     )
-
-pub returns-clause-taken : goal.returns-clause-taken
-returns-clause-taken c =
-    let lines = c.args.lines.now in
-    let from = c.args.from in
-    let now : Bor (List ℕ) → List ℕ = λ line. line.now in
-    let own = c.split_at-2.ensures.front ∙ ap (take c.own_count.result) c.split_at.ensures.back in
-    taken_texts now lines from c.own_count.result (length c.split_at-2.result.0.now) c.split_at-2.ensures.front_len
-    ∙ ap (λ l. take from (texts lines) ++ texts l) (sym own)
-
-pub returns-clause-own : goal.returns-clause-own
-returns-clause-own c =
-    let own = is_own c.args.word.now in
-    let now : Bor (List ℕ) → List ℕ = λ line. line.now in
-    ap (λ l. list_all own (texts l)) c.split_at-2.ensures.front
-    ∙ ap (list_all own) (sym (take-map now c.own_count.result c.split_at.result.1.now))
-    ∙ ap (λ k. list_all own (take k (texts c.split_at.result.1.now))) c.own_count.ensures
-    ∙ own_pass own (texts c.split_at.result.1.now)
 
 pub returns-clause-front : goal.returns-clause-front
 returns-clause-front c =

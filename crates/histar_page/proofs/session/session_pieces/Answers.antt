@@ -1,9 +1,8 @@
 -- Proves the goals of `session_pieces` of src/session.rt that the search leaves open.
-use Rattle.std.proofs.Common.{◌∙◌, List, ap, ℕ, subst}
+use Rattle.std.proofs.Common.{◌∙◌, ap}
 use Rattle.std.proofs.lemmas.Result.{IfOk-weaker}
 use Rattle.histar_page.specs.Texts.{texts}
-use Rattle.histar_page.specs.Items.{items_of}
-use Rattle.histar_page.specs.Session.{IsSession}
+use Rattle.histar_page.specs.Session.{session_items}
 use Rattle.histar_page.proofs.session.session_pieces.Goals as goal
 
 pub returns : goal.returns
@@ -11,8 +10,4 @@ returns c =
     let script = ap texts c.as_slice.ensures.value ∙ c.in_ok-script.ensures in
     let output = ap texts c.as_slice-2.ensures.value ∙ c.in_ok-output.ensures in
     let reasons = ap texts c.as_slice-3.ensures.value ∙ c.in_ok-reasons.ensures in
-    IfOk-weaker c.line_pieces.result _ _
-    (λ pieces is.
-    let P : List (List ℕ) × List (List ℕ) × List (List ℕ) → Type 0 = λ lines. IsSession lines.0 lines.1 lines.2 (items_of pieces.items) in
-    subst P (λ i. (script i, output i, reasons i)) is)
-    c.line_pieces.ensures
+    IfOk-weaker c.line_pieces.result _ _ (λ pieces are. are ∙ (λ i. session_items (script i) (output i) (reasons i))) c.line_pieces.ensures

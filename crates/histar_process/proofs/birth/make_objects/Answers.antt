@@ -16,9 +16,9 @@ pub returns-in_err-grown : goal.returns-in_err-grown
 returns-in_err-grown g c status revealed =
     fails_so _ _ _ _ _ _ c.from_residual-in_err-grown.ensures.1
     ((with_segment _ c.args.parent.now.home.now status c.args.newborn.now _ _ _ c.in_ok-body.ensures _ _ c.in_ok-segment.ensures).leads _ _
-    (before_write _ _ _ _))
+    (before_write _ _ _ _ c.in_err-grown.ensures.memory))
 
 pub returns : goal.returns
 returns g c status revealed =
     (with_segment _ _ status c.args.newborn.now _ _ _ c.in_ok-body.ensures _ _ c.in_ok-segment.ensures).leads _ _
-    (written_so _ _ _ _ _ _ (c.in_ok-grown.ensures status revealed) _ c.write_segment.ensures)
+    (written_so _ _ _ _ _ _ (c.in_ok-grown.ensures.ok status revealed) _ c.write_segment.ensures)

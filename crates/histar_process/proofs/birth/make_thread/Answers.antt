@@ -11,12 +11,13 @@ returns-in_err-label g c =
     let owned : List ℕ = c.args.newborn.now.read ∷ c.args.newborn.now.write ∷ c.args.newborn.now.owned.now in
     fails_so _ _ _ _ _ _ c.from_residual.ensures.1 (before_ask c.args.thread
     (MakeThread c.args.internal (owner_label owned c.args.newborn.now.jobs.now) (cleared_at (owned ++ c.args.newborn.now.jobs.now)))
-    c.args.kernel.now)
+    c.args.kernel.now c.in_err-label.ensures.memory)
 
 pub returns-in_err-made : goal.returns-in_err-made
 returns-in_err-made g c =
     fails_so _ _ _ _ _ _ c.from_residual-in_err-made.ensures.1
-    (thread_so _ _ _ _ _ _ _ _ c.in_ok-label.ensures.label c.in_ok-label.ensures.clearance _ (refuses _ _ _ _ _ _ c.in_err-made.ensures.ok))
+    (thread_so _ _ _ _ _ _ _ _ c.in_ok-label.ensures.label c.in_ok-label.ensures.clearance _ (refuses _ _ _ _ _ _ c.in_err-made.ensures.ok
+    c.in_err-made.ensures.memory))
 
 pub returns : goal.returns
 returns g c =

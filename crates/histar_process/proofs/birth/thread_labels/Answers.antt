@@ -7,7 +7,7 @@ use Rattle.histar_layout.proofs.LabellingLemmas.{each_at-append}
 use Rattle.histar_process.proofs.birth.thread_labels.Goals as goal
 
 pub returns-clause-clearance : goal.returns-clause-clearance
-returns-clause-clearance c =
+returns-clause-clearance g c =
     let child = c.args.newborn.now in
     let owned : List ℕ = child.read ∷ child.write ∷ child.owned.now in
-    c.in_ok-clearance.ensures ∙ ap (λ (es : List (ℕ × Level)). labelled es L2) (sym (each_at-append L3 owned _))
+    c.in_ok-clearance.ensures.ok ∙ ap (λ (es : List (ℕ × Level)). labelled es L2) (sym (each_at-append L3 owned _))

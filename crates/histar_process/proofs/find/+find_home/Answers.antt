@@ -34,6 +34,7 @@ pub returns : goal.returns
 returns g s c =
     finds_on _ _ _ _ _ (get_or c.args.numbers.now 0 0) (take (length _ - 1) (drop 1 c.args.numbers.now))
     (first_of_numbers _ 0 (omega arith)) c.find_home.new.kernel _ c.in_ok-home.ensures (Ok _)
-    (subst (λ (h : Home). RunsPart (into (get_or c.args.numbers.now 0 0) c.in_ok-home.home) c.find_home.new.kernel c.look_up.new.kernel c.args.thread
+    (subst (λ (h : Home). RunsPart g.H.Heap.Refused (into (get_or c.args.numbers.now 0 0) c.in_ok-home.home) c.find_home.new.kernel
+    c.look_up.new.kernel c.args.thread
     (Ok h)) (sym c.home_of.ensures) (into_child c.args.thread c.find_home.new.kernel c.look_up.new.kernel (get_or c.args.numbers.now 0 0) _ _
     c.in_ok-found.ensures _ c.in_ok-child.ensures))

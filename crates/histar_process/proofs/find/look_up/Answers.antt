@@ -5,7 +5,8 @@ use Rattle.histar_process.proofs.find.look_up.Goals as goal
 
 pub returns-in_err-bytes : goal.returns-in_err-bytes
 returns-in_err-bytes g c =
-    fails_so _ _ _ _ _ _ c.from_residual.ensures.1 (look_fails _ _ _ _ _ _ (not_lent _ _ _ _ _ c.read.follows.holds-at-none _ c.in_err-bytes.was))
+    fails_so _ _ _ _ _ _ c.from_residual.ensures.1 (look_fails _ _ _ _ _ _ (not_lent _ _ _ _ _ c.read.follows.holds-at-none _ c.in_err-bytes.was
+    c.read.ensures.memory))
 
 pub returns-in_err-child : goal.returns-in_err-child
 returns-in_err-child g c =

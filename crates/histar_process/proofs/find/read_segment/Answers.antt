@@ -8,7 +8,8 @@ use Rattle.histar_process.proofs.find.read_segment.Goals as goal
 
 pub returns-in_err-bytes : goal.returns-in_err-bytes
 returns-in_err-bytes g c =
-    reading_fails _ _ _ _ _ _ c.from_residual.ensures.1 (read_fails _ _ _ _ _ (refuses _ _ _ _ _ _ c.in_err-bytes.ensures.ok))
+    reading_fails _ _ _ _ _ _ c.from_residual.ensures.1 (read_fails _ _ _ _ _ (refuses _ _ _ _ _ _ c.in_err-bytes.ensures.ok
+    c.in_err-bytes.ensures.memory))
 
 pub returns-in_default : goal.returns-in_default
 returns-in_default g c =

@@ -6,4 +6,4 @@ use Rattle.histar_process.proofs.find.write_segment.Goals as goal
 pub returns : goal.returns
 returns g c =
     asks c.args.thread (Write c.args.home.now.container c.args.home.now.segment 0 c.args.bytes) c.args.kernel.now
-    c.write.new.self c.write.result c.write.ensures.ok c.written.result c.written.ensures
+    c.write.new.self c.write.result c.write.ensures.ok c.write.ensures.memory c.written.result c.written.ensures

@@ -24,7 +24,7 @@ returns-in_err-unlink g c =
     call_fails_so _ _ _ _ _ _ c.from_residual-in_err-unlink.ensures.1 (then_call _ _ _ _
     (λ (head : StatusHead). ask (Unlink root_number c.args.unix.now.roots.now.home.container) (λ _. Answers Done)) _ _ c.in_ok-read_head.ensures _
     (call_fails _ _ _ _ (λ _. Answers Done) _ (unlinked_so _ _ _ _ root_number _ _ c.new.ensures refl _ (refuses _ _ _ _
-    _ _ c.in_err-unlink.ensures.ok))))
+    _ _ c.in_err-unlink.ensures.ok c.in_err-unlink.ensures.memory))))
 
 pub returns : goal.returns
 unfolding kill_program read_head

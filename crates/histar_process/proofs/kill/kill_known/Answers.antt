@@ -31,15 +31,16 @@ module _ (g : given.Over) where
 
     -- the segment that is read is that of the child
     its_head : (result : Result StatusHead CallError)
-        → RunsPart (read_head c.home_of-its.result) c.args.kernel.now c.read_head.new.kernel c.args.thread result
-        → RunsPart (read_head (home_of c.in_ok-child.child)) c.args.kernel.now c.read_head.new.kernel c.args.thread result
+        → RunsPart g.H.Heap.Refused (read_head c.home_of-its.result) c.args.kernel.now c.read_head.new.kernel c.args.thread result
+        → RunsPart g.H.Heap.Refused (read_head (home_of c.in_ok-child.child)) c.args.kernel.now c.read_head.new.kernel c.args.thread result
     its_head result reads =
-        subst (λ (h : Home). RunsPart (read_head h) c.args.kernel.now c.read_head.new.kernel c.args.thread result) c.home_of-its.ensures reads
+        subst (λ (h : Home). RunsPart g.H.Heap.Refused (read_head h) c.args.kernel.now c.read_head.new.kernel c.args.thread result)
+        c.home_of-its.ensures reads
 
     -- the child's segment was read: what is left is to unlink the child, and to write the segment above
     left : (status : ProcessStatus) → status_in c.args.parent.now.bytes.now ≡ Some status → (head : StatusHead)
-        → RunsPart (read_head c.home_of-its.result) c.args.kernel.now c.read_head.new.kernel c.args.thread (Ok head)
-        → LeavesPart (Unit {0}) c.args.thread (kill_known c.args.parent.now.home.now status c.args.number) c.args.kernel.now
+        → RunsPart g.H.Heap.Refused (read_head c.home_of-its.result) c.args.kernel.now c.read_head.new.kernel c.args.thread (Ok head)
+        → LeavesPart g.H.Heap.Refused (Unit {0}) c.args.thread (kill_known c.args.parent.now.home.now status c.args.number) c.args.kernel.now
         (after_head c.args.parent.now.home.now status c.args.number c.in_ok-child.child head) c.read_head.new.kernel
     left status is head reads =
         with_head c.args.parent.now.home.now status c.args.number c.args.thread c.args.kernel.now c.in_ok-child.child (child_is status is) _ head
@@ -47,9 +48,11 @@ module _ (g : given.Over) where
 
   -- the container that is unlinked is that of the child
   its_container : (c : After-unlink g) (result : Result (Unit {0}) CallError)
-      → RunsPart (ask (Unlink c.args.parent.now.home.now.container c.home_of-its.result.container)) c.read_head.new.kernel c.unlink.new.self
+      → RunsPart g.H.Heap.Refused (ask (Unlink c.args.parent.now.home.now.container c.home_of-its.result.container)) c.read_head.new.kernel
+      c.unlink.new.self
       c.args.thread result
-      → RunsPart (ask (Unlink c.args.parent.now.home.now.container c.in_ok-child.child.container)) c.read_head.new.kernel c.unlink.new.self
+      → RunsPart g.H.Heap.Refused (ask (Unlink c.args.parent.now.home.now.container c.in_ok-child.child.container)) c.read_head.new.kernel
+      c.unlink.new.self
       c.args.thread result
   its_container c result unlinks = unlinked_so _ _ _ _ _ _ _ refl (ap (λ (h : Home). h.container) c.home_of-its.ensures) result unlinks
 
@@ -74,16 +77,17 @@ returns-in_err-without g c status is =
     (after_unlink c.args.parent.now.home.now status c.args.number)
     (left g (goal.at.returns-in_err-without g c).After-read_head status is _ c.in_ok-read_head.ensures)
     _ Stopped _ c.from_residual-in_err-without.ensures.1
-    (before_ask c.args.thread (Unlink c.args.parent.now.home.now.container c.in_ok-child.child.container) c.read_head.new.kernel)
+    (before_ask c.args.thread (Unlink c.args.parent.now.home.now.container c.in_ok-child.child.container) c.read_head.new.kernel
+    c.in_err-without.ensures.memory)
 
 pub returns-in_err-unlink : goal.returns-in_err-unlink
 returns-in_err-unlink g c status is =
     ends_in_so _ (after_unlink _ status _) (left g (goal.at.returns-in_err-unlink g c).After-read_head status is _ c.in_ok-read_head.ensures)
     _ _ _ c.from_residual-in_err-unlink.ensures.1 (its_container g (goal.at.returns-in_err-unlink g c).After-unlink _
-    (refuses _ _ _ _ _ _ c.in_err-unlink.ensures.ok))
+    (refuses _ _ _ _ _ _ c.in_err-unlink.ensures.ok c.in_err-unlink.ensures.memory))
 
 pub returns : goal.returns
 returns g c status is =
     (further_in _ (after_unlink _ status _) (left g (goal.at.returns g c).After-read_head status is _ c.in_ok-read_head.ensures)
     _ tt (its_container g (goal.at.returns g c).After-unlink (Ok tt) (grants _ _ _ _ tt c.in_ok-unlink.ensures.ok.0 tt))).leads _ _
-    (written_so _ _ _ _ _ _ (c.in_ok-without.ensures status is) _ c.write_segment.ensures)
+    (written_so _ _ _ _ _ _ (c.in_ok-without.ensures.ok status is) _ c.write_segment.ensures)

@@ -6,7 +6,8 @@ use Rattle.histar_process.proofs.spawn.make_child.Goals as goal
 
 pub returns-in_err-own : goal.returns-in_err-own
 returns-in_err-own g c status is =
-    no_labels c.args.unix.now.users.now _ status _ _ _ _ _ c.from_residual.ensures.1 (refuses _ OwnLabel _ _ _ _ c.in_err-own.ensures.ok)
+    no_labels c.args.unix.now.users.now _ status _ _ _ _ _ c.from_residual.ensures.1 (refuses _ OwnLabel _ _ _ _ c.in_err-own.ensures.ok
+    c.in_err-own.ensures.memory)
 
 pub returns-in_err-bear_child : goal.returns-in_err-bear_child
 returns-in_err-bear_child g c status is =

@@ -14,7 +14,7 @@ is_deep g c = c.in_ok-must_have_room.ensures ∙ ap (λ (ns : List ℕ). must_ha
 
 pub returns-in_err-must_have_room-clause-runs : goal.returns-in_err-must_have_room-clause-runs
 returns-in_err-must_have_room-clause-runs g c =
-    depth_fails _ _ _ _ _ _ c.from_residual.ensures.1
+    depth_fails _ _ _ _ g.H.Heap.Refused _ _ c.from_residual.ensures.1
     (c.in_err-must_have_room.ensures ∙ ap (λ (ns : List ℕ). must_have_room (nat_lt (length ns) most_numbers)) c.numbers.ensures.value)
 
 pub returns-in_err-segment-clause-runs : goal.returns-in_err-segment-clause-runs

@@ -5,6 +5,7 @@ use Rattle.histar_flat.specs.declared.replies.Reply.TheVariants.{User}
 use Rattle.histar_level.specs.Levels.{Levels}
 use Rattle.histar_rules.specs.declared.raw.RawCall.TheVariants.{OwnLabel}
 use Rattle.histar_rules.specs.declared.raw.Refusal.{Refusal}
+use Rattle.histar_rules.specs.Memory.{OnOutOfMemory}
 use Rattle.histar_syscall.specs.KernelModel.{OwnLent}
 use Rattle.histar_layout.specs.Categories.{user_of}
 use Rattle.histar_programs.proofs.Running.{grants, refuses, then_call, call_fails, call_fails_so, replies_so}
@@ -27,7 +28,8 @@ unfolding whoami_program
 returns-in_err-own g c =
     call_fails_so _ _ _ c.lend_own_label.follows.lender-at-none _ _ c.from_residual.ensures.1
     (call_fails _ _ _ c.lend_own_label.follows.lender-at-none _ _ (refuses _ OwnLabel _ c.lend_own_label.follows.lender-at-none _ _
-    (lent g (goal.at.returns-in_err-own g c).After-lend_own_label _ c.in_err-own.was)))
+    (lent g (goal.at.returns-in_err-own g c).After-lend_own_label _ c.in_err-own.was)
+    (subst (λ (r : Result _ Refusal). OnOutOfMemory r g.H.Heap.Refused) c.in_err-own.was c.lend_own_label.ensures.memory)))
 
 pub returns : goal.returns
 unfolding whoami_program

@@ -5,4 +5,4 @@ use Rattle.histar_programs.proofs.directory.write_entries.Goals as goal
 pub returns : goal.returns
 returns g c =
     writes c.args.thread c.args.kernel.now c.write.new.self c.args.place c.args.entries c.into_bytes-bytes.result
-    c.into_bytes-bytes.ensures c.write.result c.write.ensures.ok c.written.result c.written.ensures
+    c.into_bytes-bytes.ensures c.write.result c.write.ensures.ok c.write.ensures.memory c.written.result c.written.ensures

@@ -5,6 +5,6 @@ use Rattle.histar_programs.proofs.Scanning.{mapped_more}
 use Rattle.histar_programs.proofs.kin.with_reading.Goals as goal
 
 pub loop-owner-preserved : goal.loop-owner-preserved
-loop-owner-preserved c =
+loop-owner-preserved g c =
     c.in_ok-push.ensures.items
     ∙ mapped_more read_category c.args.owners.now _ _ c.loop-owner.owner-index _ c.loop-owner-test.true c.loop-owner.invariant c.read_category.ensures

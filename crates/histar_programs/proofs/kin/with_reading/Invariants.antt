@@ -4,4 +4,4 @@ use Rattle.histar_layout.specs.Categories.{read_category}
 use Rattle.histar_programs.proofs.kin.with_reading.Given as goal
 
 abbrev pub invariant-loop-owner : goal.invariant-loop-owner
-invariant-loop-owner l = l.made.items ≡ l.fn.categories.items ++ map read_category (take l.owner-index l.owners)
+invariant-loop-owner g l = l.made.items ≡ l.fn.categories.items ++ map read_category (take l.owner-index l.owners)

@@ -8,4 +8,4 @@ pub returns : goal.returns
 returns c =
     three_pieces c.extend_from_slice-2.result _ _ _ c.args.text.now.items (codes "container ")
     (decimal c.args.container) (codes " does not link it")
-    c.in_ok-extend_from_slice.ensures.items (rw c.number.ensures at c.in_ok-push_number.ensures) c.extend_from_slice-2.ensures.items
+    c.in_ok-extend_from_slice.ensures.items (rw c.number.ensures at c.in_ok-push_number.ensures.ok) c.extend_from_slice-2.ensures.items

@@ -8,4 +8,4 @@ pub returns : goal.returns
 returns c =
     three_pieces c.extend_from_slice-2.result _ _ _ c.args.text.now.items (codes "it would have ")
     (decimal c.args.bytes) (codes " bytes, more than 4096")
-    c.in_ok-extend_from_slice.ensures.items c.in_ok-push_number.ensures c.extend_from_slice-2.ensures.items
+    c.in_ok-extend_from_slice.ensures.items c.in_ok-push_number.ensures.ok c.extend_from_slice-2.ensures.items

@@ -14,5 +14,5 @@ returns-clause-reads g c = no_read c.explain_calls-outcome.result c.explain_call
 pub returns-clause-runs : goal.returns-clause-runs
 returns-clause-runs g c =
     explained_text c.args.text.now _ _ c.in_ok-calls.calls.items _ _ c.explain_calls-outcome.result c.in_ok-calls.ensures.ok
-    c.in_ok-kernel.ensures c.explain_calls-outcome.ensures.ok c.explain_calls-outcome.ensures.err
+    c.in_ok-kernel.ensures.ok c.explain_calls-outcome.ensures.ok c.explain_calls-outcome.ensures.err
     c.explain_calls-outcome.ensures.faults

@@ -10,7 +10,7 @@ pub returns-in-Ok-clause-prints : goal.returns-in-Ok-clause-prints
 returns-in-Ok-clause-prints g c =
     granted (state c.args.kernel.now) c.begin.new.self c.call.new.self c.args.asked c.in-Ok.answer (λ line. line.items)
     c.answer_line.result (ap state c.begin.ensures) c.in-Ok.ensures.answered.0 c.in-Ok.ensures.answered.1
-    c.answer_line.ensures
+    c.answer_line.ensures.ok
 
 pub returns-in-Ok-clause-made : goal.returns-in-Ok-clause-made
 returns-in-Ok-clause-made g c =
@@ -24,7 +24,7 @@ returns-in-Err-Denied-clause-prints g c =
     (λ revealed. IsAnswerValue (state c.begin.new.self) c.args.asked.thread c.args.asked.call revealed)) c.in-Err-Denied.field-0-is
     c.in-Err-Denied.ensures.answered in
     denied (state c.args.kernel.now) c.begin.new.self c.call.new.self c.args.asked c.in-Err-Denied.denied (λ line. line.items)
-    c.denial_line.result (ap state c.begin.ensures) called c.denial_line.ensures
+    c.denial_line.result (ap state c.begin.ensures) called c.denial_line.ensures.ok
 
 pub returns-in-Err-Denied-clause-made : goal.returns-in-Err-Denied-clause-made
 returns-in-Err-Denied-clause-made g c =

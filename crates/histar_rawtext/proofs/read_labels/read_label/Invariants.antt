@@ -5,7 +5,7 @@ use Rattle.histar_rawtext.proofs.LabelsRead.{with_exceptions}
 use Rattle.histar_rawtext.proofs.read_labels.read_label.Given as goal
 
 abbrev pub invariant-loop-part : goal.invariant-loop-part
-invariant-loop-part l = with_exceptions (map (λ part. part.now) l.parts.items) (Some l.label) ≡ label_in l.fn.word
+invariant-loop-part g l = with_exceptions (map (λ part. part.now) l.parts.items) (Some l.label) ≡ label_in l.fn.word
 
 abbrev pub decreases-loop-part : goal.decreases-loop-part
-decreases-loop-part l = length l.parts.items
+decreases-loop-part g l = length l.parts.items

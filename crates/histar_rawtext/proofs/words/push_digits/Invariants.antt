@@ -5,4 +5,4 @@ use Rattle.histar_rawtext.specs.RawText.{byte_text}
 use Rattle.histar_rawtext.proofs.words.push_digits.Given as goal
 
 abbrev pub invariant-loop-byte : goal.invariant-loop-byte
-invariant-loop-byte l = l.line.items ≡ l.fn.line.items ++ flat_map byte_text (take l.byte-index l.bytes)
+invariant-loop-byte g l = l.line.items ≡ l.fn.line.items ++ flat_map byte_text (take l.byte-index l.bytes)

@@ -8,7 +8,7 @@ use Rattle.histar_readout.specs.Process.{owned_beside}
 use Rattle.histar_readout.proofs.process.owned_beside.Given as goal
 
 abbrev pub invariant-loop-category : goal.invariant-loop-category
-invariant-loop-category l =
+invariant-loop-category g l =
     l.owned.items
     ++ passed (λ e. is_star e.1 && not (is_member nat_eq l.known e.0)) (drop l.category-index l.exceptions)
     ≡ owned_beside l.known l.own

@@ -8,13 +8,13 @@ use Rattle.histar_script.proofs.Members.{no_member, last_member, next_member, no
 use Rattle.histar_script.proofs.groups.read_members.Goals as goal
 
 pub returns-in_default-clause-names : goal.returns-in_default-clause-names
-returns-in_default-clause-names c =
+returns-in_default-clause-names g c =
     let none : user_name_of (split_word c.loop.rest.now).0 ≡ None =
     ap user_name_of (sym c.split_word.ensures.word) ∙ sym c.read_user_name.ensures ∙ c.in_default.is in
     sym (no_member (16 - c.loop.counter) c.loop.members.items c.loop.rest.now none) ∙ c.loop.invariant.so_far
 
 pub returns-in-None-clause-names : goal.returns-in-None-clause-names
-returns-in-None-clause-names c =
+returns-in-None-clause-names g c =
     let is : user_name_of (split_word c.loop.rest.now).0 ≡ Some c.in-Some.name =
     ap user_name_of (sym c.split_word.ensures.word) ∙ sym c.read_user_name.ensures ∙ c.in-Some.is in
     let end : (split_word c.loop.rest.now).1 ≡ None = sym c.split_word.ensures.rest ∙ ap option_copied c.in-None.is in
@@ -24,7 +24,7 @@ returns-in-None-clause-names c =
     ∙ c.loop.invariant.so_far
 
 pub loop-preserved : goal.loop-preserved
-loop-preserved c =
+loop-preserved g c =
     let names = c.in-Some-after.names.now in
     let is : user_name_of (split_word c.loop.rest.now).0 ≡ Some c.in-Some.name =
     ap user_name_of (sym c.split_word.ensures.word) ∙ sym c.read_user_name.ensures ∙ c.in-Some.is in
@@ -37,7 +37,7 @@ loop-preserved c =
     })
 
 pub returns-clause-names : goal.returns-clause-names
-returns-clause-names c =
+returns-clause-names g c =
     let none : 16 - c.loop.counter ≡ 0 = omega (arith, c.loop-test.false) in
     sym (no_room c.loop.members.items c.loop.rest.now)
     ∙ subst (λ left. members_from left c.loop.members.items c.loop.rest.now ≡ members_of c.args.text.now) none

@@ -4,7 +4,7 @@ use Rattle.histar_script.specs.Reading.{members_from, members_of}
 use Rattle.histar_script.proofs.groups.read_members.Given as goal
 
 abbrev pub invariant-loop : goal.invariant-loop
-invariant-loop l = record {
+invariant-loop g l = record {
   so_far : members_from (16 - l.counter) l.members.items l.rest ≡ members_of l.text;
   counted : length l.members.items ≡ l.counter;
 }

@@ -14,20 +14,20 @@ returns-in_err-line-clause-err g c =
 pub returns-in_err-write_bytes-clause-err : goal.returns-in_err-write_bytes-clause-err
 returns-in_err-write_bytes-clause-err g c =
     let p = err_from_is_err_and c.from_residual-in_err-write_bytes.result c.from_residual-in_err-write_bytes.ensures.1 in
-    rw p.1 (line_begun trace_line c.args.trace.now.entries c.lines.at c.in_ok-line.ensures.0
-    (slice_get_within c.args.trace.now.entries c.lines.at c.in_ok-line.ensures.0 c.in_ok-line.ensures.1)
-    (get_or_from_slice_get c.args.trace.now.entries c.lines.at c.in_ok-line.ensures.0 c.in_ok-line.ensures.0 c.in_ok-line.ensures.1)
-    _ _ _ c.in_ok-line.line.items c.as_slice.result.now c.lines.invariant.written c.in_ok-line.ensures.2
+    rw p.1 (line_begun trace_line c.args.trace.now.entries c.lines.at c.in_ok-line.ensures.ok.0
+    (slice_get_within c.args.trace.now.entries c.lines.at c.in_ok-line.ensures.ok.0 c.in_ok-line.ensures.ok.1)
+    (get_or_from_slice_get c.args.trace.now.entries c.lines.at c.in_ok-line.ensures.ok.0 c.in_ok-line.ensures.ok.0 c.in_ok-line.ensures.ok.1)
+    _ _ _ c.in_ok-line.line.items c.as_slice.result.now c.lines.invariant.written c.in_ok-line.ensures.ok.2
     c.as_slice.ensures.value c.in_err-write_bytes.ensures.err)
 
 pub lines-preserved : goal.lines-preserved
 lines-preserved g c =
     record {
       written =
-          line_more trace_line c.args.trace.now.entries c.lines.at c.in_ok-line.ensures.0
-          (slice_get_within c.args.trace.now.entries c.lines.at c.in_ok-line.ensures.0 c.in_ok-line.ensures.1)
-          (get_or_from_slice_get c.args.trace.now.entries c.lines.at c.in_ok-line.ensures.0 c.in_ok-line.ensures.0 c.in_ok-line.ensures.1) _ _
-          _ c.in_ok-line.line.items c.as_slice.result.now c.lines.invariant.written c.in_ok-line.ensures.2
+          line_more trace_line c.args.trace.now.entries c.lines.at c.in_ok-line.ensures.ok.0
+          (slice_get_within c.args.trace.now.entries c.lines.at c.in_ok-line.ensures.ok.0 c.in_ok-line.ensures.ok.1)
+          (get_or_from_slice_get c.args.trace.now.entries c.lines.at c.in_ok-line.ensures.ok.0 c.in_ok-line.ensures.ok.0
+          c.in_ok-line.ensures.ok.1) _ _ _ c.in_ok-line.line.items c.as_slice.result.now c.lines.invariant.written c.in_ok-line.ensures.ok.2
           c.as_slice.ensures.value c.in_ok-write_bytes.ensures.ok;
       count = search rules;
     }

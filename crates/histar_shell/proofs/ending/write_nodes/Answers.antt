@@ -23,7 +23,7 @@ returns-in_err-write_bytes-clause-err g c =
     rw p.1 (subst (AppendsFront _ _) (nodes_text (state c.args.machine.now.kernel) c.args.nodes.now)
     (line_begun (node_text (state c.args.machine.now.kernel)) c.args.nodes.now c.lines.node-index
     c.node-item.result (search rules) (search rules) _ _ _ c.in_ok-line.line.items c.as_slice.result.now
-    c.lines.invariant.written (c.in_ok-line.ensures
+    c.lines.invariant.written (c.in_ok-line.ensures.ok
     ∙ (λ i. tree_line_text (record {
       path = c.node-item.result.path;
       stat = c.stat.ensures i;
@@ -35,7 +35,7 @@ lines-preserved g c = record {
   written =
       line_more (node_text (state c.args.machine.now.kernel)) c.args.nodes.now c.lines.node-index c.node-item.result
       (search rules) (search rules) _ _ _ c.in_ok-line.line.items c.as_slice.result.now c.lines.invariant.written
-      (c.in_ok-line.ensures
+      (c.in_ok-line.ensures.ok
       ∙ (λ i. tree_line_text (record {
         path = c.node-item.result.path;
         stat = c.stat.ensures i;

@@ -13,7 +13,7 @@ returns-in_err-tree-clause-err g c =
 pub returns-clause-ok : goal.returns-clause-ok
 returns-clause-ok g c =
     let is : IsTreeIn c.args.machine.now c.as_slice.result.now =
-    subst (IsTreeIn c.args.machine.now) (sym c.as_slice.ensures.value) c.in_ok-tree.ensures in
+    subst (IsTreeIn c.args.machine.now) (sym c.as_slice.ensures.value) c.in_ok-tree.ensures.ok in
     on_ok_weaker c.write_nodes.result (λ whole. (
       _,
       tree_revealed c.args.options.tree c.args.machine.now c.as_slice.result.now (search (rules, tests)) is,
@@ -23,7 +23,7 @@ returns-clause-ok g c =
 pub returns-clause-err : goal.returns-clause-err
 returns-clause-err g c =
     let is : IsTreeIn c.args.machine.now c.as_slice.result.now =
-    subst (IsTreeIn c.args.machine.now) (sym c.as_slice.ensures.value) c.in_ok-tree.ensures in
+    subst (IsTreeIn c.args.machine.now) (sym c.as_slice.ensures.value) c.in_ok-tree.ensures.ok in
     on_err_weaker c.write_nodes.result (λ front. (
       _,
       tree_revealed c.args.options.tree c.args.machine.now c.as_slice.result.now (search (rules, tests)) is,

@@ -5,4 +5,4 @@ use Rattle.histar_flat.specs.Texts.{entry_text}
 use Rattle.histar_shell.proofs.output.push_entries.Given as goal
 
 abbrev pub invariant-loop-entry : goal.invariant-loop-entry
-invariant-loop-entry l = l.line.items ≡ l.fn.line.items ++ flat_map entry_text (take l.entry-index l.entries)
+invariant-loop-entry g l = l.line.items ≡ l.fn.line.items ++ flat_map entry_text (take l.entry-index l.entries)

@@ -4,14 +4,24 @@ use Rattle.std.proofs.lemmas.List.{map-id}
 use Rattle.std.proofs.lemmas.Result.{err_from_is_err_and}
 use Rattle.std.proofs.lemmas.Iterator.Adapters.{YieldsList-from_vec}
 use Rattle.std.proofs.lemmas.Iterator.Consumers.{YieldsList-so_far, YieldsList-turn}
+use Rattle.histar_io.proofs.Residuals.{passed_on}
 use Rattle.histar_shell.proofs.AnswerLemmas.{answers_more, begins_more, parts_at}
+use Rattle.histar_shell.proofs.WantingMemory.{still_at_first, still_shows, wants_passed}
 use Rattle.histar_shell.proofs.session.answer_calls.Goals as goal
+
+pub calls-init : goal.calls-init
+calls-init g c = record { answered = search rules; shows = still_at_first _; count = search rules }
 
 pub calls-preserved : goal.calls-preserved
 calls-preserved g c = record {
   answered = answers_more _ _ _ _ _ _ c.calls.yielded c.in-Some.call c.calls.invariant.answered c.in_ok-answer_by.ensures.ok;
+  shows = still_shows _ _ _ c.calls.invariant.shows c.in_ok-answer_by.ensures.shows;
   count = search rules;
 }
+
+pub returns-in_err-answer_by-clause-memory : goal.returns-in_err-answer_by-clause-memory
+returns-in_err-answer_by-clause-memory g c =
+    wants_passed g.H.Heap.Refused _ _ _ _ (passed_on _ _ c.from_residual.ensures.1) c.calls.invariant.shows c.in_err-answer_by.ensures.memory
 
 pub returns-in_err-answer_by-clause-err : goal.returns-in_err-answer_by-clause-err
 returns-in_err-answer_by-clause-err g c =

@@ -48,3 +48,7 @@ returns-in-Ok-answer_all-clause-runs g c =
     answers_script c.args.options _ _ c.in_ok-script.script c.in-Ok.machine c.answer_all.new.machine _ _ starts
     c.into_parts-accounts.ensures.calls c.in-Ok-answer_all.ensures.ok c.leak_into_trace.ensures.trace _ c.in_ok-script.ensures.exact in
     answered_text c.args.options calls_refine c.args.text.items _ _ _ c.in_ok-script.script c.in_ok-script.ensures.exact answers
+
+pub returns-in-Err-clause-memory : goal.returns-in-Err-clause-memory
+returns-in-Err-clause-memory g c =
+    c.in-Err.ensures.memory c.into_parts-accounts.result.0 _ c.in-Ok.ensures.shows c.in-Ok.ensures.starts.runs

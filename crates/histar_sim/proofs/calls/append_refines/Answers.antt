@@ -3,4 +3,4 @@ use Rattle.histar_sim.proofs.Append as refined
 use Rattle.histar_sim.proofs.calls.append_refines.Goals as goal
 
 pub returns : goal.returns
-returns c = refined.append_refines
+returns g c = refined.append_refines

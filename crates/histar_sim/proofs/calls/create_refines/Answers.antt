@@ -3,4 +3,4 @@ use Rattle.histar_sim.proofs.Create as refined
 use Rattle.histar_sim.proofs.calls.create_refines.Goals as goal
 
 pub returns : goal.returns
-returns c = refined.create_refines
+returns g c = refined.create_refines

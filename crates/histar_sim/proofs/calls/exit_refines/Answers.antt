@@ -3,4 +3,4 @@ use Rattle.histar_sim.proofs.ExitCall as refined
 use Rattle.histar_sim.proofs.calls.exit_refines.Goals as goal
 
 pub returns : goal.returns
-returns c = refined.exit_refines
+returns g c = refined.exit_refines

@@ -3,4 +3,4 @@ use Rattle.histar_sim.proofs.KillCall as refined
 use Rattle.histar_sim.proofs.calls.kill_refines.Goals as goal
 
 pub returns : goal.returns
-returns c = refined.kill_refines
+returns g c = refined.kill_refines

@@ -3,4 +3,4 @@ use Rattle.histar_sim.proofs.Login.{login_refines}
 use Rattle.histar_sim.proofs.calls.login_refines.Goals as goal
 
 pub returns : goal.returns
-returns c = login_refines
+returns g c = login_refines

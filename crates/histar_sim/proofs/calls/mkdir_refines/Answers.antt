@@ -3,4 +3,4 @@ use Rattle.histar_sim.proofs.Mkdir as refined
 use Rattle.histar_sim.proofs.calls.mkdir_refines.Goals as goal
 
 pub returns : goal.returns
-returns c = refined.mkdir_refines
+returns g c = refined.mkdir_refines

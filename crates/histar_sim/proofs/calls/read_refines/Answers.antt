@@ -3,4 +3,4 @@ use Rattle.histar_sim.proofs.Read as refined
 use Rattle.histar_sim.proofs.calls.read_refines.Goals as goal
 
 pub returns : goal.returns
-returns c = refined.read_refines
+returns g c = refined.read_refines

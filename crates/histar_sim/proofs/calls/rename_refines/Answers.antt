@@ -3,4 +3,4 @@ use Rattle.histar_sim.proofs.RenameCall as refined
 use Rattle.histar_sim.proofs.calls.rename_refines.Goals as goal
 
 pub returns : goal.returns
-returns c = refined.rename_refines
+returns g c = refined.rename_refines

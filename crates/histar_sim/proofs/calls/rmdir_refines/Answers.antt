@@ -3,4 +3,4 @@ use Rattle.histar_sim.proofs.RmdirCall as refined
 use Rattle.histar_sim.proofs.calls.rmdir_refines.Goals as goal
 
 pub returns : goal.returns
-returns c = refined.rmdir_refines
+returns g c = refined.rmdir_refines

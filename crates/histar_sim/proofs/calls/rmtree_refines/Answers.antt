@@ -3,4 +3,4 @@ use Rattle.histar_sim.proofs.RmtreeCall as refined
 use Rattle.histar_sim.proofs.calls.rmtree_refines.Goals as goal
 
 pub returns : goal.returns
-returns c = refined.rmtree_refines
+returns g c = refined.rmtree_refines

@@ -3,4 +3,4 @@ use Rattle.histar_sim.proofs.SpawnCall as refined
 use Rattle.histar_sim.proofs.calls.spawn_refines.Goals as goal
 
 pub returns : goal.returns
-returns c = refined.spawn_refines
+returns g c = refined.spawn_refines

@@ -3,4 +3,4 @@ use Rattle.histar_sim.proofs.StatCall as refined
 use Rattle.histar_sim.proofs.calls.stat_refines.Goals as goal
 
 pub returns : goal.returns
-returns c = refined.stat_refines
+returns g c = refined.stat_refines

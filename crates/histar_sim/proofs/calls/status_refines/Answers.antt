@@ -3,4 +3,4 @@ use Rattle.histar_sim.proofs.StatusCall as refined
 use Rattle.histar_sim.proofs.calls.status_refines.Goals as goal
 
 pub returns : goal.returns
-returns c = refined.status_refines
+returns g c = refined.status_refines

@@ -3,4 +3,4 @@ use Rattle.histar_sim.proofs.UnlinkCall as refined
 use Rattle.histar_sim.proofs.calls.unlink_refines.Goals as goal
 
 pub returns : goal.returns
-returns c = refined.unlink_refines
+returns g c = refined.unlink_refines

@@ -3,4 +3,4 @@ use Rattle.histar_sim.proofs.Whoami as refined
 use Rattle.histar_sim.proofs.calls.whoami_refines.Goals as goal
 
 pub returns : goal.returns
-returns c = refined.whoami_refines
+returns g c = refined.whoami_refines

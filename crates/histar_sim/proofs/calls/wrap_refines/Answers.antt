@@ -3,4 +3,4 @@ use Rattle.histar_sim.proofs.WrapCall as calls
 use Rattle.histar_sim.proofs.calls.wrap_refines.Goals as goal
 
 pub returns : goal.returns
-returns c = calls.wrap_refines
+returns g c = calls.wrap_refines

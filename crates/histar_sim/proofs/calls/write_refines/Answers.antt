@@ -3,4 +3,4 @@ use Rattle.histar_sim.proofs.Write as refined
 use Rattle.histar_sim.proofs.calls.write_refines.Goals as goal
 
 pub returns : goal.returns
-returns c = refined.write_refines
+returns g c = refined.write_refines

@@ -8,4 +8,4 @@ pub tree-requires : goal.tree-requires
 tree-requires c = has_tree c.requires.2
 
 pub trusted_in-requires-clause-tree : goal.trusted_in-requires-clause-tree
-trusted_in-requires-clause-tree c = subst (IsTreeIn c.args.machine.now) (sym c.as_slice.ensures.value) c.in_ok-tree.ensures
+trusted_in-requires-clause-tree c = subst (IsTreeIn c.args.machine.now) (sym c.as_slice.ensures.value) c.in_ok-tree.ensures.ok

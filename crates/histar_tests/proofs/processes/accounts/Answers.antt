@@ -7,7 +7,7 @@ use Rattle.histar_tests.proofs.processes.accounts.Goals as goal
 pub returns : goal.returns
 returns c =
     let few =
-    ap (λ (s : Accounts). length s.users) (c.in_ok-add_user.ensures
+    ap (λ (s : Accounts). length s.users) (c.in_ok-add_user.ensures.ok
     ∙ ap (λ (s : Accounts).
     with_user s (record { name = c.in_ok-name.name; password = c.in_ok-name.password }))
     c.new-accounts.ensures) in

@@ -4,4 +4,4 @@ use Rattle.histar_flat.specs.Texts.{names_text}
 use Rattle.histar_texts.proofs.texts.push_names.Given as goal
 
 abbrev pub invariant-loop-i : goal.invariant-loop-i
-invariant-loop-i l = l.text.items ≡ l.fn.text.items ++ names_text (drop (length l.names - l.i) l.names)
+invariant-loop-i g l = l.text.items ≡ l.fn.text.items ++ names_text (drop (length l.names - l.i) l.names)

@@ -4,4 +4,4 @@ use Rattle.histar_flat.specs.Texts.{process_text}
 use Rattle.histar_texts.proofs.texts.push_process.Given as goal
 
 abbrev pub invariant-loop-i : goal.invariant-loop-i
-invariant-loop-i l = l.text.items ≡ l.fn.text.items ++ process_text (drop (length l.numbers - l.i) l.numbers)
+invariant-loop-i g l = l.text.items ≡ l.fn.text.items ++ process_text (drop (length l.numbers - l.i) l.numbers)

@@ -18,6 +18,6 @@ returns c =
     let yes : c.is_secret-secret.result ≡ true = first_of (assumption c, cc, search (rules, from_not_false), grind (arith, from_not_false)) in
     on_ok_weaker c.extend_from_slice.result
     (λ e. one_added c.args.users.now c.args.members.now c.args.node.now (map flat_class c.args.classes.now) c.args.text.now.items
-    (sym c.is_secret-secret.ensures ∙ yes) c.in_ok-push_path.ensures c.in_ok-push_members.ensures e)
+    (sym c.is_secret-secret.ensures ∙ yes) c.in_ok-push_path.ensures.ok c.in_ok-push_members.ensures e)
     (done_so _ (c.push_members.new.text.items ++ codes "\n") c.push_members.new.text.items c.extend_from_slice.result
     c.extend_from_slice.ensures.items)

@@ -8,4 +8,4 @@ pub tree-requires : goal.tree-requires
 tree-requires g c = has_tree c.requires.2
 
 pub lines_in-requires-clause-tree : goal.lines_in-requires-clause-tree
-lines_in-requires-clause-tree g c = subst (IsTreeIn c.args.machine.now) (sym c.as_slice.ensures.value) c.in_ok-tree.ensures
+lines_in-requires-clause-tree g c = subst (IsTreeIn c.args.machine.now) (sym c.as_slice.ensures.value) c.in_ok-tree.ensures.ok

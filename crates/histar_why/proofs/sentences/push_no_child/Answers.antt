@@ -9,4 +9,4 @@ pub returns : goal.returns
 returns c =
     joined c.push_process.result c.args.text.now.items c.push_about_process.new.text.items c.push_process.new.text.items
     (process_text c.args.name.now ++ codes " is no child of ") (process_text c.args.me.now) _
-    c.in_ok-push_about_process.ensures c.push_process.ensures refl
+    c.in_ok-push_about_process.ensures c.push_process.ensures.ok refl

@@ -10,4 +10,4 @@ pub returns-in-Some : goal.returns-in-Some
 returns-in-Some g c =
     entries_counted (state c.args.kernel.now) c.args.target.now [] c.in-Directory.field-0 c.in-Directory.listing c.in-Directory.is
     c.bytes.result.now c.bytes.ensures c.len.result _
-    (MatchOption-at_some _ (IsDirectory c.bytes.result.now) _ c.in-Some.is c.in_ok-directory.ensures) c.len.ensures.value
+    (MatchOption-at_some _ (IsDirectory c.bytes.result.now) _ c.in-Some.is c.in_ok-directory.ensures.ok) c.len.ensures.value

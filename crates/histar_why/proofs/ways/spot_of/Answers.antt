@@ -25,7 +25,7 @@ returns g c =
       has_class = record {
         label = label;
         label_is = sym (c.in-Some.ensures ∙ ap (λ (o : ℕ). label_there ((state c.args.reader.now.kernel.now).objects o)) c.object.ensures);
-        of_class = MatchOption-at_some _ (λ (x : Class). IsClassLabel users x label) class c.in-Some-2.is c.in_ok-class.ensures;
+        of_class = MatchOption-at_some _ (λ (x : Class). IsClassLabel users x label) class c.in-Some-2.is c.in_ok-class.ensures.ok;
       };
       seen = λ i. record {
         is_directory = c.is_directory.ensures i;

@@ -10,7 +10,8 @@ returns-in-Ok-clause-runs g c =
 
 pub returns-in_default-clause-runs : goal.returns-in_default-clause-runs
 returns-in_default-clause-runs g c =
-    stops_there _ _ _ _ (own_of c.args.wrapper.now) _ _ c.in-Err.ensures.answered (sym c.in_default.ensures)
+    stops_there _ _ _ _ (own_of c.args.wrapper.now) _ _ c.in-Err.ensures.answered c.in-Err.ensures.memory
+    (sym c.in_default.ensures)
 
 pub returns-in_err-restore-clause-runs : goal.returns-in_err-restore-clause-runs
 returns-in_err-restore-clause-runs g c =

@@ -4,7 +4,7 @@ use Rattle.histar_layout.proofs.EntriesRead.{IsReadTo}
 use Rattle.histar_layout.proofs.directory.Dir.entries.Given as goal
 
 abbrev pub invariant-entries : goal.invariant-entries
-invariant-entries l = IsReadTo l.rest l.entries.items l.self
+invariant-entries g l = IsReadTo l.rest l.entries.items l.self
 
 abbrev pub decreases-entries : goal.decreases-entries
-decreases-entries l = length l.rest
+decreases-entries g l = length l.rest

@@ -6,6 +6,7 @@ use Rattle.histar_layout.specs.Directory.{Entries, IsDirectory, entry_bytes}
 use Rattle.histar_layout.specs.Spelled.{entries_of}
 use Rattle.histar_layout.proofs.Spans.{entry_made}
 use Rattle.histar_layout.proofs.Spellings.{directory_spelled, is_spelled}
+use Rattle.histar_layout.proofs.directory.Dir.insert.Given as given
 use Rattle.histar_layout.proofs.directory.Dir.insert.Goals as goal
 
 -- three pieces, one after the other
@@ -15,24 +16,26 @@ pieces empty first second third front made rest last a b c d e =
     d ∙ (λ i. (c ∙ ap (λ (t : List ℕ). t ++ made) (b ∙ ap (λ (t : List ℕ). t ++ front) a)) i ++ e i)
 
 -- the bytes are the directory with the entry
-with_entry : (c : goal.After-drop-self-inside)
-    → IsDirectory c.extend_from_slice-2.new.self.items
+with_entry : (g : given.Over) (c : goal.After-drop-self-inside g)
+    → IsDirectory c.extend-2.new.list.items
     (map.insert (entries_of c.self.inside.bytes.items) c.args.name.now c.args.target)
-with_entry c =
+with_entry g c =
     let old = c.as_slice-old.result.now in
     let dir = entries_of c.self.inside.bytes.items in
     let is : IsDirectory old dir = subst (λ (b : List ℕ). IsDirectory b dir) (sym c.as_slice-old.ensures.value) c.self.invariant in
     let room = subst (λ (d : Entries). map.len d < 64) (sym c.self.view_is) c.requires.room in
-    entry_made old c.extend_from_slice-2.new.self.items dir c.args.name.now c.args.target c.span_of-span.result.start
+    entry_made old c.extend-2.new.list.items dir c.args.name.now c.args.target c.span_of-span.result.start
     c.span_of-span.result.end is (c.span_of-span.ensures dir is) room
     (c.in_ok-push_entry.ensures.entry c.requires.leads)
-    (pieces _ _ _ c.extend_from_slice-2.new.self.items (take c.span_of-span.result.start old)
+    (pieces _ _ _ c.extend-2.new.list.items (take c.span_of-span.result.start old)
     (entry_bytes (c.args.name.now, c.args.target)) (drop c.span_of-span.result.end old) _
-    c.in_ok-bytes.ensures.items c.in_ok-extend_from_slice.ensures.items c.in_ok-push_entry.ensures.written c.in_ok-extend_from_slice-2.ensures.items
+    c.in_ok-bytes.ensures.items c.in_ok-extend.ensures.items c.in_ok-push_entry.ensures.written c.in_ok-extend-2.ensures.items
     (take_rest old c.span_of-span.result.end))
 
 pub invariant_of-self : goal.invariant_of-self
-invariant_of-self c = is_spelled _ _ (with_entry c)
+invariant_of-self g c = is_spelled _ _ (with_entry g c)
 
 pub returns-clause-ok : goal.returns-clause-ok
-returns-clause-ok c = directory_spelled _ _ (with_entry c) ∙ ap (λ (dir : Entries). map.insert dir c.args.name.now c.args.target) c.self.view_is
+returns-clause-ok g c =
+    directory_spelled _ _ (with_entry g c)
+    ∙ ap (λ (dir : Entries). map.insert dir c.args.name.now c.args.target) c.self.view_is

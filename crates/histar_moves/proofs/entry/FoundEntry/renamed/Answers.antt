@@ -7,8 +7,8 @@ use Rattle.histar_moves.proofs.TakingAway.{leads_somewhere}
 use Rattle.histar_moves.proofs.entry.FoundEntry.renamed.Goals as goal
 
 pub insert-requires-clause-room : goal.insert-requires-clause-room
-insert-requires-clause-room c =
+insert-requires-clause-room g c =
     subst (λ (dir : Entries). map.len dir < 64) (sym c.remove.ensures.without) (room_without _ _ _ c.remove.ensures.listable c.requires)
 
 pub insert-requires-clause-leads : goal.insert-requires-clause-leads
-insert-requires-clause-leads c = leads_somewhere _ _ _ c.remove.ensures.listable c.requires
+insert-requires-clause-leads g c = leads_somewhere _ _ _ c.remove.ensures.listable c.requires

@@ -17,7 +17,7 @@ returns-in_err-bytes g c =
     fails_so c.args.thread (read_directory c.args.place) c.args.kernel.now c.read_copy.new.self _ _ c.from_residual.ensures.1
     (read_fails c.args.thread c.args.kernel.now c.read_copy.new.self c.args.place _
     (refuses c.args.thread call c.args.kernel.now c.read_copy.new.self _ c.in_err-bytes.field-0.0
-    c.in_err-bytes.ensures.ok))
+    c.in_err-bytes.ensures.ok c.in_err-bytes.ensures.memory))
 
 pub returns-in_default : goal.returns-in_default
 returns-in_default g c =

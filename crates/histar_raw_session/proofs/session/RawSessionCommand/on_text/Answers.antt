@@ -11,4 +11,4 @@ returns-clause-reads g c = no_read c.answer_calls.result c.answer_calls.ensures.
 pub returns-clause-runs : goal.returns-clause-runs
 returns-clause-runs g c =
     rw (← c.as_slice.ensures.value) (answered_text c.as_slice.result.now _ _ c.in_ok-calls.calls.items _ _ c.answer_calls.result
-    c.in_ok-calls.ensures.ok c.in_ok-kernel.ensures c.answer_calls.ensures.ok c.answer_calls.ensures.err c.answer_calls.ensures.faults)
+    c.in_ok-calls.ensures.ok c.in_ok-kernel.ensures.ok c.answer_calls.ensures.ok c.answer_calls.ensures.err c.answer_calls.ensures.faults)

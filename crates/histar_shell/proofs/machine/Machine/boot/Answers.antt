@@ -11,7 +11,7 @@ invariant_of-result g c = booted_traced c.args.accounts c.in_ok-kernel.kernel c.
 
 pub returns-clause-starts : goal.returns-clause-starts
 returns-clause-starts g c = record {
-  users = c.in_ok-users.ensures;
+  users = c.in_ok-users.ensures.ok;
   roots = c.in_ok-kernel.ensures.roots;
   state = c.in_ok-kernel.ensures.state;
   booted = c.in_ok-kernel.ensures.booted;

@@ -10,14 +10,14 @@ use Rattle.histar_test.proofs.watching.Watched.make_call.Goals as goal
 pub look-requires : goal.look-requires
 look-requires c =
     let call = c.args.call in
-    let means = subst (λ (r : Result Reply Stopped). FollowsMeaning c.args.self.now.machine c.step.new.self call.line call.process call.call r)
+    let means = subst (λ (r : Result Reply Stopped). FollowsMeaning _ c.args.self.now.machine c.step.new.self call.line call.process call.call r)
     c.in-Ok.is c.step.ensures.means in
     still_has_processes c.args.self.now c.step.new.self call c.in-Ok.reply means c.requires
 
 pub returns-clause-ok : goal.returns-clause-ok
 returns-clause-ok c =
     let call = c.args.call in
-    let means = subst (λ (r : Result Reply Stopped). FollowsMeaning c.args.self.now.machine c.step.new.self call.line call.process call.call r)
+    let means = subst (λ (r : Result Reply Stopped). FollowsMeaning _ c.args.self.now.machine c.step.new.self call.line call.process call.call r)
     c.in-Ok.is c.step.ensures.means in
     call_watched c.args.self.now c.step.new.self call c.in-Ok.reply means c.may_change.result c.look.new.self
     (c.may_change.ensures ∙ ap (λ (asks : Bool). not asks && is_answer c.in-Ok.reply) c.is_question-asks.ensures) c.in_ok-look.ensures
