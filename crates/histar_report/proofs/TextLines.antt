@@ -29,7 +29,7 @@ nothing = refl
 pub all_back : (lines : List (List ℕ)) → AllByRecursion IsOneLine lines → lines_of (with_ends lines) ≡ lines
 all_back lines all =
     ap lines_of (sym (append-nil (with_ends lines))) ∙ ends_back lines [] all ∙ ap (λ (ls : List (List ℕ)). lines ++ ls) nothing
-        ∙ append-nil lines
+    ∙ append-nil lines
 
 -- two properties that hold of each element, one after another
 pub all_more : {X : Type 0} (P : X → Type 0) (xs ys : List X) → AllByRecursion P xs → AllByRecursion P ys → AllByRecursion P (xs ++ ys)

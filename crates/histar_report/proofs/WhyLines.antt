@@ -28,7 +28,7 @@ placed : (start a b c d e : List ℕ) → (((start ++ a) ++ b) ++ c) ++ (d ++ e)
 placed start a b c d e =
     sym (append_assoc (((start ++ a) ++ b) ++ c) d e) ∙ ap (λ (l : List ℕ). ((l ++ c) ++ d) ++ e) (append_assoc start a b)
     ∙ ap (λ (l : List ℕ). (l ++ d) ++ e) (append_assoc start (a ++ b) c)
-        ∙ ap (λ (l : List ℕ). l ++ e) (append_assoc start ((a ++ b) ++ c) d)
+    ∙ ap (λ (l : List ℕ). l ++ e) (append_assoc start ((a ++ b) ++ c) d)
     ∙ append_assoc start (((a ++ b) ++ c) ++ d) e
 
 -- one line that explains something of the line with this number

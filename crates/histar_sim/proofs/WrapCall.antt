@@ -296,7 +296,7 @@ module _ {M : Type 0} (accounts : Accounts) (ok : AreAccounts accounts) (me : Pr
 
       roomed : AreLeft requests (first ++ walk) (unless_refused (refused accounts f me p (Wrap (m ∷ d))) starts)
           → (open_so_far : into accounts f p d ≡ None) → get f.files (m ∷ d) ≡ None
-              → nat_lt (length (entries_in f d)) most_entries ≡ true
+          → nat_lt (length (entries_in f d)) most_entries ≡ true
           → (mid : KernelModel) → state mid ≡ state old → Chain old t (all_granted (first ++ walk)) mid
           → Runs M (with_room status room) mid new t result → Refined
       roomed left open_so_far absent roomy mid stays chain on =
