@@ -1,4 +1,4 @@
-"""Tries a must-fail edit on the functions that it changes, before the whole crate is checked with it.
+"""Tries a must-fail edit on the functions that it changes, before the whole crate is checked with it, and edits of different functions in one check.
 
 Where one of these functions isn't proved with the edit, the crate isn't either, so the edit is refused. Such a check (`rattle check --only`) proves
 these functions and those of the crate that they call, and no other. The crate as it stands is proved before, so it is the edit that the prover
@@ -8,6 +8,7 @@ whole crate is checked with the edit, as the kit does. The check keeps its modul
 import difflib
 import os
 import re
+import shutil
 import subprocess
 import tempfile
 
@@ -16,6 +17,8 @@ BLOCK = re.compile(r"impl(?:<[^{]*?>)? (?:(.+) for )?([^{]+?)(?: where .*)?(?: \
 # How a check of some functions ends where not all of them are proved.
 NOT_ALL = re.compile(r"only=(\d+) proved=(\d+)")
 REFUSED = "logic=not-proved for the functions that the edit changes\n"
+# What is said of a function that is not proved, and not only since it calls one that is not.
+UNPROVED = "not proved|no proof: .* did not prove .*"
 
 
 def changed_lines(old, new):
@@ -90,3 +93,41 @@ def wide(read_edit, crate, edits):
     """Returns how many edits of a crate change something else than functions."""
     texts = [read_edit(it, crate.folder)[0] for it in edits]
     return sum(1 for it in texts if it and not functions_of(crate.folder, it))
+
+
+def apart(read_edit, crate, edits):
+    """Returns the functions of each edit of a first batch, of which no two change one function, with the texts of all these edits in one."""
+    batch, texts = {}, {}
+    with tempfile.TemporaryDirectory() as room:
+        shutil.copytree(f"{crate.folder}/src", f"{room}/src")
+        for edit in edits:
+            names = functions_of(crate.folder, read_edit(edit, crate.folder)[0] or {})
+            taken = {it for each in batch.values() for it in each}
+            changed = read_edit(edit, room)[0] if names and not taken & set(names) else None
+            if changed:
+                batch[edit] = names
+                texts.update(changed)
+                for path, text in changed.items():
+                    with open(f"{room}/{path}", "w", encoding="utf-8") as it:
+                        it.write(text)
+    return batch, texts
+
+
+def together(checked, read_edit, crate, edits, flags):
+    """Tries edits that change different functions in one check, and returns those of which each function is refused. A function is proved by its own
+    text and the contracts of what it calls, so no edit has a part in what is said of another's function. Where the check says nothing, as with an
+    edit that doesn't compile, each half is tried."""
+    batch, texts = apart(read_edit, crate, edits)
+    if not batch:
+        return set()
+    names = sorted({it for each in batch.values() for it in each})
+    with tempfile.TemporaryDirectory(prefix=f"rt-edit-{os.getpid()}-") as room:
+        ran = checked(crate, texts, [*flags, *[word for name in names for word in ("--only", name)]], room)
+    if ran.returncode == 1 and NOT_ALL.fullmatch(ran.stdout.rstrip("\n").rpartition("\n")[2]):
+        refused = {name for name in names if re.search(rf"^fn {crate.name}::{re.escape(name)}: ({UNPROVED})$", ran.stdout, re.M)}
+        return {edit for edit, changed in batch.items() if refused.issuperset(changed)}
+    tried = list(batch)
+    if len(tried) == 1:
+        return set()
+    half = len(tried) // 2
+    return together(checked, read_edit, crate, tried[:half], flags) | together(checked, read_edit, crate, tried[half:], flags)
