@@ -145,7 +145,9 @@ markup_text Style = STYLE.now
 markup_text EndHead = codes "</p>\n<nav><a href=\"#who\">Who</a> <a href=\"#session\">Session</a> <a href=\"#files\">Files</a> <a href=\"#secrets\">Secrets</a> <a href=\"#flows\">Flows</a> <a href=\"#drawing\">Drawing</a></nav>\n</header>\n<main>\n"
 markup_text BeginWho = codes "<section id=\"who\">\n<h2>Who</h2>\n<p class=\"who\">\n"
 markup_text EndWho = codes "</p>\n</section>\n"
-markup_text BeginSession = codes "<section id=\"session\">\n<h2>Session</h2>\n"
+markup_text BeginSession =
+    codes "<section id=\"session\">\n<h2>Session</h2>\n"
+    ++ codes "<p id=\"refusals\"><a href=\"#session\">All</a> <a href=\"#refusals\">Refusals</a></p>\n"
 markup_text BeginBoot = codes "<details class=\"other\">\n<summary>Boot, line "
 markup_text BeginOther = codes "<details class=\"other\">\n<summary>Raw calls of line "
 markup_text BeginCall = codes "<details>\n<summary>"

@@ -15,7 +15,7 @@ body { margin: 0 auto; max-width: 76rem; padding: 1rem; background: var(--page);
 h1 { margin: 0 0 .3rem; font-size: 1.5rem; overflow-wrap: anywhere }
 h2 { margin: 2rem 0 .6rem; font-size: 1.15rem }
 a { color: inherit }
-header p, nav { display: flex; flex-wrap: wrap; gap: .2rem 1.2rem; margin: 0 0 .3rem; color: var(--dim) }
+header p, nav, #refusals { display: flex; flex-wrap: wrap; gap: .2rem 1.2rem; margin: 0 0 .3rem; color: var(--dim) }
 header b { color: var(--ink) }
 code, small, td b, td i { font-family: ui-monospace, monospace; font-size: .85rem }
 code { white-space: pre-wrap; overflow-wrap: anywhere }
@@ -25,6 +25,7 @@ summary::-webkit-details-marker { display: none }
 summary::before { content: '+'; color: var(--dim); font-family: ui-monospace, monospace }
 details[open] > summary::before { content: '-' }
 .bare::before { content: '' }
+#refusals:target ~ .other, #refusals:target ~ details:not(:has(.refusal)), #refusals:target ~ .bare:not(:has(.refusal)) { display: none }
 .other > summary { display: block; color: var(--dim) }
 .other > summary::before { margin-right: .6rem }
 .number { color: var(--dim); text-align: right; font-variant-numeric: tabular-nums }
@@ -98,7 +99,7 @@ path.both { fill: var(--both) }
 @media print {
   :root { --page: #fff; --ink: #000; --dim: #444; --good: #17652f; --bad: #a40e1f; --letter: #000 }
   body { max-width: none; padding: 0; font-size: 10pt }
-  nav { display: none }
+  nav, #refusals { display: none }
   tr, summary, .bare { break-inside: avoid }
   .rights b, .job, .refusal, .behind { print-color-adjust: exact; -webkit-print-color-adjust: exact }
 }
@@ -171,7 +172,10 @@ impl Markup {
 ",
             Markup::BeginWho => b"<section id=\"who\">\n<h2>Who</h2>\n<p class=\"who\">\n",
             Markup::EndWho => b"</p>\n</section>\n",
-            Markup::BeginSession => b"<section id=\"session\">\n<h2>Session</h2>\n",
+            Markup::BeginSession => b"<section id=\"session\">
+<h2>Session</h2>
+<p id=\"refusals\"><a href=\"#session\">All</a> <a href=\"#refusals\">Refusals</a></p>
+",
             Markup::BeginBoot => b"<details class=\"other\">\n<summary>Boot, line ",
             Markup::BeginOther => b"<details class=\"other\">\n<summary>Raw calls of line ",
             Markup::BeginCall => b"<details>\n<summary>",
