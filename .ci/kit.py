@@ -2,8 +2,8 @@
 
 Two things are done otherwise. The kit lists the libraries below a crate anew for each way that leads to one, 70,000 below the program, and reads all their
 files for each sum: here a list is made once, and a file is read again only where it has changed. The sums are the same. And the kit tries the edits of a
-crate over a check that keeps its work, which is a second check of the whole crate: here an edit is tried first on the functions that it changes
-(`narrow.py`), and that check is left out where at most one edit of the crate changes something else.
+crate over a check that keeps its work, which is a second check of the whole crate: here they are tried first on the functions that they change, in one
+check where they can (`narrow.py`), and that check is left out where at most one edit of the crate changes something else.
 
 What is proved doesn't depend on this: `rt ci` proves each crate from nothing, and an edit that its functions don't refuse is tried on the whole crate.
 """
@@ -11,15 +11,17 @@ import hashlib
 import operator
 import os
 import shutil
+import subprocess
 import sys
+import threading
 
-from narrow import narrowly, wide
+from narrow import REFUSED, refused_by_functions, wide
 
 TOP = os.path.realpath(os.path.join(os.path.dirname(os.path.abspath(__file__)), ".."))
 # The status of a tool that finds the kit in another form than it knows.
 OTHER_KIT = 3
 # What this changes of the kit, beside what a tool asks for.
-CHANGED = ("checked", "seeded", "read_edit", "main", "rtlib.files_of", "rtlib.KIT", "rtlib.Crate.below", "rtlib.Crate.stamp", "Crate")
+CHANGED = ("checked", "seeded", "read_edit", "edits_of", "main", "rtlib.files_of", "rtlib.KIT", "rtlib.Crate.below", "rtlib.Crate.stamp", "Crate")
 
 
 class OtherKit(Exception):
@@ -93,13 +95,26 @@ def list_once(rtlib):
 
 
 def try_narrowly(names):
-    """Has an edit tried on the functions that it changes, before it is tried on its crate."""
-    checked, seeded = names["checked"], names["seeded"]
+    """Has the edits of a crate tried on the functions that they change, before one is tried on its crate. `whole` is the kit's own `checked`."""
+    checked, seeded, read_edit, edits_of = names["checked"], names["seeded"], names["read_edit"], names["edits_of"]
+    found, guard = {}, threading.Lock()
+
+    def batch(crate, flags):
+        """Returns what is said of the edits that their functions refuse, by the edits' texts. The first that asks tries them, and others wait for it."""
+        with guard:
+            lock, refused = found.setdefault(crate.folder, (threading.Lock(), {}))
+        with lock:
+            if "tried" not in refused:
+                said = refused_by_functions(checked, read_edit, crate, edits_of(crate)[0], flags)
+                refused.update({repr(read_edit(edit, crate.folder)[0]): text for edit, text in said.items()}, tried="")
+        return refused
+
+    def checked_narrowly(crate, texts, flags, kept):
+        said = batch(crate, flags).get(repr(texts)) if texts and not kept else None
+        return subprocess.CompletedProcess([], 1, f"{said}\n{REFUSED}") if said else checked(crate, texts, flags, kept)
 
     def seeded_if_wide(crate, flags, start=None):
-        edits = names["edits_of"](crate)[0]
         # (no folder and no failure: each edit is tried by itself)
-        return seeded(crate, flags, start) if start or wide(names["read_edit"], crate, edits) > 1 else ""
+        return seeded(crate, flags, start) if start or wide(read_edit, crate, edits_of(crate)[0]) > 1 else ""
 
-    names["checked"] = lambda crate, texts, flags, kept: narrowly(checked, crate, texts, flags, kept) or checked(crate, texts, flags, kept)
-    names["seeded"] = seeded_if_wide
+    names["whole"], names["checked"], names["seeded"] = checked, checked_narrowly, seeded_if_wide

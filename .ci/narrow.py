@@ -1,9 +1,11 @@
-"""Tries a must-fail edit on the functions that it changes, before the whole crate is checked with it, and edits of different functions in one check.
+"""Tries edits on the functions that they change, many in one check, before the whole crate is checked with each.
 
-Where one of these functions isn't proved with the edit, the crate isn't either, so the edit is refused. Such a check (`rattle check --only`) proves
+Where a function that an edit changes isn't proved with it, the crate isn't either, so the edit is refused. Such a check (`rattle check --only`) proves
 these functions and those of the crate that they call, and no other. The crate as it stands is proved before, so it is the edit that the prover
-refuses. Where each of the functions is proved, or the check says anything else, or the edit changes what is no function, this decides nothing: the
-whole crate is checked with the edit, as the kit does. The check keeps its modules in a folder of its own, where `.ci/modules` sees them.
+refuses. A function is proved by its own text and the contracts of what it calls: so edits of different functions can be tried in one check, and none has
+a part in what is said of another's function. Where a function of an edit is proved, or the check says anything else, or the edit changes what is no
+function, this decides nothing: the whole crate is checked with the edit, as the kit does. The check keeps its modules in a folder of its own, where
+`.ci/modules` sees them.
 """
 import difflib
 import os
@@ -14,7 +16,7 @@ import tempfile
 
 FUNCTION = re.compile(r"( *)(?:pub(?:\([a-z]+\))? )?(?:const )?fn (\w+)")
 BLOCK = re.compile(r"impl(?:<[^{]*?>)? (?:(.+) for )?([^{]+?)(?: where .*)?(?: \{)?$")
-# How a check of some functions ends where not all of them are proved.
+# How a check of some functions ends.
 NOT_ALL = re.compile(r"only=(\d+) proved=(\d+)")
 REFUSED = "logic=not-proved for the functions that the edit changes\n"
 # What is said of a function that is not proved, and not only since it calls one that is not.
@@ -74,21 +76,6 @@ def functions_of(folder, texts):
     return sorted(found)
 
 
-def narrowly(checked, crate, texts, flags, kept):
-    """Returns the check of an edit's functions, worded as that of a crate that isn't proved, or None where it says nothing of the crate. It is None
-    too where a check of the crate has kept its work, over which the whole crate is checked as soon."""
-    names = [] if kept else functions_of(crate.folder, texts)
-    if not names:
-        return None
-    flags = [*flags, *[word for name in names for word in ("--only", name)]]
-    with tempfile.TemporaryDirectory(prefix=f"rt-edit-{os.getpid()}-") as room:
-        ran = checked(crate, texts, flags, room)
-    last = NOT_ALL.fullmatch(ran.stdout.rstrip("\n").rpartition("\n")[2])
-    if ran.returncode != 1 or not last or int(last[2]) >= int(last[1]):
-        return None
-    return subprocess.CompletedProcess(ran.args, 1, ran.stdout + REFUSED)
-
-
 def wide(read_edit, crate, edits):
     """Returns how many edits of a crate change something else than functions."""
     texts = [read_edit(it, crate.folder)[0] for it in edits]
@@ -113,21 +100,46 @@ def apart(read_edit, crate, edits):
     return batch, texts
 
 
+def said_of(crate, name, said):
+    """Returns what a check said of a function that it refuses, or None: the lines before its verdict, and those on its answers."""
+    ends = [at for at, line in enumerate(said) if line.startswith("fn ")]
+    verdict = next((at for at in ends if re.fullmatch(rf"fn {crate.name}::{re.escape(name)}: ({UNPROVED})", said[at])), None)
+    if verdict is None:
+        return None
+    first = max((at for at in ends if at < verdict), default=-1) + 1
+    *modules, last = name.split("::")
+    answers = re.compile("".join(rf"{re.escape(it)}/" for it in ["./proofs", *modules]) + rf"\+?{re.escape(last)}/")
+    return [line for at, line in enumerate(said) if answers.match(line) or first <= at <= verdict and not answers.match(line)]
+
+
 def together(checked, read_edit, crate, edits, flags):
-    """Tries edits that change different functions in one check, and returns those of which each function is refused. A function is proved by its own
-    text and the contracts of what it calls, so no edit has a part in what is said of another's function. Where the check says nothing, as with an
-    edit that doesn't compile, each half is tried."""
+    """Tries edits that change different functions in one check, and returns what was said of those of which each function is refused. Where the check
+    says nothing, as with an edit that doesn't compile, each half is tried."""
     batch, texts = apart(read_edit, crate, edits)
     if not batch:
-        return set()
+        return {}
     names = sorted({it for each in batch.values() for it in each})
     with tempfile.TemporaryDirectory(prefix=f"rt-edit-{os.getpid()}-") as room:
         ran = checked(crate, texts, [*flags, *[word for name in names for word in ("--only", name)]], room)
-    if ran.returncode == 1 and NOT_ALL.fullmatch(ran.stdout.rstrip("\n").rpartition("\n")[2]):
-        refused = {name for name in names if re.search(rf"^fn {crate.name}::{re.escape(name)}: ({UNPROVED})$", ran.stdout, re.M)}
-        return {edit for edit, changed in batch.items() if refused.issuperset(changed)}
+    said = ran.stdout.rstrip("\n").split("\n")
+    if ran.returncode == 1 and NOT_ALL.fullmatch(said[-1]):
+        found = {name: said_of(crate, name, said) for name in names}
+        refused = {edit: changed for edit, changed in batch.items() if all(found[it] for it in changed)}
+        return {edit: "\n".join(line for it in changed for line in found[it]) for edit, changed in refused.items()}
     tried = list(batch)
     if len(tried) == 1:
-        return set()
+        return {}
     half = len(tried) // 2
     return together(checked, read_edit, crate, tried[:half], flags) | together(checked, read_edit, crate, tried[half:], flags)
+
+
+def refused_by_functions(checked, read_edit, crate, edits, flags):
+    """Tries edits in batches that change different functions, and returns what was said of those that are refused."""
+    found, left = {}, list(edits)
+    while left:
+        refused = together(checked, read_edit, crate, left, flags)
+        if not refused:
+            break
+        found.update(refused)
+        left = [it for it in left if it not in refused]
+    return found
