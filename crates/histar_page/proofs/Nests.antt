@@ -24,9 +24,11 @@ use Rattle.histar_page.specs.declared.markup.Markup.TheVariants.{Arrows, Begin, 
 use Rattle.histar_page.specs.declared.markup.Markup.TheVariants.{BeginFiles, BeginFlows, BeginLabels, BeginOther, BeginRow, BeginSecret, BeginSecrets}
 use Rattle.histar_page.specs.declared.markup.Markup.TheVariants.{BeginSession, BeginWho, End, EndBare, EndCall, EndCell, EndColumns, EndDrawing}
 use Rattle.histar_page.specs.declared.markup.Markup.TheVariants.{EndFiles, EndFlows, EndHead, EndRow, EndSecret, EndSecrets, EndSession, EndUsers}
+use Rattle.histar_page.specs.declared.markup.Markup.TheVariants.{FilesLeftOut, SecretsLeftOut}
 use Rattle.histar_page.specs.declared.markup.Markup.TheVariants.{EndWho, NoSecrets, NoTitles, NotDrawn, OnFlows, OnSecrets, OnTitles, Style}
 use Rattle.histar_page.specs.Items.{Item}
 use Rattle.histar_page.specs.Items.Item.{Fixed, Shown}
+use Rattle.histar_page.specs.Page.{is_long}
 use Rattle.histar_page.specs.Rendering.{closing, item_text, markup_text, opening, rendered}
 use Rattle.histar_page.specs.Lines.{after_word, call_on, has_mark, is_denied, is_explanation, is_raw_call, is_reason, is_refused, is_reply}
 use Rattle.histar_page.specs.Lines.{mark_number, without_first, words_of}
@@ -493,8 +495,11 @@ pages_nest sources =
       raw_calls = filter is_raw_call output;
       explanations = filter is_explanation output;
     }) in
-    let files = files_nest main (jobs_of script output) (runners_of (lines_of sources.secrets)) (lines_of sources.table) in
-    let secrets = secrets_nest main (without_first (lines_of sources.secrets)) (lines_of sources.titles) in
+    let kept = λ (items : List Item). Leads items (within main) (within main) in
+    let files = by_if (is_long sources.table) kept (step (fixed FilesLeftOut refl) nothing)
+    (files_nest main (jobs_of script output) (runners_of (lines_of sources.secrets)) (lines_of sources.table)) in
+    let secrets = by_if (is_long sources.secrets) kept (step (fixed SecretsLeftOut refl) nothing)
+    (secrets_nest main (without_first (lines_of sources.secrets)) (lines_of sources.titles)) in
     let rights = joined (joined (joined files secrets) (flows_nest main (lines_of sources.flows)))
     (drawing_nests script output (lines_of sources.table)) in
     (joined (joined head session) rights).leads

@@ -1,8 +1,11 @@
 -- The page of a session, which is a function of its sources.
-use Rattle.std.specs.Prelude.{ℕ, List, ◌++◌}
+use Rattle.std.specs.Prelude.{ℕ, Bool, List, [], ◌∷◌, ◌++◌, length, nat_lt, if◌then◌else◌}
 use Rattle.histar_script.specs.Lines.{lines_of}
+use Rattle.histar_page.specs.declared.markup.Markup.TheVariants.{FilesLeftOut, SecretsLeftOut}
+use Rattle.histar_page.specs.declared.page.TheConstants.{MOST_SHOWN_BYTES}
 use Rattle.histar_page.specs.declared.page.Texts.{Texts}
 use Rattle.histar_page.specs.Items.{Item}
+use Rattle.histar_page.specs.Items.Item.{Fixed}
 use Rattle.histar_page.specs.Rendering.{rendered}
 use Rattle.histar_page.specs.Head.{head_items, title_of}
 use Rattle.histar_page.specs.Who.{who_items}
@@ -48,16 +51,26 @@ head_shown sources =
 abbrev pub session_shown : Sources → List Item
 session_shown sources = session_items (lines_of sources.script) (lines_of sources.output) (lines_of sources.reasons)
 
--- the files, with the jobs of the session and the users of its processes
+-- a text on rights is too long to be shown
+abbrev pub is_long : List ℕ → Bool
+is_long text = nat_lt MOST_SHOWN_BYTES (length text)
+
+-- the files, with the jobs of the session and the users of its processes, unless their table is too long
 abbrev pub files_shown : Sources → List Item
 files_shown sources =
-    files_items (jobs_of (lines_of sources.script) (lines_of sources.output)) (runners_of (lines_of sources.secrets)) (lines_of sources.table)
+    if is_long sources.table then Fixed FilesLeftOut ∷ []
+    else files_items (jobs_of (lines_of sources.script) (lines_of sources.output)) (runners_of (lines_of sources.secrets)) (lines_of sources.table)
+
+-- the secrets with their titles, unless their lines are too long
+abbrev pub secrets_shown : Sources → List Item
+secrets_shown sources =
+    if is_long sources.secrets then Fixed SecretsLeftOut ∷ []
+    else secrets_items (lines_of sources.secrets) (lines_of sources.titles)
 
 -- the files, the secrets with their titles, the flows and the drawing
 abbrev pub rights_shown : Sources → List Item
 rights_shown sources =
-    files_shown sources ++ secrets_items (lines_of sources.secrets) (lines_of sources.titles)
-    ++ flows_items (lines_of sources.flows)
+    files_shown sources ++ secrets_shown sources ++ flows_items (lines_of sources.flows)
     ++ drawing_items (lines_of sources.script) (lines_of sources.output) (lines_of sources.table)
 
 -- what stands on a page: its head, the users and groups, the session, the files, the secrets with their titles, the flows and the drawing

@@ -16,7 +16,8 @@ use Rattle.histar_page.specs.declared.markup.Markup.{Markup}
 use Rattle.histar_page.specs.declared.markup.Markup.TheVariants.{Begin, Style, EndHead, BeginWho}
 use Rattle.histar_page.specs.declared.markup.Markup.TheVariants.{EndWho, BeginSession, BeginBoot, BeginOther, BeginCall}
 use Rattle.histar_page.specs.declared.markup.Markup.TheVariants.{BeginBehind, EndCall, BeginBare, EndBare, EndSession, BeginFiles, EndUsers}
-use Rattle.histar_page.specs.declared.markup.Markup.TheVariants.{EndColumns, BeginRow, EndCell, EndRow, EndFiles, BeginSecrets, NoSecrets, OnSecrets}
+use Rattle.histar_page.specs.declared.markup.Markup.TheVariants.{EndColumns, BeginRow, EndCell, EndRow, EndFiles, FilesLeftOut}
+use Rattle.histar_page.specs.declared.markup.Markup.TheVariants.{BeginSecrets, NoSecrets, OnSecrets, SecretsLeftOut}
 use Rattle.histar_page.specs.declared.markup.Markup.TheVariants.{BeginSecret, EndSecret, EndSecrets, BeginLabels, NotDrawn, BeginDrawing, Arrows}
 use Rattle.histar_page.specs.declared.markup.Markup.TheVariants.{OnTitles, NoTitles, BeginFlows, OnFlows, EndFlows, EndDrawing, End}
 use Rattle.histar_page.specs.Items.{Item}
@@ -163,6 +164,12 @@ markup_text BeginRow = codes "<tr>"
 markup_text EndCell = codes "</td>"
 markup_text EndRow = codes "</tr>\n"
 markup_text EndFiles = codes "</tbody>\n</table>\n</div>\n</section>\n"
+markup_text FilesLeftOut =
+    codes "<section id=\"files\">\n<h2>Files</h2>\n<p>Their table has more than 1,000,000 bytes and is left out. "
+    ++ codes "<code>histar access</code> prints it.</p>\n</section>\n"
+markup_text SecretsLeftOut =
+    codes "<section id=\"secrets\">\n<h2>Secrets</h2>\n<p>Their lines have more than 1,000,000 bytes and are left out. "
+    ++ codes "<code>histar trust</code> prints the one of a file.</p>\n</section>\n"
 markup_text BeginSecrets = codes "<section id=\"secrets\">\n<h2>Secrets</h2>\n"
 markup_text NoSecrets = codes "<p>Each file is for everyone to read at the end.</p>\n"
 markup_text OnSecrets = codes "<p>On whom each file rests at the end that isn't for everyone to read: the trusted could pass it on, the confined can't, and who logs in as one of these users may read it.</p>\n"

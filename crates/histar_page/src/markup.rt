@@ -133,7 +133,9 @@ pub enum Markup {
     EndCell,
     EndRow,
     EndFiles,
+    FilesLeftOut,
     BeginSecrets,
+    SecretsLeftOut,
     NoSecrets,
     OnSecrets,
     BeginSecret,
@@ -198,6 +200,16 @@ impl Markup {
             Markup::EndCell => b"</td>",
             Markup::EndRow => b"</tr>\n",
             Markup::EndFiles => b"</tbody>\n</table>\n</div>\n</section>\n",
+            Markup::FilesLeftOut => b"<section id=\"files\">
+<h2>Files</h2>
+<p>Their table has more than 1,000,000 bytes and is left out. <code>histar access</code> prints it.</p>
+</section>
+",
+            Markup::SecretsLeftOut => b"<section id=\"secrets\">
+<h2>Secrets</h2>
+<p>Their lines have more than 1,000,000 bytes and are left out. <code>histar trust</code> prints the one of a file.</p>
+</section>
+",
             Markup::BeginSecrets => b"<section id=\"secrets\">\n<h2>Secrets</h2>\n",
             Markup::NoSecrets => b"<p>Each file is for everyone to read at the end.</p>\n",
             Markup::OnSecrets =>

@@ -1,20 +1,27 @@
 //! The whole page.
-ghost use Rattle.std.specs.Prelude.{◌≡◌, ◌++◌, true, IfOk, is_ok, OnOk};
+ghost use Rattle.std.specs.Prelude.{◌≡◌, ◌++◌, [], ◌∷◌, true, IfOk, is_ok, OnOk};
 ghost use Rattle.histar_page.specs.Items.{items_of};
+ghost use Rattle.histar_page.specs.Items.Item.{Fixed};
 ghost use Rattle.histar_page.specs.Rendering.{rendered};
 ghost use Rattle.histar_page.specs.Laws.{PagesNest};
-ghost use Rattle.histar_page.specs.Page.{files_shown, head_shown, page_of, rights_shown, sources_of};
+ghost use Rattle.histar_page.specs.Page.{files_shown, head_shown, is_long, page_of, rights_shown, secrets_shown};
+ghost use Rattle.histar_page.specs.Page.{sources_of};
 
 use crate::drawing::drawing_pieces;
 use crate::files::files_pieces;
 use crate::flows::flows_pieces;
 use crate::head::{head_pieces, title_of};
 use crate::jobs::jobs_of;
-use crate::piece::{Piece, render};
+use crate::markup::Markup;
+use crate::piece::{Piece, fix, render};
 use crate::secrets::secrets_pieces;
 use crate::session::session_pieces;
 use crate::who::who_pieces;
 use std::alloc::{AllocError, Global};
+
+/// The most bytes of a text on rights that is shown. They grow as the paths times the processes, and the session as its
+/// lines.
+const MOST_SHOWN_BYTES: usize = 1_000_000;
 
 /// The texts that a page is made of.
 #[derive(Clone, Copy)]
@@ -42,7 +49,8 @@ pub struct Texts<'a> {
 
 /// Returns the page of a session.
 ///
-/// A part is freed as soon as it is written.
+/// A part is freed as soon as it is written. The files are left out where their table has more than 1,000,000 bytes, and
+/// the secrets where their lines do: so a page grows as its session, and not as its square.
 pub fn page_text(alloc: Global, texts: &Texts) -> Result<Vec<u8>, AllocError>
     ensures { IfOk result (λ page. page.items ≡ page_of (sources_of texts.now)) }
 {
@@ -75,7 +83,7 @@ fn render_rights(alloc: Global, page: &mut Vec<u8>, texts: &Texts) -> Result<(),
         ≡ page.old.items ++ rendered (rights_shown (sources_of texts.now))) }
 {
     render_part(page, files_of(alloc, texts))?;
-    render_part(page, secrets_pieces(alloc, texts.secrets, texts.titles))?;
+    render_part(page, secrets_of(alloc, texts))?;
     render_part(page, flows_pieces(alloc, texts.flows))?;
     render_part(
         page,
@@ -96,8 +104,37 @@ fn render_part(page: &mut Vec<u8>, part: Result<Vec<Piece>, AllocError>) -> Resu
 fn files_of<'a>(alloc: Global, texts: &Texts<'a>) -> Result<Vec<Piece<'a>>, AllocError>
     ensures { IfOk result (λ pieces. items_of pieces.items ≡ files_shown (sources_of texts.now)) }
 {
+    if is_long(texts.table) {
+        return left_out(alloc, Markup::FilesLeftOut);
+    }
     let jobs = jobs_of(alloc, texts.script, texts.output)?;
     files_pieces(alloc, jobs.as_slice(), texts.secrets, texts.table)
+}
+
+/// Returns the pieces of the part that shows secrets.
+fn secrets_of<'a>(alloc: Global, texts: &Texts<'a>) -> Result<Vec<Piece<'a>>, AllocError>
+    ensures { IfOk result (λ pieces. items_of pieces.items ≡ secrets_shown (sources_of texts.now)) }
+{
+    if is_long(texts.secrets) {
+        return left_out(alloc, Markup::SecretsLeftOut);
+    }
+    secrets_pieces(alloc, texts.secrets, texts.titles)
+}
+
+/// Returns the piece of a part that is left out, which says so.
+fn left_out<'a>(alloc: Global, said: Markup) -> Result<Vec<Piece<'a>>, AllocError>
+    ensures { IfOk result (λ pieces. items_of pieces.items ≡ Fixed said ∷ []) }
+{
+    let mut pieces = Vec::new(alloc);
+    fix(&mut pieces, said)?;
+    Ok(pieces)
+}
+
+/// Checks whether a text on rights is too long to be shown.
+fn is_long(text: &[u8]) -> bool
+    ensures { result ≡ is_long text.now }
+{
+    text.len() > MOST_SHOWN_BYTES
 }
 
 /// Shows that the tags of a page nest: a reader of any page is in no element before it and after it, and each element is

@@ -5,8 +5,7 @@ use Rattle.histar_script.specs.Lines.{lines_of}
 use Rattle.histar_page.specs.Drawing.{drawing_items}
 use Rattle.histar_page.specs.Flows.{flows_items}
 use Rattle.histar_page.specs.Items.{items_of}
-use Rattle.histar_page.specs.Page.{files_shown, sources_of}
-use Rattle.histar_page.specs.Secrets.{secrets_items}
+use Rattle.histar_page.specs.Page.{files_shown, secrets_shown, sources_of}
 use Rattle.histar_page.proofs.PageLemmas.{part_written, parts_written}
 use Rattle.histar_page.proofs.page.render_rights.Goals as goal
 
@@ -14,14 +13,14 @@ pub returns : goal.returns
 returns c =
     let texts = c.args.texts.now in
     let files = files_shown (sources_of texts) in
-    let secrets = secrets_items (lines_of texts.secrets.now) (lines_of texts.titles.now) in
+    let secrets = secrets_shown (sources_of texts) in
     let flows = flows_items (lines_of texts.flows.now) in
     let drawing = drawing_items (lines_of texts.script.now) (lines_of texts.output.now) (lines_of texts.table.now) in
     let old = c.args.page.now.items in
     let files_in = part_written old files c.files_of.result (λ p. items_of p.items) c.in_ok-render_part.ensures.0
     c.in_ok-render_part.ensures.1 c.files_of.ensures in
-    let secrets_in = part_written _ secrets c.secrets_pieces.result (λ p. items_of p.items) c.in_ok-render_part-2.ensures.0
-    c.in_ok-render_part-2.ensures.1 c.secrets_pieces.ensures in
+    let secrets_in = part_written _ secrets c.secrets_of.result (λ p. items_of p.items) c.in_ok-render_part-2.ensures.0
+    c.in_ok-render_part-2.ensures.1 c.secrets_of.ensures in
     let flows_in = part_written _ flows c.flows_pieces.result (λ p. items_of p.items) c.in_ok-render_part-3.ensures.0
     c.in_ok-render_part-3.ensures.1 c.flows_pieces.ensures in
     on_ok_weaker c.render_part-4.result
