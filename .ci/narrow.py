@@ -101,7 +101,8 @@ def apart(read_edit, crate, edits):
 
 
 def said_of(crate, name, said):
-    """Returns what a check said of a function that it refuses, or None: the lines before its verdict, and those on its answers."""
+    """Returns what a check said of a function that it refuses: the lines before its verdict, and those on its answers. It returns None where the function
+    is proved, or is not only since another one isn't."""
     ends = [at for at, line in enumerate(said) if line.startswith("fn ")]
     verdict = next((at for at in ends if re.fullmatch(rf"fn {crate.name}::{re.escape(name)}: ({UNPROVED})", said[at])), None)
     if verdict is None:
@@ -109,6 +110,8 @@ def said_of(crate, name, said):
     first = max((at for at in ends if at < verdict), default=-1) + 1
     *modules, last = name.split("::")
     answers = re.compile("".join(rf"{re.escape(it)}/" for it in ["./proofs", *modules]) + rf"\+?{re.escape(last)}/")
+    if any(answers.search(line) and "is not checked until" in line for line in said):
+        return None
     return [line for at, line in enumerate(said) if answers.match(line) or first <= at <= verdict and not answers.match(line)]
 
 
