@@ -1,5 +1,6 @@
 -- In a state that represents a flat state the purpose given for a category is its purpose.
-use Rattle.std.proofs.Common.{◌≡◌, ℕ, ◌+◌, ◌*◌, ◌-◌, ◌%◌, ◌<◌, ◌≤◌, ◌==◌, Bool, true, false, ◌&&◌, ◌||◌, cond, List, [], ◌∷◌, length, Option, None}
+use Rattle.std.proofs.Common.{◌≡◌, ℕ, ◌+◌, ◌*◌, ◌-◌, ◌%◌, ◌<◌, ◌≤◌, ◌==◌}
+use Rattle.std.proofs.Common.{Bool, true, false, ◌&&◌, ◌||◌, cond, List, [], ◌∷◌, length, Option, None}
 use Rattle.std.proofs.Common.{Some, refl, sym, ap, ◌∙◌, subst, inl, inr, if◌then◌else◌, arith}
 use Rattle.std.specs.Prelude.{map, not, nat_le, nat_lt, is_some, option_map, option_and_then, slice_get}
 use Rattle.std.proofs.lemmas.Bool.{true≢false}
@@ -73,7 +74,7 @@ first_or r d true e no_more = absurd (true≢false no_more)
 first_or r d false e no_more = grind (arith, nat_tests, or-false (d == r), e)
 
 -- a name among those of jobs is that of a job
-which_job : (jobs : List ProcName) (name : CategoryName) → among (map names.OfJob jobs) name ≡ true → (job : ProcName) × (name ≡ names.OfJob job)
+which_job : (jobs : List ProcName) (n : CategoryName) → among (map names.OfJob jobs) n ≡ true → (job : ProcName) × (n ≡ names.OfJob job)
 which_job [] name e = absurd (true≢false (sym e))
 which_job (j ∷ jobs) name e = elim (category_tests_equality name (names.OfJob j)) [
   | inl k ↦ (j, k.1)
@@ -155,10 +156,10 @@ module _ (accounts : Accounts) (s : State) (f : Flat) (l : ObjectsMatch accounts
       by : (o : Option Process) → f.processes me ≡ o → Named c (WritesProcess me)
       by None is = absurd (true≢false (sym e ∙ ap (λ (L : Option Levels). has_zero L c) (outer_absent me is)))
       by (Some p) is =
-          let level =
+          let same =
           sym (ap is_zero (at_guarded (jobs_of p) (own me ∷ []) c))
           ∙ sym (ap (λ (L : Option Levels). has_zero L c) (outer_there me p is)) ∙ e in
-          (names.WritesProcess me, sym (only_one (own me) c (zero_written (is_in (jobs_of p) c) (is_in (own me ∷ []) c) level)), ap is_some is, refl)
+          (names.WritesProcess me, sym (only_one (own me) c (zero_written (is_in (jobs_of p) c) (is_in (own me ∷ []) c) same)), ap is_some is, refl)
 
   -- what an outer label has at 3 is a job of the process
   three_outside : (me : ProcName) (p : Process) (c : ℕ) → f.processes me ≡ Some p

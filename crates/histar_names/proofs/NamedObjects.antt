@@ -1,5 +1,6 @@
 -- In a state that represents a flat state the location given for an object is its location.
-use Rattle.std.proofs.Common.{◌≡◌, ◌≢◌, ℕ, ◌+◌, ◌*◌, ◌-◌, ◌/◌, ◌%◌, ◌<◌, ◌≤◌, ◌==◌, Bool, true, false, ◌&&◌, ◌||◌, cond, [], ◌∷◌, length, Option}
+use Rattle.std.proofs.Common.{◌≡◌, ◌≢◌, ℕ, ◌+◌, ◌*◌, ◌-◌, ◌/◌, ◌%◌, ◌<◌, ◌≤◌, ◌==◌}
+use Rattle.std.proofs.Common.{Bool, true, false, ◌&&◌, ◌||◌, cond, [], ◌∷◌, length, Option}
 use Rattle.std.proofs.Common.{None, Some, refl, sym, ap, ◌∙◌, subst, inl, inr, if◌then◌else◌, arith}
 use Rattle.std.specs.Prelude.{not, nat_le, nat_lt, is_some, option_map, option_and_then}
 use Rattle.std.proofs.lemmas.Bool.{true≢false}
@@ -214,7 +215,7 @@ module _ (accounts : Accounts) (s : State) (f : Flat) (l : ObjectsMatch accounts
       revealed = ap (is_part s q) (sym (home_is accounts s f l me)) ∙ e
 
       by : (o : Option Process) → f.processes me ≡ o → IsPartOf accounts s f l me q
-      by None is = absurd (true≢false (sym revealed ∙ ap (λ (o : Option Process). is_part s q (option_map (λ (p : Process). there_is me) o)) is))
+      by None i = absurd (true≢false (sym revealed ∙ ap (λ (o : Option Process). is_part s q (option_map (λ (p : Process). there_is me) o)) i))
       by (Some p) is =
           let here = ap (λ (o : Option Process). is_part s q (option_map (λ (r : Process). there_is me) o)) (sym is) ∙ revealed in
           elim (one_of (q == (there_is me).container || q == (there_is me).segment) _ here) [

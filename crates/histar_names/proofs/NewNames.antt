@@ -97,7 +97,7 @@ module _ (f : Flat) (tree : IsTree f) (me : ProcName) (p : Process) (here : f.pr
 
   -- a process is as it was, or knows only such jobs
   abbrev IsOld : (ProcName → Option Process) → Type 0
-  IsOld new = (q : ProcName) (y : Process) → new q ≡ Some y → (f.processes q ≡ Some y) ⊎ ((job : ProcName) → knows y job ≡ true → Old job)
+  IsOld new = (q : ProcName) (y : Process) → new q ≡ Some y → (f.processes q ≡ Some y) ⊎ ((j : ProcName) → knows y j ≡ true → Old j)
 
   by_processes : (new : ProcName → Option Process) → IsOld new → AreOld (record f { processes = new })
   by_processes new each job (inl k) = elim (each k.0 k.1 k.2) [
@@ -127,7 +127,7 @@ module _ (f : Flat) (tree : IsTree f) (me : ProcName) (p : Process) (here : f.pr
     | inr t ↦ inl (sym (ap (λ b. cond b (Some q) (f.processes name)) t.0) ∙ e)
   ]
 
-  by_birth : (q newborn : Process) → ((job : ProcName) → knows q job ≡ true → Old job) → ((job : ProcName) → knows newborn job ≡ true → Old job)
+  by_birth : (q newborn : Process) → ((j : ProcName) → knows q j ≡ true → Old j) → ((j : ProcName) → knows newborn j ≡ true → Old j)
       → IsOld (with_process (with_process f me q) (next_child me p) newborn).processes
   by_birth q newborn known known_too name y e = elim (same_name_found (next_child me p) name) [
     | inl t ↦ inr (λ job k. known_too job (ap (λ v. knows v job)
@@ -139,7 +139,7 @@ module _ (f : Flat) (tree : IsTree f) (me : ProcName) (p : Process) (here : f.pr
   old_class q job None at c = absurd (true≢false (sym c))
   old_class q job (Some x) at c = inl (inr (q, x, at, c))
 
-  holds_more : (rule call).effect ≡ Wraps → (job : ProcName) → (has p.chain job || has (p.held ++ next_child me p ∷ []) job) ≡ true → Old job
+  holds_more : (rule call).effect ≡ Wraps → (j : ProcName) → (has p.chain j || has (p.held ++ next_child me p ∷ []) j) ≡ true → Old j
   holds_more is job k = elim (or_cases (has p.chain job) (has (p.held ++ next_child me p ∷ []) job) k) [
     | inl i ↦ known_used job (known_in_chain job i)
     | inr i ↦ elim (longer_has p.held (next_child me p) job i) [

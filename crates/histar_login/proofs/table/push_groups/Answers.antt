@@ -1,5 +1,6 @@
 -- Proves the goals of `push_groups` of src/table.rt that the search leaves open.
-use Rattle.std.proofs.Common.{◌≡◌, ◌<◌, ◌≤◌, ◌++◌, List, get_or, subst, length, sym, ap, [], ◌∷◌, ◌∙◌, append-nil, arith}
+use Rattle.std.proofs.Common.{◌≡◌, ◌<◌, ◌≤◌, ◌++◌}
+use Rattle.std.proofs.Common.{List, get_or, subst, length, sym, ap, [], ◌∷◌, ◌∙◌, append-nil, arith}
 use Rattle.std.proofs.lemmas.Bool.Decides.{nat_tests}
 use Rattle.std.proofs.lemmas.List.{take_all, length-append}
 use Rattle.histar_flat.specs.Accounts.{Group}
