@@ -19,13 +19,14 @@ use Rattle.histar_page.specs.declared.kind.Kind.TheVariants.{LeakTitle, LineNumb
 use Rattle.histar_page.specs.declared.kind.Kind.TheVariants.{NodeName, OtherLine, Path, Process, ProcessBand, ProcessNode, Prose, RawCall, ReadEdge}
 use Rattle.histar_page.specs.declared.kind.Kind.TheVariants.{Reason, Refusal, Refusals, Reply, Secret, Stat, Title, Trusted, UserName, Version}
 use Rattle.histar_page.specs.declared.kind.Kind.TheVariants.{ColumnUser, Withheld, WriteEdge}
+use Rattle.histar_page.specs.declared.kind.Kind.TheVariants.{BareBy, CallBy, LinkAddress, LinkName, LinkTarget, RuleAddress, RuleCaller}
 use Rattle.histar_page.specs.declared.markup.Markup.{Markup}
-use Rattle.histar_page.specs.declared.markup.Markup.TheVariants.{Arrows, Begin, BeginBare, BeginBehind, BeginBoot, BeginCall, BeginDrawing}
+use Rattle.histar_page.specs.declared.markup.Markup.TheVariants.{Arrows, Begin, BeginBehind, BeginBoot, BeginDrawing}
 use Rattle.histar_page.specs.declared.markup.Markup.TheVariants.{BeginFiles, BeginFlows, BeginLabels, BeginOther, BeginRow, BeginSecret, BeginSecrets}
 use Rattle.histar_page.specs.declared.markup.Markup.TheVariants.{BeginSession, BeginWho, End, EndBare, EndCall, EndCell, EndColumns, EndDrawing}
 use Rattle.histar_page.specs.declared.markup.Markup.TheVariants.{EndFiles, EndFlows, EndHead, EndRow, EndSecret, EndSecrets, EndSession, EndUsers}
 use Rattle.histar_page.specs.declared.markup.Markup.TheVariants.{FilesLeftOut, SecretsLeftOut}
-use Rattle.histar_page.specs.declared.markup.Markup.TheVariants.{EndWho, NoSecrets, NoTitles, NotDrawn, OnFlows, OnSecrets, OnTitles, Style}
+use Rattle.histar_page.specs.declared.markup.Markup.TheVariants.{EndStyle, EndWho, NoSecrets, NoTitles, NotDrawn, OnFlows, OnSecrets, OnTitles, Style}
 use Rattle.histar_page.specs.Items.{Item}
 use Rattle.histar_page.specs.Items.Item.{Fixed, Shown}
 use Rattle.histar_page.specs.Page.{is_long}
@@ -33,11 +34,12 @@ use Rattle.histar_page.specs.Rendering.{closing, item_text, markup_text, opening
 use Rattle.histar_page.specs.Lines.{after_word, call_on, has_mark, is_denied, is_explanation, is_raw_call, is_reason, is_refused, is_reply}
 use Rattle.histar_page.specs.Lines.{mark_number, without_first, words_of}
 use Rattle.histar_page.specs.Order.{Marked, later_marked, own_marked, past_own, taken_own}
-use Rattle.histar_page.specs.Head.{head_items, title_of}
+use Rattle.histar_page.specs.Callers.{caller, callers, link_items, rule_items}
+use Rattle.histar_page.specs.Head.{head_items, style_items, title_of}
 use Rattle.histar_page.specs.Who.{declared_items, group_member_item, who_items}
 use Rattle.histar_page.specs.Story.{is_login, line_number, lines_between, note_items, prose_items, reason_item, reply_kind, shown_call, call_items}
-use Rattle.histar_page.specs.Session.{at_bytes, calls_items, framed_items, hides_bytes, kernel_items, other_call_items, other_why_items, raw_item}
-use Rattle.histar_page.specs.Session.{turns_from, why_item}
+use Rattle.histar_page.specs.Session.{at_bytes, begin_items, calls_items, framed_items, hides_bytes, kernel_items, other_call_items}
+use Rattle.histar_page.specs.Session.{other_why_items, raw_item, turns_from, why_item}
 use Rattle.histar_page.specs.Files.{cells_items, column_items, files_items, first_flag, job_columns, later_flags, line_items, right_item, row_items}
 use Rattle.histar_page.specs.Files.{runners_of, stat_item, user_item}
 use Rattle.histar_page.specs.Secrets.{files_and_titles, member_item, note_on, note_on_titles, secret_items, secret_line_items}
@@ -172,14 +174,26 @@ shown_at kind text {name = name} {inner} a b =
 abbrev main : List (List ℕ)
 main = codes "main" ∷ codes "body" ∷ codes "html" ∷ []
 
-head_nests : (title name version : List ℕ) (output : List (List ℕ)) → Leads (head_items title name version output) (within []) (within main)
+-- the elements that the style leaves begun
+abbrev styled : List (List ℕ)
+styled = codes "style" ∷ codes "head" ∷ codes "html" ∷ []
+
+rule_nests : (process : List ℕ) → Leads (rule_items process) (within styled) (within styled)
+rule_nests process = step (shown RuleAddress process refl refl) (step (shown RuleCaller process refl refl) nothing)
+
+style_nests : (title : List ℕ) (processes : List (List ℕ)) → Leads (style_items title processes) (within []) (within styled)
+style_nests title processes =
+    step (fixed Begin refl) (step (shown Title title refl refl) (step (fixed Style refl)
+    (each rule_items (within styled) rule_nests processes)))
+
+head_nests : (title name version : List ℕ) (output : List (List ℕ)) → Leads (head_items title name version output) (within styled) (within main)
 head_nests title name version output =
     let replies = filter is_reply output in
-    step (fixed Begin refl) (step (shown Title title refl refl) (step (fixed Style refl) (step (shown MainTitle title refl refl)
-    (step (shown FileName name refl refl) (step (shown Calls (decimal (length replies)) refl refl)
+    step (fixed EndStyle refl) (step (shown MainTitle title refl refl) (step (shown FileName name refl refl)
+    (step (shown Calls (decimal (length replies)) refl refl)
     (step (shown Refusals (decimal (length (filter is_refused replies))) refl refl)
     (step (shown Denials (decimal (length (filter is_denied (filter is_raw_call output)))) refl refl)
-    (step (shown Version version refl refl) (step (fixed EndHead refl) nothing)))))))))
+    (step (shown Version version refl refl) (step (fixed EndHead refl) nothing)))))))
 
 -- ---- the users and groups
 
@@ -247,23 +261,23 @@ why_nests s line = shown Explanation line refl refl
 abbrev behind : List (List ℕ) → Reader
 behind s = within (codes "div" ∷ codes "details" ∷ s)
 
-framed_nests : (s : List (List ℕ)) (call : List Item) → ((inner : List (List ℕ)) → Leads call (within inner) (within inner))
-    → (raw_calls explanations : List (List ℕ)) → Leads (framed_items call raw_calls explanations) (within s) (within s)
-framed_nests s call nests raw_calls explanations = by raw_calls explanations
+framed_nests : (s : List (List ℕ)) (by : List ℕ) (call : List Item) → ((inner : List (List ℕ)) → Leads call (within inner) (within inner))
+    → (raw_calls explanations : List (List ℕ)) → Leads (framed_items by call raw_calls explanations) (within s) (within s)
+framed_nests s by call nests raw_calls explanations = cases raw_calls explanations
   where
     opened : (raw_calls explanations : List (List ℕ))
-        → Leads (Fixed BeginCall ∷ call ++ kernel_items raw_calls explanations) (within s) (within s)
+        → Leads (Shown CallBy by ∷ call ++ kernel_items raw_calls explanations) (within s) (within s)
     opened raw_calls explanations =
-        step (fixed BeginCall refl) (joined (nests (codes "summary" ∷ codes "details" ∷ s))
+        step (shown_at CallBy by refl refl) (joined (nests (codes "summary" ∷ codes "details" ∷ s))
         (step (fixed BeginBehind refl)
         (joined (joined (mapped raw_item (behind s) (raw_nests (codes "div" ∷ codes "details" ∷ s)) raw_calls)
         (mapped why_item (behind s) (why_nests (codes "div" ∷ codes "details" ∷ s)) explanations))
         (step (fixed EndCall refl) nothing))))
 
-    by : (raw_calls explanations : List (List ℕ)) → Leads (framed_items call raw_calls explanations) (within s) (within s)
-    by [] [] = step (fixed BeginBare refl) (joined (nests (codes "div" ∷ s)) (step (fixed EndBare refl) nothing))
-    by [] (line ∷ explanations) = opened [] (line ∷ explanations)
-    by (line ∷ raw_calls) explanations = opened (line ∷ raw_calls) explanations
+    cases : (raw_calls explanations : List (List ℕ)) → Leads (framed_items by call raw_calls explanations) (within s) (within s)
+    cases [] [] = step (shown_at BareBy by refl refl) (joined (nests (codes "div" ∷ s)) (step (fixed EndBare refl) nothing))
+    cases [] (line ∷ explanations) = opened [] (line ∷ explanations)
+    cases (line ∷ raw_calls) explanations = opened (line ∷ raw_calls) explanations
 
 turns_nest : (s : List (List ℕ)) (script : List (List ℕ)) (before : List ℕ) (replies : List (List ℕ)) (marked : Marked)
     → Leads (turns_from script before replies marked) (within s) (within s)
@@ -285,20 +299,26 @@ turns_nest s script before (reply ∷ replies) marked =
     let own = own_marked (split_word reply).0 marked in
     joined
     (joined (each (note_items before) (within s) (note_nests s before) (lines_between script before reply))
-    (framed_nests s (call_items script reply own.reasons) (λ inner. answered_nests inner script reply own.reasons) own.raw_calls own.explanations))
+    (framed_nests s (caller script reply) (call_items script reply own.reasons) (λ inner. answered_nests inner script reply own.reasons)
+    own.raw_calls own.explanations))
     (turns_nest s script reply replies (later_marked (split_word reply).0 marked))
 
+link_nests : (s : List (List ℕ)) (process : List ℕ) → Leads (link_items process) (within s) (within s)
+link_nests s process =
+    step (shown_at LinkTarget process refl refl) (step (shown_at LinkAddress process refl refl) (step (shown LinkName process refl refl) nothing))
+
 session_nests : (s : List (List ℕ)) (script replies : List (List ℕ)) (marked : Marked)
-    → Leads (calls_items script replies marked) (within s) (within s)
+    → Leads (begin_items (callers script replies) ++ calls_items script replies marked) (within s) (within s)
 session_nests s script replies marked =
     let inner = codes "section" ∷ s in
     let boot = taken_own (codes "0") marked.raw_calls in
-    joined
+    joined (step (fixed BeginSession refl) (each link_items (within inner) (link_nests inner) (callers script replies)))
     (joined
-    (step (fixed BeginSession refl) (step (fixed BeginBoot refl) (step (shown OtherLine (codes "0") refl refl) (step (fixed BeginBehind refl)
-    (joined (mapped raw_item (behind inner) (raw_nests (codes "div" ∷ codes "details" ∷ inner)) boot) (step (fixed EndCall refl) nothing))))))
+    (joined
+    (step (fixed BeginBoot refl) (step (shown OtherLine (codes "0") refl refl) (step (fixed BeginBehind refl)
+    (joined (mapped raw_item (behind inner) (raw_nests (codes "div" ∷ codes "details" ∷ inner)) boot) (step (fixed EndCall refl) nothing)))))
     (turns_nest inner script [] replies (record marked { raw_calls = past_own (codes "0") marked.raw_calls })))
-    (step (fixed EndSession refl) nothing)
+    (step (fixed EndSession refl) nothing))
 
 -- ---- the files
 
@@ -489,7 +509,10 @@ pub pages_nest : PagesNest
 pages_nest sources =
     let script = lines_of sources.script in
     let output = lines_of sources.output in
-    let head = joined (head_nests (title_of sources.name script) sources.name sources.version output) (who_nests main script) in
+    let title = title_of sources.name script in
+    let head = joined
+    (joined (style_nests title (callers script (filter is_reply output))) (head_nests title sources.name sources.version output))
+    (who_nests main script) in
     let session = session_nests main script (filter is_reply output) (record {
       reasons = filter is_reason (lines_of sources.reasons);
       raw_calls = filter is_raw_call output;

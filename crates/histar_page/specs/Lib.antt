@@ -8,6 +8,7 @@ pub mod Order
 pub mod MarkedLines
 pub mod Head
 pub mod Who
+pub mod Callers
 pub mod Story
 pub mod Session
 pub mod Files

@@ -12,10 +12,11 @@ use Rattle.histar_page.specs.declared.kind.Kind.TheVariants.{DrawnHeight, Proces
 use Rattle.histar_page.specs.declared.kind.Kind.TheVariants.{LoginBy, LoginAs, Reason, Prose, Heading, Mark, ClaimMet, ClaimMissed}
 use Rattle.histar_page.specs.declared.kind.Kind.TheVariants.{HiddenBytes, UserName, GroupName, MemberName}
 use Rattle.histar_page.specs.declared.kind.Kind.TheVariants.{EdgeFile, ProcessNode, FileNode, NodeName, LeakPath, LeakTitle, Flow}
+use Rattle.histar_page.specs.declared.kind.Kind.TheVariants.{RuleAddress, RuleCaller, LinkTarget, LinkAddress, LinkName, CallBy, BareBy}
 use Rattle.histar_page.specs.declared.markup.Markup.{Markup}
-use Rattle.histar_page.specs.declared.markup.Markup.TheVariants.{Begin, Style, EndHead, BeginWho}
-use Rattle.histar_page.specs.declared.markup.Markup.TheVariants.{EndWho, BeginSession, BeginBoot, BeginOther, BeginCall}
-use Rattle.histar_page.specs.declared.markup.Markup.TheVariants.{BeginBehind, EndCall, BeginBare, EndBare, EndSession, BeginFiles, EndUsers}
+use Rattle.histar_page.specs.declared.markup.Markup.TheVariants.{Begin, Style, EndStyle, EndHead, BeginWho}
+use Rattle.histar_page.specs.declared.markup.Markup.TheVariants.{EndWho, BeginSession, BeginBoot, BeginOther}
+use Rattle.histar_page.specs.declared.markup.Markup.TheVariants.{BeginBehind, EndCall, EndBare, EndSession, BeginFiles, EndUsers}
 use Rattle.histar_page.specs.declared.markup.Markup.TheVariants.{EndColumns, BeginRow, EndCell, EndRow, EndFiles, FilesLeftOut}
 use Rattle.histar_page.specs.declared.markup.Markup.TheVariants.{BeginSecrets, NoSecrets, OnSecrets, SecretsLeftOut}
 use Rattle.histar_page.specs.declared.markup.Markup.TheVariants.{BeginSecret, EndSecret, EndSecrets, BeginLabels, NotDrawn, BeginDrawing, Arrows}
@@ -26,12 +27,19 @@ use Rattle.histar_page.specs.Items.Item.{Fixed, Shown}
 -- the markup before a text of a kind
 abbrev pub opening : Kind → List ℕ
 opening Title = codes "<title>"
+opening RuleAddress = codes "[id=\"by-"
+opening RuleCaller = codes ""
 opening MainTitle = codes "<h1>"
 opening FileName = codes "<p>\n<span>file: <b>"
 opening Calls = codes "<span>calls: <b>"
 opening Refusals = codes "<span>refusals: <b>"
 opening Denials = codes "<span>denied raw calls: <b>"
 opening Version = codes "<span>histar <b>"
+opening LinkTarget = codes "<a class=\"by\" id=\"by-"
+opening LinkAddress = codes ""
+opening LinkName = codes ""
+opening CallBy = codes "<details data-by=\""
+opening BareBy = codes "<div class=\"bare\" data-by=\""
 opening LineNumber = codes "<span class=\"number\">"
 opening OtherLine = codes "<b>"
 opening Call = codes "<code class=\"call\">"
@@ -84,12 +92,19 @@ opening NodeName = codes "<text x=\"8\" y=\"18\">"
 -- the markup after a text of a kind
 abbrev pub closing : Kind → List ℕ
 closing Title = codes "</title>\n"
+closing RuleAddress = codes "\"]:target ~ :is(details, .bare):not([data-by=\""
+closing RuleCaller = codes "\"]) { display: none }\n"
 closing MainTitle = codes "</h1>\n"
 closing FileName = codes "</b></span>\n"
 closing Calls = codes "</b></span>\n"
 closing Refusals = codes "</b></span>\n"
 closing Denials = codes "</b></span>\n"
 closing Version = codes "</b></span>\n"
+closing LinkTarget = codes "\" href=\"#by-"
+closing LinkAddress = codes "\">by "
+closing LinkName = codes "</a>\n"
+closing CallBy = codes "\">\n<summary>"
+closing BareBy = codes "\">"
 closing LineNumber = codes "</span>\n"
 closing OtherLine = codes "</b>"
 closing Call = codes "</code>\n"
@@ -143,6 +158,7 @@ closing NodeName = codes "</text></g>\n"
 abbrev pub markup_text : Markup → List ℕ
 markup_text Begin = codes "<!DOCTYPE html>\n<html lang=\"en\">\n<head>\n<meta charset=\"utf-8\">\n<meta name=\"viewport\" content=\"width=device-width, initial-scale=1\">\n"
 markup_text Style = STYLE.now
+markup_text EndStyle = codes "</style>\n</head>\n<body>\n<header>\n"
 markup_text EndHead = codes "</p>\n<nav><a href=\"#who\">Who</a> <a href=\"#session\">Session</a> <a href=\"#files\">Files</a> <a href=\"#secrets\">Secrets</a> <a href=\"#flows\">Flows</a> <a href=\"#drawing\">Drawing</a></nav>\n</header>\n<main>\n"
 markup_text BeginWho = codes "<section id=\"who\">\n<h2>Who</h2>\n<p class=\"who\">\n"
 markup_text EndWho = codes "</p>\n</section>\n"
@@ -151,10 +167,8 @@ markup_text BeginSession =
     ++ codes "<p id=\"refusals\"><a href=\"#session\">All</a> <a href=\"#refusals\">Refusals</a></p>\n"
 markup_text BeginBoot = codes "<details class=\"other\">\n<summary>Boot, line "
 markup_text BeginOther = codes "<details class=\"other\">\n<summary>Raw calls of line "
-markup_text BeginCall = codes "<details>\n<summary>"
 markup_text BeginBehind = codes "</summary>\n<div class=\"behind\">\n"
 markup_text EndCall = codes "</div>\n</details>\n"
-markup_text BeginBare = codes "<div class=\"bare\">"
 markup_text EndBare = codes "</div>\n"
 markup_text EndSession = codes "</section>\n"
 markup_text BeginFiles = codes "<section id=\"files\">\n<h2>Files</h2>\n<p>Who may do what at the end: s to see it, r to read it, w to write it, d to take it away. Above each process is its user; the tinted columns are of processes in jobs.</p>\n<div class=\"wide\">\n<table>\n<thead>\n<tr class=\"users\"><td colspan=\"4\"></td>"

@@ -8,11 +8,25 @@ pub enum Kind {
     Title,
     /// The title, at the head of the page.
     MainTitle,
+    /// The process of a rule of style, at whose address the rule is followed.
+    RuleAddress,
+    /// The process of a rule of style, whose calls the rule leaves.
+    RuleCaller,
     FileName,
     Calls,
     Refusals,
     Denials,
     Version,
+    /// The process of a link, as the name of the place that the link is.
+    LinkTarget,
+    /// The process of a link, as the place to which the link leads.
+    LinkAddress,
+    /// The process of a link, as it is seen.
+    LinkName,
+    /// The process of a call that can be opened.
+    CallBy,
+    /// The process of a call with nothing behind it.
+    BareBy,
     LineNumber,
     /// The number of a line without a reply, such as that of boot.
     OtherLine,
@@ -107,12 +121,16 @@ impl Kind {
     {
         match self {
             Kind::Title => b"<title>",
+            Kind::RuleAddress => b"[id=\"by-",
             Kind::MainTitle => b"<h1>",
             Kind::FileName => b"<p>\n<span>file: <b>",
             Kind::Calls => b"<span>calls: <b>",
             Kind::Refusals => b"<span>refusals: <b>",
             Kind::Denials => b"<span>denied raw calls: <b>",
             Kind::Version => b"<span>histar <b>",
+            Kind::LinkTarget => b"<a class=\"by\" id=\"by-",
+            Kind::CallBy => b"<details data-by=\"",
+            Kind::BareBy => b"<div class=\"bare\" data-by=\"",
             Kind::LineNumber => b"<span class=\"number\">",
             Kind::OtherLine | Kind::Granted => b"<b>",
             Kind::Call | Kind::LoginBy => b"<code class=\"call\">",
@@ -156,7 +174,12 @@ impl Kind {
                 b"<line class=\"writes\" marker-end=\"url(#written)\" x1=\"210\" x2=\"518\" y1=\"",
             Kind::BothEdge =>
                 b"<line class=\"both\" marker-start=\"url(#both)\" marker-end=\"url(#both)\" x1=\"210\" x2=\"518\" y1=\"",
-            Kind::EdgeEnd | Kind::EdgeProcess | Kind::EdgeFile => b"",
+            Kind::EdgeEnd
+            | Kind::EdgeProcess
+            | Kind::EdgeFile
+            | Kind::RuleCaller
+            | Kind::LinkAddress
+            | Kind::LinkName => b"",
             Kind::ProcessNode => b"<g class=\"node\" transform=\"translate(8 ",
             Kind::FileNode => b"<g class=\"node\" transform=\"translate(520 ",
             Kind::NodeName => b"<text x=\"8\" y=\"18\">",
@@ -169,6 +192,8 @@ impl Kind {
     {
         match self {
             Kind::Title => b"</title>\n",
+            Kind::RuleAddress => b"\"]:target ~ :is(details, .bare):not([data-by=\"",
+            Kind::RuleCaller => b"\"]) { display: none }\n",
             Kind::MainTitle => b"</h1>\n",
             Kind::FileName
             | Kind::Calls
@@ -181,6 +206,11 @@ impl Kind {
             | Kind::UserName
             | Kind::GroupName
             | Kind::MemberName => b"</b></span>\n",
+            Kind::LinkTarget => b"\" href=\"#by-",
+            Kind::LinkAddress => b"\">by ",
+            Kind::LinkName => b"</a>\n",
+            Kind::CallBy => b"\">\n<summary>",
+            Kind::BareBy => b"\">",
             Kind::LineNumber | Kind::Reason => b"</span>\n",
             Kind::LoginBy => b"",
             Kind::LoginAs => b" &bull;&bull;&bull;&bull;</code>\n",

@@ -5,6 +5,7 @@
 #![tactic(auto)]
 
 mod bands;
+mod callers;
 mod drawing;
 mod edges;
 mod files;
@@ -24,6 +25,7 @@ mod titles;
 mod views;
 mod who;
 
+pub use callers::MOST_ALONE;
 pub use kind::Kind;
 pub use markup::Markup;
 pub use page::{Texts, page_text, pages_nest};

@@ -17,6 +17,9 @@ h2 { margin: 2rem 0 .6rem; font-size: 1.15rem }
 a { color: inherit }
 header p, nav, #refusals { display: flex; flex-wrap: wrap; gap: .2rem 1.2rem; margin: 0 0 .3rem; color: var(--dim) }
 header b { color: var(--ink) }
+#refusals { display: inline-flex; margin: 0 1.2rem .3rem 0 }
+.by { display: inline-block; margin: 0 1.2rem .3rem 0; color: var(--dim) }
+.by:target { color: var(--ink); font-weight: bold }
 code, small, td b, td i { font-family: ui-monospace, monospace; font-size: .85rem }
 code { white-space: pre-wrap; overflow-wrap: anywhere }
 summary, .bare { display: grid; grid-template-columns: 1rem 2.6rem minmax(0, 3fr) minmax(0, 2fr); gap: 0 .6rem; align-items: baseline; padding: .2rem 0; border-top: 1px solid var(--line) }
@@ -99,14 +102,10 @@ path.both { fill: var(--both) }
 @media print {
   :root { --page: #fff; --ink: #000; --dim: #444; --good: #17652f; --bad: #a40e1f; --letter: #000 }
   body { max-width: none; padding: 0; font-size: 10pt }
-  nav, #refusals { display: none }
+  nav, #refusals, .by { display: none }
   tr, summary, .bare { break-inside: avoid }
   .rights b, .job, .refusal, .behind { print-color-adjust: exact; -webkit-print-color-adjust: exact }
 }
-</style>
-</head>
-<body>
-<header>
 ";
 
 /// A fixed text of a page.
@@ -114,16 +113,15 @@ path.both { fill: var(--both) }
 pub enum Markup {
     Begin,
     Style,
+    EndStyle,
     EndHead,
     BeginWho,
     EndWho,
     BeginSession,
     BeginBoot,
     BeginOther,
-    BeginCall,
     BeginBehind,
     EndCall,
-    BeginBare,
     EndBare,
     EndSession,
     BeginFiles,
@@ -167,6 +165,11 @@ impl Markup {
 <meta name=\"viewport\" content=\"width=device-width, initial-scale=1\">
 ",
             Markup::Style => STYLE,
+            Markup::EndStyle => b"</style>
+</head>
+<body>
+<header>
+",
             Markup::EndHead => b"</p>
 <nav><a href=\"#who\">Who</a> <a href=\"#session\">Session</a> <a href=\"#files\">Files</a> <a href=\"#secrets\">Secrets</a> <a href=\"#flows\">Flows</a> <a href=\"#drawing\">Drawing</a></nav>
 </header>
@@ -180,10 +183,8 @@ impl Markup {
 ",
             Markup::BeginBoot => b"<details class=\"other\">\n<summary>Boot, line ",
             Markup::BeginOther => b"<details class=\"other\">\n<summary>Raw calls of line ",
-            Markup::BeginCall => b"<details>\n<summary>",
             Markup::BeginBehind => b"</summary>\n<div class=\"behind\">\n",
             Markup::EndCall => b"</div>\n</details>\n",
-            Markup::BeginBare => b"<div class=\"bare\">",
             Markup::EndBare => b"</div>\n",
             Markup::EndSession | Markup::EndSecrets | Markup::EndFlows => b"</section>\n",
             Markup::BeginFiles => b"<section id=\"files\">
