@@ -8,9 +8,9 @@ use Rattle.std.proofs.lemmas.Slice.Eq.{bytes_eq-Decides}
 use Rattle.std.proofs.lemmas.List.{map-append}
 use Rattle.histar_script.specs.Lines.{split_word}
 use Rattle.histar_page.specs.declared.kind.Kind.{Kind}
-use Rattle.histar_page.specs.declared.kind.Kind.TheVariants.{BareBy, CallBy, DeniedCall, HiddenBytes, RawCall}
+use Rattle.histar_page.specs.declared.kind.Kind.TheVariants.{BareBy, CallBy, DeniedCall, HiddenBytes, LineId, RawCall}
 use Rattle.histar_page.specs.declared.markup.Markup.{Markup}
-use Rattle.histar_page.specs.declared.markup.Markup.TheVariants.{EndBare, EndCall, EndSession}
+use Rattle.histar_page.specs.declared.markup.Markup.TheVariants.{BeginSummary, EndBare, EndCall, EndSession}
 use Rattle.histar_page.specs.Items.{Item}
 use Rattle.histar_page.specs.Items.Item.{Fixed, Shown}
 use Rattle.histar_page.specs.Callers.{caller, callers}
@@ -142,20 +142,27 @@ kernel_behind number raw_calls explanations raw why =
           (own_raw number raw_calls (whys ++ ending) raw (own_why number explanations ending why tt));
     }
 
+-- what is before a call that can be opened, and before one that can't
+abbrev opened : List (List ℕ) → List ℕ → List Item
+opened script reply = Shown CallBy (caller script reply) ∷ Shown LineId (split_word reply).0 ∷ Fixed BeginSummary ∷ []
+
+abbrev bare : List (List ℕ) → List ℕ → List Item
+bare script reply = Shown BareBy (caller script reply) ∷ Shown LineId (split_word reply).0 ∷ []
+
 -- a turn is its story, with the raw calls and explanations of its number
 turn_part : (script : List (List ℕ)) (before reply : List ℕ) (reasons raw_calls explanations : List (List ℕ))
     → list_all (is_own (split_word reply).0) raw_calls ≡ true → list_all (is_own (split_word reply).0) explanations ≡ true
     → IsPart (story_items script before reply reasons) raw_calls explanations []
     (flat_map (note_items before) (lines_between script before reply)
-    ++ framed_items (caller script reply) (call_items script reply reasons) raw_calls explanations)
+    ++ framed_items (caller script reply) (split_word reply).0 (call_items script reply reasons) raw_calls explanations)
 turn_part script before reply reasons [] [] raw why =
-    turn_with script before reply reasons (Shown BareBy (caller script reply) ∷ []) {behind = Fixed EndBare ∷ []} refl
+    turn_with script before reply reasons (bare script reply) {behind = Fixed EndBare ∷ []} refl
     (record { story = refl; raw = refl; why = refl; others = refl; own = tt })
 turn_part script before reply reasons [] (line ∷ explanations) raw why =
-    turn_with script before reply reasons (Shown CallBy (caller script reply) ∷ []) refl
+    turn_with script before reply reasons (opened script reply) refl
     (kernel_behind (split_word reply).0 [] (line ∷ explanations) raw why)
 turn_part script before reply reasons (line ∷ raw_calls) explanations raw why =
-    turn_with script before reply reasons (Shown CallBy (caller script reply) ∷ []) refl
+    turn_with script before reply reasons (opened script reply) refl
     (kernel_behind (split_word reply).0 (line ∷ raw_calls) explanations raw why)
 
 -- ---- lines without a reply

@@ -13,6 +13,7 @@ pub mod Story
 pub mod Session
 pub mod Files
 pub mod Titles
+pub mod Uses
 pub mod Secrets
 pub mod Flows
 pub mod Views

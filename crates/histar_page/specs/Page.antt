@@ -43,15 +43,11 @@ sources_of texts = record {
   flows = texts.flows.now;
 }
 
--- the title of a session
-abbrev pub title_shown : Sources → List ℕ
-title_shown sources = title_of sources.name (lines_of sources.script)
-
--- the head, with a rule of style for each process that calls, and then the users and groups
+-- the head, with the title of the script and a rule of style for each process that calls, and then the users and groups
 abbrev pub head_shown : Sources → List Item
 head_shown sources =
-    style_items (title_shown sources) (callers (lines_of sources.script) (filter is_reply (lines_of sources.output)))
-    ++ head_items (title_shown sources) sources.name sources.version (lines_of sources.output)
+    style_items (title_of sources.name (lines_of sources.script)) (callers (lines_of sources.script) (filter is_reply (lines_of sources.output)))
+    ++ head_items (title_of sources.name (lines_of sources.script)) sources.name sources.version (lines_of sources.output)
     ++ who_items (lines_of sources.script)
 
 -- the calls of the session
@@ -72,7 +68,7 @@ files_shown sources =
 abbrev pub secrets_shown : Sources → List Item
 secrets_shown sources =
     if is_long sources.secrets then Fixed SecretsLeftOut ∷ []
-    else secrets_items (lines_of sources.secrets) (lines_of sources.titles)
+    else secrets_items (lines_of sources.script) (filter is_reply (lines_of sources.output)) (lines_of sources.secrets) (lines_of sources.titles)
 
 -- the files, the secrets with their titles, the flows and the drawing
 abbrev pub rights_shown : Sources → List Item

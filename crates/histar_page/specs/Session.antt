@@ -4,8 +4,9 @@ use Rattle.std.specs.List.{flat_map}
 use Rattle.histar_flat.specs.Words.{split_at_first}
 use Rattle.histar_script.specs.Lines.{split_word}
 use Rattle.histar_page.specs.declared.kind.Kind.{Kind}
-use Rattle.histar_page.specs.declared.kind.Kind.TheVariants.{OtherLine, RawCall, DeniedCall, HiddenBytes, Explanation, CallBy, BareBy}
-use Rattle.histar_page.specs.declared.markup.Markup.TheVariants.{BeginBehind, BeginBoot, BeginOther, BeginSession, EndBare, EndCall, EndSession}
+use Rattle.histar_page.specs.declared.kind.Kind.TheVariants.{OtherLine, RawCall, DeniedCall, HiddenBytes, Explanation, CallBy, BareBy, LineId}
+use Rattle.histar_page.specs.declared.markup.Markup.TheVariants.{BeginBehind, BeginBoot, BeginOther, BeginSession, BeginSummary, EndBare, EndCall}
+use Rattle.histar_page.specs.declared.markup.Markup.TheVariants.{EndSession}
 use Rattle.histar_page.specs.Items.{Item}
 use Rattle.histar_page.specs.Items.Item.{Fixed, Shown}
 use Rattle.histar_page.specs.Callers.{caller, callers, link_items}
@@ -42,16 +43,17 @@ why_item line = Shown Explanation line
 abbrev pub kernel_items : List (List ℕ) → List (List ℕ) → List Item
 kernel_items raw_calls explanations = Fixed BeginBehind ∷ map raw_item raw_calls ++ map why_item explanations ++ Fixed EndCall ∷ []
 
--- these items of a call of this process with the raw calls and explanations behind it; one without any can't be opened
-abbrev pub framed_items : List ℕ → List Item → List (List ℕ) → List (List ℕ) → List Item
-framed_items by call [] [] = Shown BareBy by ∷ call ++ Fixed EndBare ∷ []
-framed_items by call raw_calls explanations = Shown CallBy by ∷ call ++ kernel_items raw_calls explanations
+-- these items of a call of this process on this line, with the raw calls and explanations behind it; one without any can't be opened
+abbrev pub framed_items : List ℕ → List ℕ → List Item → List (List ℕ) → List (List ℕ) → List Item
+framed_items by number call [] [] = Shown BareBy by ∷ Shown LineId number ∷ call ++ Fixed EndBare ∷ []
+framed_items by number call raw_calls explanations =
+    Shown CallBy by ∷ Shown LineId number ∷ Fixed BeginSummary ∷ call ++ kernel_items raw_calls explanations
 
 -- the comments after the reply before this one; then the call with its reply, and the lines that belong to it
 abbrev pub turn_items : List (List ℕ) → List ℕ → List ℕ → Marked → List Item
 turn_items script before reply own =
     flat_map (note_items before) (lines_between script before reply)
-    ++ framed_items (caller script reply) (call_items script reply own.reasons) own.raw_calls own.explanations
+    ++ framed_items (caller script reply) (split_word reply).0 (call_items script reply own.reasons) own.raw_calls own.explanations
 
 -- ---- the session
 

@@ -27,6 +27,8 @@ pub enum Kind {
     CallBy,
     /// The process of a call with nothing behind it.
     BareBy,
+    /// The number of a line, as the name of its place.
+    LineId,
     LineNumber,
     /// The number of a line without a reply, such as that of boot.
     OtherLine,
@@ -80,6 +82,16 @@ pub enum Kind {
     Trusted,
     /// A process that is confined.
     Confined,
+    /// A process that is neither.
+    Outsider,
+    /// The process of a call that read at the path of a secret.
+    ReadBy,
+    /// The process of a call that wrote there.
+    WrittenBy,
+    /// The number of the line of such a call, as the place to which a link leads.
+    UseAddress,
+    /// The number of the line of such a call, as it is seen.
+    UseLine,
     /// A user as whom a process that logs in may read a file.
     LoginReader,
     /// The path of a file that the titles after it are on.
@@ -159,6 +171,9 @@ impl Kind {
             Kind::Secret => b"<code>",
             Kind::Trusted => b"<span class=\"trusted\">trusted <b>",
             Kind::Confined => b"<span class=\"confined\">confined <b>",
+            Kind::Outsider => b"<span class=\"outside\">outside <b>",
+            Kind::ReadBy | Kind::WrittenBy => b"<span class=\"use\">",
+            Kind::UseAddress => b"<a href=\"#line-",
             Kind::LoginReader => b"<span class=\"login\">login <b>",
             Kind::LeakPath => b"<p class=\"titled\"><code>",
             Kind::LeakTitle => b"<p class=\"leak\"><code>",
@@ -179,7 +194,9 @@ impl Kind {
             | Kind::EdgeFile
             | Kind::RuleCaller
             | Kind::LinkAddress
-            | Kind::LinkName => b"",
+            | Kind::LinkName
+            | Kind::LineId
+            | Kind::UseLine => b"",
             Kind::ProcessNode => b"<g class=\"node\" transform=\"translate(8 ",
             Kind::FileNode => b"<g class=\"node\" transform=\"translate(520 ",
             Kind::NodeName => b"<text x=\"8\" y=\"18\">",
@@ -202,6 +219,7 @@ impl Kind {
             | Kind::Version
             | Kind::Trusted
             | Kind::Confined
+            | Kind::Outsider
             | Kind::LoginReader
             | Kind::UserName
             | Kind::GroupName
@@ -209,8 +227,11 @@ impl Kind {
             Kind::LinkTarget => b"\" href=\"#by-",
             Kind::LinkAddress => b"\">by ",
             Kind::LinkName => b"</a>\n",
-            Kind::CallBy => b"\">\n<summary>",
-            Kind::BareBy => b"\">",
+            Kind::CallBy | Kind::BareBy => b"\" id=\"line-",
+            Kind::LineId | Kind::UseAddress => b"\">",
+            Kind::ReadBy => b" read here at line ",
+            Kind::WrittenBy => b" wrote here at line ",
+            Kind::UseLine => b"</a></span>\n",
             Kind::LineNumber | Kind::Reason => b"</span>\n",
             Kind::LoginBy => b"",
             Kind::LoginAs => b" &bull;&bull;&bull;&bull;</code>\n",

@@ -22,6 +22,7 @@ mod secrets;
 mod session;
 mod story;
 mod titles;
+mod uses;
 mod views;
 mod who;
 
@@ -32,3 +33,4 @@ pub use page::{Texts, page_text, pages_nest};
 pub use piece::Piece;
 pub use places::{MOST_DRAWN_FILES, MOST_DRAWN_PROCESSES, nodes_are_apart};
 pub use session::sessions_are_shown;
+pub use uses::{MOST_FOLLOWED_PROCESSES, MOST_FOLLOWED_SECRETS};

@@ -28,6 +28,7 @@ summary::-webkit-details-marker { display: none }
 summary::before { content: '+'; color: var(--dim); font-family: ui-monospace, monospace }
 details[open] > summary::before { content: '-' }
 .bare::before { content: '' }
+details:target > summary, .bare:target { background: var(--panel) }
 #refusals:target ~ .other, #refusals:target ~ details:not(:has(.refusal)), #refusals:target ~ .bare:not(:has(.refusal)) { display: none }
 .other > summary { display: block; color: var(--dim) }
 .other > summary::before { margin-right: .6rem }
@@ -64,13 +65,20 @@ th.job, td.job { background: var(--job) }
 .rights small + * + b { background: var(--r) }
 .rights small + * + * + b { background: var(--w) }
 .rights small + * + * + * + b { background: var(--d) }
-.secret { display: flex; flex-wrap: wrap; gap: .1rem .6rem; align-items: baseline; margin: 0; padding: .3rem 0; border-top: 1px solid var(--line) }
-.secret code { flex: 0 1 20rem; min-width: 12rem }
-.secret span { padding: 0 .4rem; border-radius: .2rem; font-size: .85rem; color: var(--letter) }
+.secret { display: grid; grid-template-columns: repeat(3, minmax(0, 1fr)); grid-auto-flow: dense; gap: .2rem .6rem; place-items: start }
+.secret { max-width: 46rem; margin: .6rem 0 0; padding: .3rem 0; border-top: 1px solid var(--line) }
+.secret code { grid-column: 1 / -1 }
+.secret span { padding: 0 .4rem; border-radius: .2rem; font-size: .85rem; color: var(--letter); overflow-wrap: anywhere }
 .secret b { font-family: ui-monospace, monospace; font-weight: normal }
-.trusted { background: var(--w) }
-.confined { background: var(--r) }
+.trusted { grid-column: 1; background: var(--w) }
+.confined { grid-column: 2; background: var(--r) }
+.outside, .login { grid-column: 3 }
+.outside { background: var(--panel) }
 .login { background: var(--s) }
+.sentence { margin: 0; max-width: 46rem; font-size: .9rem }
+.sentence > span:first-child { display: block; color: var(--dim) }
+.sentence code { color: var(--ink) }
+.use { display: inline-block; margin-right: .8rem }
 .titled, .leak { margin: 0 }
 .titled { padding-top: .3rem; border-top: 1px solid var(--line) }
 .leak { padding-left: 1.2rem; color: var(--dim) }
@@ -120,6 +128,7 @@ pub enum Markup {
     BeginSession,
     BeginBoot,
     BeginOther,
+    BeginSummary,
     BeginBehind,
     EndCall,
     EndBare,
@@ -137,6 +146,9 @@ pub enum Markup {
     NoSecrets,
     OnSecrets,
     BeginSecret,
+    BeginLaw,
+    UnlessTold,
+    UnlessLogin,
     EndSecret,
     OnTitles,
     NoTitles,
@@ -183,6 +195,7 @@ impl Markup {
 ",
             Markup::BeginBoot => b"<details class=\"other\">\n<summary>Boot, line ",
             Markup::BeginOther => b"<details class=\"other\">\n<summary>Raw calls of line ",
+            Markup::BeginSummary => b"\n<summary>",
             Markup::BeginBehind => b"</summary>\n<div class=\"behind\">\n",
             Markup::EndCall => b"</div>\n</details>\n",
             Markup::EndBare => b"</div>\n",
@@ -216,6 +229,12 @@ impl Markup {
             Markup::OnSecrets =>
                 b"<p>On whom each file rests at the end that isn't for everyone to read: the trusted could pass it on, the confined can't, and who logs in as one of these users may read it.</p>\n",
             Markup::BeginSecret => b"<p class=\"secret\">\n",
+            Markup::BeginLaw => b"</p>
+<p class=\"sentence\"><span>After the session nobody outside learns what is in ",
+            Markup::UnlessTold =>
+                b"unless a trusted process makes a call, or they log in as a reader (<code>outsiders_learn_nothing</code>).</span>\n",
+            Markup::UnlessLogin =>
+                b"unless they log in as a reader (<code>outsiders_learn_nothing</code>).</span>\n",
             Markup::EndSecret => b"</p>\n",
             Markup::OnTitles =>
                 b"<h3>How each is revealed or changed</h3>\n<p>Below each file: which processes reveal it and to whom, which users read it after a login, and who changes it. These are the titles of what <code>histar leak</code> prints of the file, with the calls.</p>\n",

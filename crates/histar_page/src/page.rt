@@ -119,7 +119,13 @@ fn secrets_of<'a>(alloc: Global, texts: &Texts<'a>) -> Result<Vec<Piece<'a>>, Al
     if is_long(texts.secrets) {
         return left_out(alloc, Markup::SecretsLeftOut);
     }
-    secrets_pieces(alloc, texts.secrets, texts.titles)
+    secrets_pieces(
+        alloc,
+        texts.script,
+        texts.output,
+        texts.secrets,
+        texts.titles,
+    )
 }
 
 /// Returns the piece of a part that is left out, which says so.

@@ -1,8 +1,10 @@
 //! The session on a page: its story, and after each call its raw calls.
-ghost use Rattle.std.specs.Prelude.{◌≡◌, ◌≤◌, ◌+◌, ◌++◌, [], drop, length, IfOk, OnOk};
-ghost use Rattle.histar_script.specs.Lines.{lines_of};
+ghost use Rattle.std.specs.Prelude.{◌≡◌, ◌≤◌, ◌+◌, ◌++◌, ◌∷◌, [], drop, length, IfOk, OnOk};
+ghost use Rattle.histar_script.specs.Lines.{lines_of, split_word};
 ghost use Rattle.histar_page.specs.Texts.{texts};
 ghost use Rattle.histar_page.specs.Items.{items_of};
+ghost use Rattle.histar_page.specs.Items.Item.{Shown};
+ghost use Rattle.histar_page.specs.declared.kind.Kind.TheVariants.{LineId};
 ghost use Rattle.histar_page.specs.Callers.{callers};
 ghost use Rattle.histar_page.specs.Laws.{SessionsAreShown};
 ghost use Rattle.histar_page.specs.Order.{past_own, taken_own};
@@ -14,7 +16,7 @@ use crate::callers::{caller, callers_in};
 use crate::kind::Kind;
 use crate::lines::{LineKind, among, lines_in, own_count};
 use crate::markup::Markup;
-use crate::piece::{Piece, add, fix, show};
+use crate::piece::{Piece, add, fix};
 use crate::story::{lines_after, lines_between, push_answer, push_notes};
 use crate::views::{BOOT, View, push_each};
 use histar_script::split_word;
@@ -198,13 +200,33 @@ fn push_turn<'a>(
     push_notes(pieces, lines_between(script, before, reply), before)?;
     let by = caller(script, reply);
     if own.raw_calls.is_empty() && own.explanations.is_empty() {
-        show(pieces, Kind::BareBy, by)?;
+        frame(pieces, Kind::BareBy, by, reply)?;
         push_call(pieces, script, reply, own.reasons)?;
         return fix(pieces, Markup::EndBare);
     }
-    show(pieces, Kind::CallBy, by)?;
+    frame(pieces, Kind::CallBy, by, reply)?;
+    fix(pieces, Markup::BeginSummary)?;
     push_call(pieces, script, reply, own.reasons)?;
     push_kernel(pieces, own.raw_calls, own.explanations)
+}
+
+/// Adds the beginning of the frame of a call: its process, and the number of its line.
+fn frame<'a>(
+    pieces: &mut Vec<Piece<'a>>,
+    kind: Kind,
+    by: &'a [u8],
+    reply: &'a [u8],
+) -> Result<(), AllocError>
+    ensures { OnOk result (items_of pieces.new.items ≡ items_of pieces.old.items
+        ++ Shown kind by.now ∷ Shown LineId (split_word reply.now).0 ∷ []) }
+{
+    add(
+        pieces,
+        &[
+            Piece::Shown(kind, by),
+            Piece::Shown(Kind::LineId, split_word(reply).0),
+        ],
+    )
 }
 
 /// Adds a call with its reply, and these reasons.
