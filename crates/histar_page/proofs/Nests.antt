@@ -19,13 +19,15 @@ use Rattle.histar_page.specs.declared.kind.Kind.TheVariants.{LeakTitle, LineNumb
 use Rattle.histar_page.specs.declared.kind.Kind.TheVariants.{NodeName, OtherLine, Path, Process, ProcessBand, ProcessNode, Prose, RawCall, ReadEdge}
 use Rattle.histar_page.specs.declared.kind.Kind.TheVariants.{Reason, Refusal, Refusals, Reply, Secret, Stat, Title, Trusted, UserName, Version}
 use Rattle.histar_page.specs.declared.kind.Kind.TheVariants.{ColumnUser, Withheld, WriteEdge}
+use Rattle.histar_page.specs.declared.kind.Kind.TheVariants.{BareBy, CallBy, LineId, LinkAddress, LinkName, LinkTarget, Outsider}
+use Rattle.histar_page.specs.declared.kind.Kind.TheVariants.{ReadBy, RuleAddress, RuleCaller, UseAddress, UseLine, WrittenBy}
 use Rattle.histar_page.specs.declared.markup.Markup.{Markup}
-use Rattle.histar_page.specs.declared.markup.Markup.TheVariants.{Arrows, Begin, BeginBare, BeginBehind, BeginBoot, BeginCall, BeginDrawing}
+use Rattle.histar_page.specs.declared.markup.Markup.TheVariants.{Arrows, Begin, BeginBehind, BeginBoot, BeginDrawing}
 use Rattle.histar_page.specs.declared.markup.Markup.TheVariants.{BeginFiles, BeginFlows, BeginLabels, BeginOther, BeginRow, BeginSecret, BeginSecrets}
 use Rattle.histar_page.specs.declared.markup.Markup.TheVariants.{BeginSession, BeginWho, End, EndBare, EndCall, EndCell, EndColumns, EndDrawing}
 use Rattle.histar_page.specs.declared.markup.Markup.TheVariants.{EndFiles, EndFlows, EndHead, EndRow, EndSecret, EndSecrets, EndSession, EndUsers}
-use Rattle.histar_page.specs.declared.markup.Markup.TheVariants.{FilesLeftOut, SecretsLeftOut}
-use Rattle.histar_page.specs.declared.markup.Markup.TheVariants.{EndWho, NoSecrets, NoTitles, NotDrawn, OnFlows, OnSecrets, OnTitles, Style}
+use Rattle.histar_page.specs.declared.markup.Markup.TheVariants.{BeginLaw, BeginSummary, FilesLeftOut, SecretsLeftOut, UnlessLogin, UnlessTold}
+use Rattle.histar_page.specs.declared.markup.Markup.TheVariants.{EndStyle, EndWho, NoSecrets, NoTitles, NotDrawn, OnFlows, OnSecrets, OnTitles, Style}
 use Rattle.histar_page.specs.Items.{Item}
 use Rattle.histar_page.specs.Items.Item.{Fixed, Shown}
 use Rattle.histar_page.specs.Page.{is_long}
@@ -33,14 +35,16 @@ use Rattle.histar_page.specs.Rendering.{closing, item_text, markup_text, opening
 use Rattle.histar_page.specs.Lines.{after_word, call_on, has_mark, is_denied, is_explanation, is_raw_call, is_reason, is_refused, is_reply}
 use Rattle.histar_page.specs.Lines.{mark_number, without_first, words_of}
 use Rattle.histar_page.specs.Order.{Marked, later_marked, own_marked, past_own, taken_own}
-use Rattle.histar_page.specs.Head.{head_items, title_of}
+use Rattle.histar_page.specs.Callers.{caller, callers, link_items, rule_items}
+use Rattle.histar_page.specs.Head.{head_items, style_items, title_of}
 use Rattle.histar_page.specs.Who.{declared_items, group_member_item, who_items}
 use Rattle.histar_page.specs.Story.{is_login, line_number, lines_between, note_items, prose_items, reason_item, reply_kind, shown_call, call_items}
-use Rattle.histar_page.specs.Session.{at_bytes, calls_items, framed_items, hides_bytes, kernel_items, other_call_items, other_why_items, raw_item}
-use Rattle.histar_page.specs.Session.{turns_from, why_item}
+use Rattle.histar_page.specs.Session.{at_bytes, begin_items, calls_items, framed_items, hides_bytes, kernel_items, other_call_items}
+use Rattle.histar_page.specs.Session.{other_why_items, raw_item, turns_from, why_item}
 use Rattle.histar_page.specs.Files.{cells_items, column_items, files_items, first_flag, job_columns, later_flags, line_items, right_item, row_items}
 use Rattle.histar_page.specs.Files.{runners_of, stat_item, user_item}
-use Rattle.histar_page.specs.Secrets.{files_and_titles, member_item, note_on, note_on_titles, secret_items, secret_line_items}
+use Rattle.histar_page.specs.Secrets.{followed_items, lines_items, member_item, note_on, note_on_titles, secret_items, secrets_items}
+use Rattle.histar_page.specs.Uses.{are_followed, condition_of, has_role, is_insider, outsider_items, reply_items, use_items}
 use Rattle.histar_page.specs.Titles.{title_item}
 use Rattle.histar_page.specs.Flows.{flow_item, flows_items}
 use Rattle.histar_page.specs.Places.{drawn_height, file_top, half_height, process_top}
@@ -172,14 +176,26 @@ shown_at kind text {name = name} {inner} a b =
 abbrev main : List (List ℕ)
 main = codes "main" ∷ codes "body" ∷ codes "html" ∷ []
 
-head_nests : (title name version : List ℕ) (output : List (List ℕ)) → Leads (head_items title name version output) (within []) (within main)
+-- the elements that the style leaves begun
+abbrev styled : List (List ℕ)
+styled = codes "style" ∷ codes "head" ∷ codes "html" ∷ []
+
+rule_nests : (process : List ℕ) → Leads (rule_items process) (within styled) (within styled)
+rule_nests process = step (shown RuleAddress process refl refl) (step (shown RuleCaller process refl refl) nothing)
+
+style_nests : (title : List ℕ) (processes : List (List ℕ)) → Leads (style_items title processes) (within []) (within styled)
+style_nests title processes =
+    step (fixed Begin refl) (step (shown Title title refl refl) (step (fixed Style refl)
+    (each rule_items (within styled) rule_nests processes)))
+
+head_nests : (title name version : List ℕ) (output : List (List ℕ)) → Leads (head_items title name version output) (within styled) (within main)
 head_nests title name version output =
     let replies = filter is_reply output in
-    step (fixed Begin refl) (step (shown Title title refl refl) (step (fixed Style refl) (step (shown MainTitle title refl refl)
-    (step (shown FileName name refl refl) (step (shown Calls (decimal (length replies)) refl refl)
+    step (fixed EndStyle refl) (step (shown MainTitle title refl refl) (step (shown FileName name refl refl)
+    (step (shown Calls (decimal (length replies)) refl refl)
     (step (shown Refusals (decimal (length (filter is_refused replies))) refl refl)
     (step (shown Denials (decimal (length (filter is_denied (filter is_raw_call output)))) refl refl)
-    (step (shown Version version refl refl) (step (fixed EndHead refl) nothing)))))))))
+    (step (shown Version version refl refl) (step (fixed EndHead refl) nothing)))))))
 
 -- ---- the users and groups
 
@@ -247,23 +263,30 @@ why_nests s line = shown Explanation line refl refl
 abbrev behind : List (List ℕ) → Reader
 behind s = within (codes "div" ∷ codes "details" ∷ s)
 
-framed_nests : (s : List (List ℕ)) (call : List Item) → ((inner : List (List ℕ)) → Leads call (within inner) (within inner))
-    → (raw_calls explanations : List (List ℕ)) → Leads (framed_items call raw_calls explanations) (within s) (within s)
-framed_nests s call nests raw_calls explanations = by raw_calls explanations
+-- items leave a reader where it was, in any elements
+abbrev NestAnywhere : List Item → Type 0
+NestAnywhere items = (s : List (List ℕ)) → Leads items (within s) (within s)
+
+framed_nests : (s : List (List ℕ)) (by number : List ℕ) (call : List Item) → NestAnywhere call → (raw_calls explanations : List (List ℕ))
+    → Leads (framed_items by number call raw_calls explanations) (within s) (within s)
+framed_nests s by number call nests raw_calls explanations = cases raw_calls explanations
   where
     opened : (raw_calls explanations : List (List ℕ))
-        → Leads (Fixed BeginCall ∷ call ++ kernel_items raw_calls explanations) (within s) (within s)
+        → Leads (Shown CallBy by ∷ Shown LineId number ∷ Fixed BeginSummary ∷ call ++ kernel_items raw_calls explanations) (within s)
+        (within s)
     opened raw_calls explanations =
-        step (fixed BeginCall refl) (joined (nests (codes "summary" ∷ codes "details" ∷ s))
-        (step (fixed BeginBehind refl)
+        step (shown_at CallBy by refl refl) (step (shown_at LineId number refl refl) (step (fixed BeginSummary refl)
+        (joined (nests (codes "summary" ∷ codes "details" ∷ s)) (step (fixed BeginBehind refl)
         (joined (joined (mapped raw_item (behind s) (raw_nests (codes "div" ∷ codes "details" ∷ s)) raw_calls)
         (mapped why_item (behind s) (why_nests (codes "div" ∷ codes "details" ∷ s)) explanations))
-        (step (fixed EndCall refl) nothing))))
+        (step (fixed EndCall refl) nothing))))))
 
-    by : (raw_calls explanations : List (List ℕ)) → Leads (framed_items call raw_calls explanations) (within s) (within s)
-    by [] [] = step (fixed BeginBare refl) (joined (nests (codes "div" ∷ s)) (step (fixed EndBare refl) nothing))
-    by [] (line ∷ explanations) = opened [] (line ∷ explanations)
-    by (line ∷ raw_calls) explanations = opened (line ∷ raw_calls) explanations
+    cases : (raw_calls explanations : List (List ℕ)) → Leads (framed_items by number call raw_calls explanations) (within s) (within s)
+    cases [] [] =
+        step (shown_at BareBy by refl refl) (step (shown_at LineId number refl refl)
+        (joined (nests (codes "div" ∷ s)) (step (fixed EndBare refl) nothing)))
+    cases [] (line ∷ explanations) = opened [] (line ∷ explanations)
+    cases (line ∷ raw_calls) explanations = opened (line ∷ raw_calls) explanations
 
 turns_nest : (s : List (List ℕ)) (script : List (List ℕ)) (before : List ℕ) (replies : List (List ℕ)) (marked : Marked)
     → Leads (turns_from script before replies marked) (within s) (within s)
@@ -285,20 +308,26 @@ turns_nest s script before (reply ∷ replies) marked =
     let own = own_marked (split_word reply).0 marked in
     joined
     (joined (each (note_items before) (within s) (note_nests s before) (lines_between script before reply))
-    (framed_nests s (call_items script reply own.reasons) (λ inner. answered_nests inner script reply own.reasons) own.raw_calls own.explanations))
+    (framed_nests s (caller script reply) (split_word reply).0 (call_items script reply own.reasons)
+    (λ inner. answered_nests inner script reply own.reasons) own.raw_calls own.explanations))
     (turns_nest s script reply replies (later_marked (split_word reply).0 marked))
 
+link_nests : (s : List (List ℕ)) (process : List ℕ) → Leads (link_items process) (within s) (within s)
+link_nests s process =
+    step (shown_at LinkTarget process refl refl) (step (shown_at LinkAddress process refl refl) (step (shown LinkName process refl refl) nothing))
+
 session_nests : (s : List (List ℕ)) (script replies : List (List ℕ)) (marked : Marked)
-    → Leads (calls_items script replies marked) (within s) (within s)
+    → Leads (begin_items (callers script replies) ++ calls_items script replies marked) (within s) (within s)
 session_nests s script replies marked =
     let inner = codes "section" ∷ s in
     let boot = taken_own (codes "0") marked.raw_calls in
-    joined
+    joined (step (fixed BeginSession refl) (each link_items (within inner) (link_nests inner) (callers script replies)))
     (joined
-    (step (fixed BeginSession refl) (step (fixed BeginBoot refl) (step (shown OtherLine (codes "0") refl refl) (step (fixed BeginBehind refl)
-    (joined (mapped raw_item (behind inner) (raw_nests (codes "div" ∷ codes "details" ∷ inner)) boot) (step (fixed EndCall refl) nothing))))))
+    (joined
+    (step (fixed BeginBoot refl) (step (shown OtherLine (codes "0") refl refl) (step (fixed BeginBehind refl)
+    (joined (mapped raw_item (behind inner) (raw_nests (codes "div" ∷ codes "details" ∷ inner)) boot) (step (fixed EndCall refl) nothing)))))
     (turns_nest inner script [] replies (record marked { raw_calls = past_own (codes "0") marked.raw_calls })))
-    (step (fixed EndSession refl) nothing)
+    (step (fixed EndSession refl) nothing))
 
 -- ---- the files
 
@@ -377,6 +406,52 @@ secret_nests s (path ∷ members) =
     step (fixed BeginSecret refl) (step (shown Secret path refl refl)
     (joined (mapped member_item (within inner) (member_nests inner) members) (step (fixed EndSecret refl) nothing)))
 
+outsider_nests : (s : List (List ℕ)) (members : List (List ℕ)) (runner : List ℕ) → Leads (outsider_items members runner) (within s) (within s)
+outsider_nests s members runner =
+    by_if (list_any (is_insider (process_of runner)) members) (λ (items : List Item). Leads items (within s) (within s)) nothing
+    (step (shown Outsider (process_of runner) refl refl) nothing)
+
+condition_nests : (s : List (List ℕ)) (members : List (List ℕ))
+    → Reads (item_text (Fixed (condition_of members))) (within (codes "span" ∷ s)) (within s)
+condition_nests s members =
+    let P : Markup → Type 0 = λ markup. Reads (item_text (Fixed markup)) (within (codes "span" ∷ s)) (within s) in
+    by_if (list_any (has_role (codes "trusted")) members) P (fixed UnlessTold refl) (fixed UnlessLogin refl)
+
+reply_nests : (s : List (List ℕ)) (script : List (List ℕ)) (path reply : List ℕ) → Leads (reply_items script path reply) (within s) (within s)
+reply_nests s script path reply =
+    let process = caller script reply in
+    let number = (split_word reply).0 in
+    let words = after_word (call_on script reply) in
+    let word = (split_word words).0 in
+    let P : Option Kind → Type 0 = λ used. Leads (use_items used process number) (within s) (within s) in
+    let line : Leads (Shown UseAddress number ∷ Shown UseLine number ∷ []) (within (codes "span" ∷ s)) (within s) =
+    step (shown_at UseAddress number refl refl) (step (shown UseLine number refl refl) nothing) in
+    by_if (is_refused reply || not (bytes_eq (split_word (after_word words)).0 path)) P nothing
+    (by_if (bytes_eq word (codes "read")) P (step (shown ReadBy process refl refl) line)
+    (by_if (bytes_eq word (codes "write") || bytes_eq word (codes "append")) P (step (shown WrittenBy process refl refl) line) nothing))
+
+followed_nests : (s : List (List ℕ)) (script replies runners words : List (List ℕ))
+    → Leads (followed_items script replies runners words) (within s) (within s)
+followed_nests s script replies runners [] = secret_nests s []
+followed_nests s script replies runners (path ∷ members) =
+    let inner = codes "p" ∷ s in
+    let file : Leads (Fixed BeginSecret ∷ Shown Secret path ∷ map member_item members) (within s) (within inner) =
+    step (fixed BeginSecret refl) (step (shown Secret path refl refl) (mapped member_item (within inner) (member_nests inner) members)) in
+    let outside = each (outsider_items members) (within inner) (outsider_nests inner members) runners in
+    let uses = each (reply_items script path) (within inner) (reply_nests inner script path) replies in
+    let sentence : Leads (Fixed BeginLaw ∷ Shown Secret path ∷ Fixed (condition_of members) ∷ flat_map (reply_items script path) replies)
+    (within inner) (within inner) =
+    step (fixed BeginLaw refl) (step (shown Secret path refl refl) (step (condition_nests inner members) uses)) in
+    joined (joined (joined file outside) sentence) (step (fixed EndSecret refl) nothing)
+
+lines_nest : (s : List (List ℕ)) (script replies runners files : List (List ℕ))
+    → Leads (lines_items script replies runners files) (within s) (within s)
+lines_nest s script replies runners files =
+    by_if (are_followed files runners) (λ (items : List Item). Leads items (within s) (within s))
+    (each (λ line. followed_items script replies runners (words_of line)) (within s)
+    (λ line. followed_nests s script replies runners (words_of line)) files)
+    (each (λ line. secret_items (words_of line)) (within s) (λ line. secret_nests s (words_of line)) files)
+
 note_on_nests : (s : List (List ℕ)) (files : List (List ℕ)) → Reads (item_text (Fixed (note_on files))) (within s) (within s)
 note_on_nests s [] = fixed NoSecrets refl
 note_on_nests s (file ∷ files) = fixed OnSecrets refl
@@ -391,12 +466,13 @@ title_nests s line =
     by_if (has_mark 32 line) (λ (kind : Kind). Reads (item_text (Shown kind line)) (within s) (within s))
     (shown LeakTitle line refl refl) (shown LeakPath line refl refl)
 
-secrets_nest : (s : List (List ℕ)) (files titles : List (List ℕ)) → Leads (files_and_titles files titles) (within s) (within s)
-secrets_nest s files titles =
+secrets_nest : (s : List (List ℕ)) (script replies lines titles : List (List ℕ))
+    → Leads (secrets_items script replies lines titles) (within s) (within s)
+secrets_nest s script replies lines titles =
     let inner = codes "section" ∷ s in
+    let files = without_first lines in
     step (fixed BeginSecrets refl) (step (note_on_nests inner files)
-    (joined
-    (joined (each secret_line_items (within inner) (λ line. secret_nests inner (words_of line)) files) (on_titles_nest inner files titles))
+    (joined (joined (lines_nest inner script replies (runners_of lines) files) (on_titles_nest inner files titles))
     (joined (mapped title_item (within inner) (title_nests inner) titles) (step (fixed EndSecrets refl) nothing))))
 
 -- ---- the flows
@@ -489,7 +565,10 @@ pub pages_nest : PagesNest
 pages_nest sources =
     let script = lines_of sources.script in
     let output = lines_of sources.output in
-    let head = joined (head_nests (title_of sources.name script) sources.name sources.version output) (who_nests main script) in
+    let title = title_of sources.name script in
+    let head = joined
+    (joined (style_nests title (callers script (filter is_reply output))) (head_nests title sources.name sources.version output))
+    (who_nests main script) in
     let session = session_nests main script (filter is_reply output) (record {
       reasons = filter is_reason (lines_of sources.reasons);
       raw_calls = filter is_raw_call output;
@@ -499,7 +578,7 @@ pages_nest sources =
     let files = by_if (is_long sources.table) kept (step (fixed FilesLeftOut refl) nothing)
     (files_nest main (jobs_of script output) (runners_of (lines_of sources.secrets)) (lines_of sources.table)) in
     let secrets = by_if (is_long sources.secrets) kept (step (fixed SecretsLeftOut refl) nothing)
-    (secrets_nest main (without_first (lines_of sources.secrets)) (lines_of sources.titles)) in
+    (secrets_nest main script (filter is_reply output) (lines_of sources.secrets) (lines_of sources.titles)) in
     let rights = joined (joined (joined files secrets) (flows_nest main (lines_of sources.flows)))
     (drawing_nests script output (lines_of sources.table)) in
     (joined (joined head session) rights).leads

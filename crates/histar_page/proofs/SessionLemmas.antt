@@ -8,19 +8,20 @@ use Rattle.std.proofs.lemmas.Slice.Eq.{bytes_eq-Decides}
 use Rattle.std.proofs.lemmas.List.{map-append}
 use Rattle.histar_script.specs.Lines.{split_word}
 use Rattle.histar_page.specs.declared.kind.Kind.{Kind}
-use Rattle.histar_page.specs.declared.kind.Kind.TheVariants.{RawCall, DeniedCall, HiddenBytes}
+use Rattle.histar_page.specs.declared.kind.Kind.TheVariants.{BareBy, CallBy, DeniedCall, HiddenBytes, LineId, RawCall}
 use Rattle.histar_page.specs.declared.markup.Markup.{Markup}
-use Rattle.histar_page.specs.declared.markup.Markup.TheVariants.{BeginBare, BeginCall, EndBare, EndCall, EndSession}
+use Rattle.histar_page.specs.declared.markup.Markup.TheVariants.{BeginSummary, EndBare, EndCall, EndSession}
 use Rattle.histar_page.specs.Items.{Item}
 use Rattle.histar_page.specs.Items.Item.{Fixed, Shown}
+use Rattle.histar_page.specs.Callers.{caller, callers}
 use Rattle.histar_page.specs.Laws.{AreOwn, SessionsAreShown, has_kind, is_other_kind, is_raw_kind, is_why_kind, of_kinds, other_item}
 use Rattle.histar_page.specs.Lines.{is_denied, is_explanation, is_own, is_raw_call, is_reason, is_reply, mark_number}
 use Rattle.histar_page.specs.Order.{Marked, later_marked, own_marked, past_own, taken_own}
-use Rattle.histar_page.specs.Session.{at_bytes, boot_items, calls_items, framed_items, hides_bytes, kernel_items, other_call_items, other_why_items}
-use Rattle.histar_page.specs.Session.{raw_item, raw_kind, turn_items, turns_from, why_item}
+use Rattle.histar_page.specs.Session.{at_bytes, begin_items, boot_items, calls_items, framed_items, hides_bytes, kernel_items}
+use Rattle.histar_page.specs.Session.{other_call_items, other_why_items, raw_item, raw_kind, turn_items, turns_from, why_item}
 use Rattle.histar_page.specs.Story.{is_story_kind, line_number, lines_between, note_items, story_from, call_items, story_items}
 use Rattle.histar_page.proofs.OwnLemmas.{boot_alone, other_numbers, own_whole, session_numbers, taken_pass}
-use Rattle.histar_page.proofs.StoryLemmas.{IsBehind, IsPart, never, notes_are, of-append, turn_with}
+use Rattle.histar_page.proofs.StoryLemmas.{AreAside, IsBehind, IsPart, aside_part, never, notes_are, of-append, turn_with}
 
 -- ---- kinds
 
@@ -141,18 +142,28 @@ kernel_behind number raw_calls explanations raw why =
           (own_raw number raw_calls (whys ++ ending) raw (own_why number explanations ending why tt));
     }
 
+-- what is before a call that can be opened, and before one that can't
+abbrev opened : List (List ℕ) → List ℕ → List Item
+opened script reply = Shown CallBy (caller script reply) ∷ Shown LineId (split_word reply).0 ∷ Fixed BeginSummary ∷ []
+
+abbrev bare : List (List ℕ) → List ℕ → List Item
+bare script reply = Shown BareBy (caller script reply) ∷ Shown LineId (split_word reply).0 ∷ []
+
 -- a turn is its story, with the raw calls and explanations of its number
 turn_part : (script : List (List ℕ)) (before reply : List ℕ) (reasons raw_calls explanations : List (List ℕ))
     → list_all (is_own (split_word reply).0) raw_calls ≡ true → list_all (is_own (split_word reply).0) explanations ≡ true
     → IsPart (story_items script before reply reasons) raw_calls explanations []
-    (flat_map (note_items before) (lines_between script before reply) ++ framed_items (call_items script reply reasons) raw_calls explanations)
+    (flat_map (note_items before) (lines_between script before reply)
+    ++ framed_items (caller script reply) (split_word reply).0 (call_items script reply reasons) raw_calls explanations)
 turn_part script before reply reasons [] [] raw why =
-    turn_with script before reply reasons BeginBare {behind = Fixed EndBare ∷ []}
+    turn_with script before reply reasons (bare script reply) {behind = Fixed EndBare ∷ []} refl
     (record { story = refl; raw = refl; why = refl; others = refl; own = tt })
 turn_part script before reply reasons [] (line ∷ explanations) raw why =
-    turn_with script before reply reasons BeginCall (kernel_behind (split_word reply).0 [] (line ∷ explanations) raw why)
+    turn_with script before reply reasons (opened script reply) refl
+    (kernel_behind (split_word reply).0 [] (line ∷ explanations) raw why)
 turn_part script before reply reasons (line ∷ raw_calls) explanations raw why =
-    turn_with script before reply reasons BeginCall (kernel_behind (split_word reply).0 (line ∷ raw_calls) explanations raw why)
+    turn_with script before reply reasons (opened script reply) refl
+    (kernel_behind (split_word reply).0 (line ∷ raw_calls) explanations raw why)
 
 -- ---- lines without a reply
 
@@ -245,14 +256,20 @@ session_part script replies marked =
     (sym (append-nil marked.explanations)) (ap (λ (l : List (List ℕ)). zero ∷ l) (sym (append-nil others)))
     (parts (parts (boot_part (taken_own zero raw) (taken_pass zero raw)) (turns_part script [] replies later)) ending)
 
+-- the links to processes are no story
+links_aside : (processes : List (List ℕ)) → AreAside (begin_items processes)
+links_aside [] = refl
+links_aside (process ∷ processes) = links_aside processes
+
 -- each session is one of its script, its output and its reasons
 pub sessions_shown : SessionsAreShown
 sessions_shown script output reasons =
-    let is = session_part script (filter is_reply output) (record {
+    let processes = callers script (filter is_reply output) in
+    let is = parts (aside_part (begin_items processes) (links_aside processes)) (session_part script (filter is_reply output) (record {
       reasons = filter is_reason reasons;
       raw_calls = filter is_raw_call output;
       explanations = filter is_explanation output;
-    }) in
+    })) in
     record {
       story = is.story;
       raw_calls = is.raw;

@@ -11,7 +11,6 @@ use Rattle.histar_script.specs.Lines.{split_word}
 use Rattle.histar_page.specs.declared.kind.Kind.{Kind}
 use Rattle.histar_page.specs.declared.kind.Kind.TheVariants.{LineNumber, Call, LoginBy, LoginAs, Reply, Refusal, Reason, Prose, Heading}
 use Rattle.histar_page.specs.declared.kind.Kind.TheVariants.{Mark, ClaimMet, ClaimMissed}
-use Rattle.histar_page.specs.declared.markup.Markup.{Markup}
 use Rattle.histar_page.specs.Items.{Item}
 use Rattle.histar_page.specs.Items.Item.{Fixed, Shown}
 use Rattle.histar_page.specs.Laws.{AreOwn, has_kind, is_number_kind, is_other_kind, is_raw_kind, is_why_kind, of_kinds, other_item}
@@ -91,6 +90,53 @@ own_plain number (Shown kind text ∷ xs) ys h own =
     let is = apart kind parts.0 in
     (λ raw. never (sym (ap₂ (λ (a b : Bool). a || b) is.0 is.1) ∙ raw), rw is.3 (own_plain number xs ys parts.1 own))
 
+-- ---- what is aside of a session
+
+-- a kind of no text of a session: it is not of the story, behind a call or a number
+abbrev is_aside_kind : Kind → Bool
+is_aside_kind kind = not (is_story_kind kind || is_raw_kind kind || is_why_kind kind || is_other_kind kind || is_number_kind kind)
+
+-- an item is a fixed text, or one of such a kind
+abbrev is_aside : Item → Bool
+is_aside (Fixed markup) = true
+is_aside (Shown kind text) = is_aside_kind kind
+
+-- Items are aside of a session.
+abbrev pub AreAside : List Item → Type 0
+AreAside items = list_all is_aside items ≡ true
+
+-- a kind that is aside is none of the others
+aside : (k : Kind) → is_aside_kind k ≡ true
+    → (is_raw_kind k ≡ false) × (is_why_kind k ≡ false) × (is_other_kind k ≡ false) × (is_number_kind k ≡ false)
+    × (is_story_kind k ≡ false)
+aside k h = by (is_story_kind k) (is_raw_kind k) (is_why_kind k) (is_other_kind k) (is_number_kind k) h
+  where
+    by : (a b c d e : Bool) → not (a || b || c || d || e) ≡ true
+        → (b ≡ false) × (c ≡ false) × (d ≡ false) × (e ≡ false) × (a ≡ false)
+    by true b c d e h = never h
+    by false true c d e h = never h
+    by false false true d e h = never h
+    by false false false true e h = never h
+    by false false false false true h = never h
+    by false false false false false h = (refl, refl, refl, refl, refl)
+
+-- items that are aside have none of kinds that none of them has
+aside_none : (test : Kind → Bool) → ((k : Kind) → is_aside_kind k ≡ true → test k ≡ false) → (xs : List Item) → AreAside xs
+    → of_kinds test xs ≡ []
+aside_none test fails [] h = refl
+aside_none test fails (Fixed markup ∷ xs) h = aside_none test fails xs h
+aside_none test fails (Shown kind text ∷ xs) h =
+    let parts = and_parts (is_aside_kind kind) (list_all is_aside xs) h in rw (fails kind parts.0) (aside_none test fails xs parts.1)
+
+-- what is after its number is so after items that are aside
+own_aside : (number : List ℕ) (xs ys : List Item) → AreAside xs → AreOwn number ys → AreOwn number (xs ++ ys)
+own_aside number [] ys h own = own
+own_aside number (Fixed markup ∷ xs) ys h own = own_aside number xs ys h own
+own_aside number (Shown kind text ∷ xs) ys h own =
+    let parts = and_parts (is_aside_kind kind) (list_all is_aside xs) h in
+    let is = aside kind parts.0 in
+    (λ raw. never (sym (ap₂ (λ (a b : Bool). a || b) is.0 is.1) ∙ raw), rw is.3 (own_aside number xs ys parts.1 own))
+
 -- ---- the items of a turn
 
 -- comments are plain
@@ -140,20 +186,22 @@ pub record IsPart (shown : List Item) (raw_calls explanations numbers : List (Li
   pub own : (number : List ℕ) → AreOwn number items
   pub others : of_kinds is_other_kind items ≡ map other_item numbers
 
--- the items of these kinds in comments, in a call behind a fixed text, and in what is behind the call
-three : (test : Kind → Bool) (notes call behind : List Item) (markup : Markup) {a b c : List Item}
-    → of_kinds test notes ≡ a → of_kinds test call ≡ b → of_kinds test behind ≡ c
-    → of_kinds test (notes ++ (Fixed markup ∷ call ++ behind)) ≡ a ++ (b ++ c)
-three test notes call behind markup x y z =
+-- the items of these kinds in comments, in a call within its frame, and in what is behind the call
+three : (test : Kind → Bool) (notes frame call behind : List Item) {a b c : List Item}
+    → of_kinds test notes ≡ a → of_kinds test frame ≡ [] → of_kinds test call ≡ b → of_kinds test behind ≡ c
+    → of_kinds test (notes ++ (frame ++ (call ++ behind))) ≡ a ++ (b ++ c)
+three test notes frame call behind x none y z =
     let both : List Item → List Item → List Item = λ a b. a ++ b in
-    of-append test notes (Fixed markup ∷ call ++ behind) ∙ ap₂ both x (of-append test call behind ∙ ap₂ both y z)
+    of-append test notes (frame ++ (call ++ behind))
+    ∙ ap₂ both x (of-append test frame (call ++ behind) ∙ ap₂ both none (of-append test call behind ∙ ap₂ both y z))
 
 -- a turn is its story, and what is behind it
-pub turn_with : (script : List (List ℕ)) (before reply : List ℕ) (reasons : List (List ℕ)) (markup : Markup)
-    {raw_calls explanations : List (List ℕ)} {behind : List Item} → IsBehind (split_word reply).0 raw_calls explanations behind
+pub turn_with : (script : List (List ℕ)) (before reply : List ℕ) (reasons : List (List ℕ)) (frame : List Item)
+    {raw_calls explanations : List (List ℕ)} {behind : List Item} → AreAside frame
+    → IsBehind (split_word reply).0 raw_calls explanations behind
     → IsPart (story_items script before reply reasons) raw_calls explanations []
-    (flat_map (note_items before) (lines_between script before reply) ++ (Fixed markup ∷ call_items script reply reasons ++ behind))
-turn_with script before reply reasons markup {behind = behind} is =
+    (flat_map (note_items before) (lines_between script before reply) ++ (frame ++ (call_items script reply reasons ++ behind)))
+turn_with script before reply reasons frame {behind = behind} framed is =
     let word = (split_word reply).0 in
     let notes = flat_map (note_items before) (lines_between script before reply) in
     let call = call_items script reply reasons in
@@ -162,19 +210,33 @@ turn_with script before reply reasons markup {behind = behind} is =
     let plain_rest = answer_plain (call_on script reply) reply reasons in
     record {
       story =
-          three is_story_kind notes call behind markup (plain_story notes plain)
+          three is_story_kind notes frame call behind (plain_story notes plain) (aside_none is_story_kind (λ k h. (aside k h).4) frame framed)
           (ap (λ l. Shown LineNumber word ∷ l) (plain_story rest plain_rest)) is.story
           ∙ ap (λ (l : List Item). notes ++ l) (append-nil call);
       raw =
-          three is_raw_kind notes call behind markup (plain_none is_raw_kind (λ k h. (apart k h).0) notes plain)
-          (plain_none is_raw_kind (λ k h. (apart k h).0) rest plain_rest) is.raw;
+          three is_raw_kind notes frame call behind (plain_none is_raw_kind (λ k h. (apart k h).0) notes plain)
+          (aside_none is_raw_kind (λ k h. (aside k h).0) frame framed) (plain_none is_raw_kind (λ k h. (apart k h).0) rest plain_rest) is.raw;
       why =
-          three is_why_kind notes call behind markup (plain_none is_why_kind (λ k h. (apart k h).1) notes plain)
-          (plain_none is_why_kind (λ k h. (apart k h).1) rest plain_rest) is.why;
-      own = λ number. own_plain number notes (Fixed markup ∷ call ++ behind) plain (never, own_plain word rest behind plain_rest is.own);
+          three is_why_kind notes frame call behind (plain_none is_why_kind (λ k h. (apart k h).1) notes plain)
+          (aside_none is_why_kind (λ k h. (aside k h).1) frame framed) (plain_none is_why_kind (λ k h. (apart k h).1) rest plain_rest) is.why;
+      own = λ number.
+          own_plain number notes (frame ++ (call ++ behind)) plain
+          (own_aside number frame (call ++ behind) framed (never, own_plain word rest behind plain_rest is.own));
       others =
-          three is_other_kind notes call behind markup (plain_none is_other_kind (λ k h. (apart k h).2) notes plain)
+          three is_other_kind notes frame call behind (plain_none is_other_kind (λ k h. (apart k h).2) notes plain)
+          (aside_none is_other_kind (λ k h. (aside k h).2) frame framed)
           (plain_none is_other_kind (λ k h. (apart k h).2) rest plain_rest) is.others;
+    }
+
+-- what is aside is no story
+pub aside_part : (items : List Item) → AreAside items → IsPart [] [] [] [] items
+aside_part items h =
+    record {
+      story = aside_none is_story_kind (λ k h. (aside k h).4) items h;
+      raw = aside_none is_raw_kind (λ k h. (aside k h).0) items h;
+      why = aside_none is_why_kind (λ k h. (aside k h).1) items h;
+      own = λ number. subst (AreOwn number) (append-nil items) (own_aside number items [] h tt);
+      others = aside_none is_other_kind (λ k h. (aside k h).2) items h;
     }
 
 -- comments are a story

@@ -4,7 +4,7 @@ use Rattle.std.specs.Borrow.{Bor}
 use Rattle.std.specs.List.{flat_map}
 use Rattle.histar_page.specs.declared.views.View.{View}
 use Rattle.histar_page.specs.declared.views.View.TheVariants.{RawCalls, Explanations, Reasons, GroupMembers, OtherCalls, OtherExplanations}
-use Rattle.histar_page.specs.declared.views.View.TheVariants.{Users, Stats, Members}
+use Rattle.histar_page.specs.declared.views.View.TheVariants.{Users, Stats, Members, Links, Rules}
 use Rattle.histar_page.specs.Texts.{texts}
 use Rattle.histar_page.specs.Items.{Item}
 use Rattle.histar_page.specs.Session.{raw_item, why_item}
@@ -30,6 +30,8 @@ views_are OtherExplanations lines = refl
 views_are Users lines = one_each user_item lines
 views_are Stats lines = one_each stat_item lines
 views_are Members lines = one_each member_item lines
+views_are Links lines = refl
+views_are Rules lines = refl
 
 -- all is shown once no line is left
 pub all_shown : (view : View) (rest : List (Bor (List ℕ))) {items all : List Item} → length rest < 1

@@ -1,11 +1,13 @@
 -- The head of a page.
 use Rattle.std.specs.Prelude.{ℕ, Bool, List, [], ◌∷◌, ◌++◌, ◌&&◌, codes, decimal, filter, length, if◌then◌else◌}
+use Rattle.std.specs.List.{flat_map}
 use Rattle.std.specs.Str.{bytes_eq}
 use Rattle.histar_script.specs.Lines.{split_word}
 use Rattle.histar_page.specs.declared.kind.Kind.TheVariants.{Title, MainTitle, FileName, Calls, Refusals, Denials, Version}
-use Rattle.histar_page.specs.declared.markup.Markup.TheVariants.{Begin, Style, EndHead}
+use Rattle.histar_page.specs.declared.markup.Markup.TheVariants.{Begin, Style, EndStyle, EndHead}
 use Rattle.histar_page.specs.Items.{Item}
 use Rattle.histar_page.specs.Items.Item.{Fixed, Shown}
+use Rattle.histar_page.specs.Callers.{rule_items}
 use Rattle.histar_page.specs.Lines.{after_word, is_denied, is_raw_call, is_refused, is_reply}
 
 -- a line of a script is a comment that is a heading
@@ -26,8 +28,12 @@ count_items output =
     ∷ Shown Denials (decimal (length (filter is_denied (filter is_raw_call output))))
     ∷ []
 
--- the head of a page: the title, the style, the title once more, the name, what was counted, and the version
+-- how a page begins: the title, and the style with the rules of these processes
+abbrev pub style_items : List ℕ → List (List ℕ) → List Item
+style_items title processes = Fixed Begin ∷ Shown Title title ∷ Fixed Style ∷ flat_map rule_items processes
+
+-- the head of a page after its style: the title once more, the name, what was counted, and the version
 abbrev pub head_items : List ℕ → List ℕ → List ℕ → List (List ℕ) → List Item
 head_items title name version output =
-    Fixed Begin ∷ Shown Title title ∷ Fixed Style ∷ Shown MainTitle title ∷ Shown FileName name ∷ count_items output
+    Fixed EndStyle ∷ Shown MainTitle title ∷ Shown FileName name ∷ count_items output
     ++ Shown Version version ∷ Fixed EndHead ∷ []

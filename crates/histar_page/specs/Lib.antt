@@ -8,10 +8,12 @@ pub mod Order
 pub mod MarkedLines
 pub mod Head
 pub mod Who
+pub mod Callers
 pub mod Story
 pub mod Session
 pub mod Files
 pub mod Titles
+pub mod Uses
 pub mod Secrets
 pub mod Flows
 pub mod Views

@@ -1,5 +1,5 @@
 -- The page of a session, which is a function of its sources.
-use Rattle.std.specs.Prelude.{ℕ, Bool, List, [], ◌∷◌, ◌++◌, length, nat_lt, if◌then◌else◌}
+use Rattle.std.specs.Prelude.{ℕ, Bool, List, [], ◌∷◌, ◌++◌, filter, length, nat_lt, if◌then◌else◌}
 use Rattle.histar_script.specs.Lines.{lines_of}
 use Rattle.histar_page.specs.declared.markup.Markup.TheVariants.{FilesLeftOut, SecretsLeftOut}
 use Rattle.histar_page.specs.declared.page.TheConstants.{MOST_SHOWN_BYTES}
@@ -7,7 +7,9 @@ use Rattle.histar_page.specs.declared.page.Texts.{Texts}
 use Rattle.histar_page.specs.Items.{Item}
 use Rattle.histar_page.specs.Items.Item.{Fixed}
 use Rattle.histar_page.specs.Rendering.{rendered}
-use Rattle.histar_page.specs.Head.{head_items, title_of}
+use Rattle.histar_page.specs.Head.{head_items, style_items, title_of}
+use Rattle.histar_page.specs.Callers.{callers}
+use Rattle.histar_page.specs.Lines.{is_reply}
 use Rattle.histar_page.specs.Who.{who_items}
 use Rattle.histar_page.specs.Session.{session_items}
 use Rattle.histar_page.specs.Files.{files_items, runners_of}
@@ -41,10 +43,11 @@ sources_of texts = record {
   flows = texts.flows.now;
 }
 
--- the head, with the title of the script, and then its users and groups
+-- the head, with the title of the script and a rule of style for each process that calls, and then the users and groups
 abbrev pub head_shown : Sources → List Item
 head_shown sources =
-    head_items (title_of sources.name (lines_of sources.script)) sources.name sources.version (lines_of sources.output)
+    style_items (title_of sources.name (lines_of sources.script)) (callers (lines_of sources.script) (filter is_reply (lines_of sources.output)))
+    ++ head_items (title_of sources.name (lines_of sources.script)) sources.name sources.version (lines_of sources.output)
     ++ who_items (lines_of sources.script)
 
 -- the calls of the session
@@ -65,7 +68,7 @@ files_shown sources =
 abbrev pub secrets_shown : Sources → List Item
 secrets_shown sources =
     if is_long sources.secrets then Fixed SecretsLeftOut ∷ []
-    else secrets_items (lines_of sources.secrets) (lines_of sources.titles)
+    else secrets_items (lines_of sources.script) (filter is_reply (lines_of sources.output)) (lines_of sources.secrets) (lines_of sources.titles)
 
 -- the files, the secrets with their titles, the flows and the drawing
 abbrev pub rights_shown : Sources → List Item

@@ -12,26 +12,33 @@ use Rattle.histar_page.specs.declared.kind.Kind.TheVariants.{DrawnHeight, Proces
 use Rattle.histar_page.specs.declared.kind.Kind.TheVariants.{LoginBy, LoginAs, Reason, Prose, Heading, Mark, ClaimMet, ClaimMissed}
 use Rattle.histar_page.specs.declared.kind.Kind.TheVariants.{HiddenBytes, UserName, GroupName, MemberName}
 use Rattle.histar_page.specs.declared.kind.Kind.TheVariants.{EdgeFile, ProcessNode, FileNode, NodeName, LeakPath, LeakTitle, Flow}
+use Rattle.histar_page.specs.declared.kind.Kind.TheVariants.{RuleAddress, RuleCaller, LinkTarget, LinkAddress, LinkName, CallBy, BareBy}
+use Rattle.histar_page.specs.declared.kind.Kind.TheVariants.{LineId, Outsider, ReadBy, WrittenBy, UseAddress, UseLine}
 use Rattle.histar_page.specs.declared.markup.Markup.{Markup}
-use Rattle.histar_page.specs.declared.markup.Markup.TheVariants.{Begin, Style, EndHead, BeginWho}
-use Rattle.histar_page.specs.declared.markup.Markup.TheVariants.{EndWho, BeginSession, BeginBoot, BeginOther, BeginCall}
-use Rattle.histar_page.specs.declared.markup.Markup.TheVariants.{BeginBehind, EndCall, BeginBare, EndBare, EndSession, BeginFiles, EndUsers}
+use Rattle.histar_page.specs.declared.markup.Markup.TheVariants.{Begin, Style, EndStyle, EndHead, BeginWho}
+use Rattle.histar_page.specs.declared.markup.Markup.TheVariants.{EndWho, BeginSession, BeginBoot, BeginOther}
+use Rattle.histar_page.specs.declared.markup.Markup.TheVariants.{BeginBehind, EndCall, EndBare, EndSession, BeginFiles, EndUsers}
 use Rattle.histar_page.specs.declared.markup.Markup.TheVariants.{EndColumns, BeginRow, EndCell, EndRow, EndFiles, FilesLeftOut}
 use Rattle.histar_page.specs.declared.markup.Markup.TheVariants.{BeginSecrets, NoSecrets, OnSecrets, SecretsLeftOut}
+use Rattle.histar_page.specs.declared.markup.Markup.TheVariants.{BeginSummary, BeginLaw, UnlessTold, UnlessLogin}
 use Rattle.histar_page.specs.declared.markup.Markup.TheVariants.{BeginSecret, EndSecret, EndSecrets, BeginLabels, NotDrawn, BeginDrawing, Arrows}
 use Rattle.histar_page.specs.declared.markup.Markup.TheVariants.{OnTitles, NoTitles, BeginFlows, OnFlows, EndFlows, EndDrawing, End}
 use Rattle.histar_page.specs.Items.{Item}
 use Rattle.histar_page.specs.Items.Item.{Fixed, Shown}
 
--- the markup before a text of a kind
+-- the markup before a text of a kind; a kind that is not named here has none
 abbrev pub opening : Kind → List ℕ
 opening Title = codes "<title>"
+opening RuleAddress = codes "[id=\"by-"
 opening MainTitle = codes "<h1>"
 opening FileName = codes "<p>\n<span>file: <b>"
 opening Calls = codes "<span>calls: <b>"
 opening Refusals = codes "<span>refusals: <b>"
 opening Denials = codes "<span>denied raw calls: <b>"
 opening Version = codes "<span>histar <b>"
+opening LinkTarget = codes "<a class=\"by\" id=\"by-"
+opening CallBy = codes "<details data-by=\""
+opening BareBy = codes "<div class=\"bare\" data-by=\""
 opening LineNumber = codes "<span class=\"number\">"
 opening OtherLine = codes "<b>"
 opening Call = codes "<code class=\"call\">"
@@ -64,6 +71,10 @@ opening Withheld = codes "<i>"
 opening Secret = codes "<code>"
 opening Trusted = codes "<span class=\"trusted\">trusted <b>"
 opening Confined = codes "<span class=\"confined\">confined <b>"
+opening Outsider = codes "<span class=\"outside\">outside <b>"
+opening ReadBy = codes "<span class=\"use\">"
+opening WrittenBy = codes "<span class=\"use\">"
+opening UseAddress = codes "<a href=\"#line-"
 opening LoginReader = codes "<span class=\"login\">login <b>"
 opening LeakPath = codes "<p class=\"titled\"><code>"
 opening LeakTitle = codes "<p class=\"leak\"><code>"
@@ -74,22 +85,28 @@ opening FileBand = codes "<rect class=\"job\" width=\"416\" height=\"32\" y=\"-3
 opening ReadEdge = codes "<line class=\"reads\" marker-start=\"url(#read)\" x1=\"210\" x2=\"518\" y1=\""
 opening WriteEdge = codes "<line class=\"writes\" marker-end=\"url(#written)\" x1=\"210\" x2=\"518\" y1=\""
 opening BothEdge = codes "<line class=\"both\" marker-start=\"url(#both)\" marker-end=\"url(#both)\" x1=\"210\" x2=\"518\" y1=\""
-opening EdgeEnd = codes ""
-opening EdgeProcess = codes ""
-opening EdgeFile = codes ""
 opening ProcessNode = codes "<g class=\"node\" transform=\"translate(8 "
 opening FileNode = codes "<g class=\"node\" transform=\"translate(520 "
 opening NodeName = codes "<text x=\"8\" y=\"18\">"
+opening kind = codes ""
 
 -- the markup after a text of a kind
 abbrev pub closing : Kind → List ℕ
 closing Title = codes "</title>\n"
+closing RuleAddress = codes "\"]:target ~ :is(details, .bare):not([data-by=\""
+closing RuleCaller = codes "\"]) { display: none }\n"
 closing MainTitle = codes "</h1>\n"
 closing FileName = codes "</b></span>\n"
 closing Calls = codes "</b></span>\n"
 closing Refusals = codes "</b></span>\n"
 closing Denials = codes "</b></span>\n"
 closing Version = codes "</b></span>\n"
+closing LinkTarget = codes "\" href=\"#by-"
+closing LinkAddress = codes "\">by "
+closing LinkName = codes "</a>\n"
+closing CallBy = codes "\" id=\"line-"
+closing BareBy = codes "\" id=\"line-"
+closing LineId = codes "\">"
 closing LineNumber = codes "</span>\n"
 closing OtherLine = codes "</b>"
 closing Call = codes "</code>\n"
@@ -122,6 +139,11 @@ closing Withheld = codes "</i>"
 closing Secret = codes "</code>\n"
 closing Trusted = codes "</b></span>\n"
 closing Confined = codes "</b></span>\n"
+closing Outsider = codes "</b></span>\n"
+closing ReadBy = codes " read here at line "
+closing WrittenBy = codes " wrote here at line "
+closing UseAddress = codes "\">"
+closing UseLine = codes "</a></span>\n"
 closing LoginReader = codes "</b></span>\n"
 closing LeakPath = codes "</code></p>\n"
 closing LeakTitle = codes "</code></p>\n"
@@ -143,6 +165,7 @@ closing NodeName = codes "</text></g>\n"
 abbrev pub markup_text : Markup → List ℕ
 markup_text Begin = codes "<!DOCTYPE html>\n<html lang=\"en\">\n<head>\n<meta charset=\"utf-8\">\n<meta name=\"viewport\" content=\"width=device-width, initial-scale=1\">\n"
 markup_text Style = STYLE.now
+markup_text EndStyle = codes "</style>\n</head>\n<body>\n<header>\n"
 markup_text EndHead = codes "</p>\n<nav><a href=\"#who\">Who</a> <a href=\"#session\">Session</a> <a href=\"#files\">Files</a> <a href=\"#secrets\">Secrets</a> <a href=\"#flows\">Flows</a> <a href=\"#drawing\">Drawing</a></nav>\n</header>\n<main>\n"
 markup_text BeginWho = codes "<section id=\"who\">\n<h2>Who</h2>\n<p class=\"who\">\n"
 markup_text EndWho = codes "</p>\n</section>\n"
@@ -151,10 +174,9 @@ markup_text BeginSession =
     ++ codes "<p id=\"refusals\"><a href=\"#session\">All</a> <a href=\"#refusals\">Refusals</a></p>\n"
 markup_text BeginBoot = codes "<details class=\"other\">\n<summary>Boot, line "
 markup_text BeginOther = codes "<details class=\"other\">\n<summary>Raw calls of line "
-markup_text BeginCall = codes "<details>\n<summary>"
+markup_text BeginSummary = codes "\n<summary>"
 markup_text BeginBehind = codes "</summary>\n<div class=\"behind\">\n"
 markup_text EndCall = codes "</div>\n</details>\n"
-markup_text BeginBare = codes "<div class=\"bare\">"
 markup_text EndBare = codes "</div>\n"
 markup_text EndSession = codes "</section>\n"
 markup_text BeginFiles = codes "<section id=\"files\">\n<h2>Files</h2>\n<p>Who may do what at the end: s to see it, r to read it, w to write it, d to take it away. Above each process is its user; the tinted columns are of processes in jobs.</p>\n<div class=\"wide\">\n<table>\n<thead>\n<tr class=\"users\"><td colspan=\"4\"></td>"
@@ -174,6 +196,9 @@ markup_text BeginSecrets = codes "<section id=\"secrets\">\n<h2>Secrets</h2>\n"
 markup_text NoSecrets = codes "<p>Each file is for everyone to read at the end.</p>\n"
 markup_text OnSecrets = codes "<p>On whom each file rests at the end that isn't for everyone to read: the trusted could pass it on, the confined can't, and who logs in as one of these users may read it.</p>\n"
 markup_text BeginSecret = codes "<p class=\"secret\">\n"
+markup_text BeginLaw = codes "</p>\n<p class=\"sentence\"><span>After the session nobody outside learns what is in "
+markup_text UnlessTold = codes "unless a trusted process makes a call, or they log in as a reader (<code>outsiders_learn_nothing</code>).</span>\n"
+markup_text UnlessLogin = codes "unless they log in as a reader (<code>outsiders_learn_nothing</code>).</span>\n"
 markup_text EndSecret = codes "</p>\n"
 markup_text OnTitles = codes "<h3>How each is revealed or changed</h3>\n<p>Below each file: which processes reveal it and to whom, which users read it after a login, and who changes it. These are the titles of what <code>histar leak</code> prints of the file, with the calls.</p>\n"
 markup_text NoTitles = codes "<h3>How each is revealed or changed</h3>\n<p>This is left out, since there are too many files and processes. <code>histar leak</code> prints it of one file.</p>\n"

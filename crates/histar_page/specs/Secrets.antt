@@ -6,11 +6,14 @@ use Rattle.histar_flat.specs.Words.{split_at_first}
 use Rattle.histar_page.specs.declared.kind.Kind.{Kind}
 use Rattle.histar_page.specs.declared.kind.Kind.TheVariants.{Secret, Trusted, Confined, LoginReader}
 use Rattle.histar_page.specs.declared.markup.Markup.{Markup}
-use Rattle.histar_page.specs.declared.markup.Markup.TheVariants.{BeginSecret, BeginSecrets, EndSecret, NoSecrets, NoTitles, OnSecrets, OnTitles}
+use Rattle.histar_page.specs.declared.markup.Markup.TheVariants.{BeginLaw, BeginSecret, BeginSecrets, EndSecret, NoSecrets, NoTitles}
+use Rattle.histar_page.specs.declared.markup.Markup.TheVariants.{OnSecrets, OnTitles}
 use Rattle.histar_page.specs.Items.{Item}
 use Rattle.histar_page.specs.Items.Item.{Fixed, Shown}
+use Rattle.histar_page.specs.Files.{runners_of}
 use Rattle.histar_page.specs.Lines.{without_first, words_of}
 use Rattle.histar_page.specs.Titles.{titles_items}
+use Rattle.histar_page.specs.Uses.{are_followed, condition_of, outsider_items, reply_items}
 
 -- the role of a process or a user towards a file, by the word before it
 abbrev pub member_kind : List ℕ → Kind
@@ -28,9 +31,18 @@ abbrev pub secret_items : List (List ℕ) → List Item
 secret_items [] = Fixed BeginSecret ∷ Fixed EndSecret ∷ []
 secret_items (path ∷ members) = Fixed BeginSecret ∷ Shown Secret path ∷ map member_item members ++ Fixed EndSecret ∷ []
 
--- a line of the secrets
-abbrev pub secret_line_items : List ℕ → List Item
-secret_line_items line = secret_items (words_of line)
+-- a file, its members and the processes outside; the condition; and the calls that have read or written at its path
+abbrev pub followed_items : List (List ℕ) → List (List ℕ) → List (List ℕ) → List (List ℕ) → List Item
+followed_items script replies runners [] = secret_items []
+followed_items script replies runners (path ∷ members) =
+    Fixed BeginSecret ∷ Shown Secret path ∷ map member_item members ++ flat_map (outsider_items members) runners
+    ++ Fixed BeginLaw ∷ Shown Secret path ∷ Fixed (condition_of members) ∷ flat_map (reply_items script path) replies ++ Fixed EndSecret ∷ []
+
+-- the lines of these files
+abbrev pub lines_items : List (List ℕ) → List (List ℕ) → List (List ℕ) → List (List ℕ) → List Item
+lines_items script replies runners files =
+    if are_followed files runners then flat_map (λ line. followed_items script replies runners (words_of line)) files
+    else flat_map (λ line. secret_items (words_of line)) files
 
 -- the sentence before these files: that there are none, or what their lines say
 abbrev pub note_on : List (List ℕ) → Markup
@@ -43,11 +55,8 @@ note_on_titles [] titles = []
 note_on_titles (file ∷ files) [] = Fixed NoTitles ∷ []
 note_on_titles (file ∷ files) (title ∷ titles) = Fixed OnTitles ∷ []
 
--- these files and these titles, each with its sentence before it
-abbrev pub files_and_titles : List (List ℕ) → List (List ℕ) → List Item
-files_and_titles files titles =
-    Fixed BeginSecrets ∷ Fixed (note_on files) ∷ flat_map secret_line_items files ++ note_on_titles files titles ++ titles_items titles
-
--- the part of a page that shows secrets: each line of them after the first, which has the processes, and then the titles
-abbrev pub secrets_items : List (List ℕ) → List (List ℕ) → List Item
-secrets_items lines titles = files_and_titles (without_first lines) titles
+-- the part of a page that shows secrets: each line of them after the first, which has the processes, and then the titles, each with a sentence before
+abbrev pub secrets_items : List (List ℕ) → List (List ℕ) → List (List ℕ) → List (List ℕ) → List Item
+secrets_items script replies lines titles =
+    Fixed BeginSecrets ∷ Fixed (note_on (without_first lines)) ∷ lines_items script replies (runners_of lines) (without_first lines)
+    ++ note_on_titles (without_first lines) titles ++ titles_items titles

@@ -4,11 +4,12 @@ use Rattle.std.specs.List.{flat_map}
 use Rattle.histar_flat.specs.Words.{split_at_first}
 use Rattle.histar_script.specs.Lines.{split_word}
 use Rattle.histar_page.specs.declared.kind.Kind.{Kind}
-use Rattle.histar_page.specs.declared.kind.Kind.TheVariants.{OtherLine, RawCall, DeniedCall, HiddenBytes, Explanation}
-use Rattle.histar_page.specs.declared.markup.Markup.TheVariants.{BeginBare, BeginBehind, BeginBoot, BeginCall, BeginOther, BeginSession, EndBare}
-use Rattle.histar_page.specs.declared.markup.Markup.TheVariants.{EndCall, EndSession}
+use Rattle.histar_page.specs.declared.kind.Kind.TheVariants.{OtherLine, RawCall, DeniedCall, HiddenBytes, Explanation, CallBy, BareBy, LineId}
+use Rattle.histar_page.specs.declared.markup.Markup.TheVariants.{BeginBehind, BeginBoot, BeginOther, BeginSession, BeginSummary, EndBare, EndCall}
+use Rattle.histar_page.specs.declared.markup.Markup.TheVariants.{EndSession}
 use Rattle.histar_page.specs.Items.{Item}
 use Rattle.histar_page.specs.Items.Item.{Fixed, Shown}
+use Rattle.histar_page.specs.Callers.{caller, callers, link_items}
 use Rattle.histar_page.specs.Lines.{is_denied, is_explanation, is_own, is_raw_call, is_reason, is_reply, mark_number}
 use Rattle.histar_page.specs.Order.{Marked, own_marked, later_marked, past_own, taken_own}
 use Rattle.histar_page.specs.Story.{line_number, lines_between, note_items, call_items}
@@ -42,23 +43,28 @@ why_item line = Shown Explanation line
 abbrev pub kernel_items : List (List ℕ) → List (List ℕ) → List Item
 kernel_items raw_calls explanations = Fixed BeginBehind ∷ map raw_item raw_calls ++ map why_item explanations ++ Fixed EndCall ∷ []
 
--- these items of a call with the raw calls and explanations behind it; one without any has no frame
-abbrev pub framed_items : List Item → List (List ℕ) → List (List ℕ) → List Item
-framed_items call [] [] = Fixed BeginBare ∷ call ++ Fixed EndBare ∷ []
-framed_items call raw_calls explanations = Fixed BeginCall ∷ call ++ kernel_items raw_calls explanations
+-- these items of a call of this process on this line, with the raw calls and explanations behind it; one without any can't be opened
+abbrev pub framed_items : List ℕ → List ℕ → List Item → List (List ℕ) → List (List ℕ) → List Item
+framed_items by number call [] [] = Shown BareBy by ∷ Shown LineId number ∷ call ++ Fixed EndBare ∷ []
+framed_items by number call raw_calls explanations =
+    Shown CallBy by ∷ Shown LineId number ∷ Fixed BeginSummary ∷ call ++ kernel_items raw_calls explanations
 
 -- the comments after the reply before this one; then the call with its reply, and the lines that belong to it
 abbrev pub turn_items : List (List ℕ) → List ℕ → List ℕ → Marked → List Item
 turn_items script before reply own =
     flat_map (note_items before) (lines_between script before reply)
-    ++ framed_items (call_items script reply own.reasons) own.raw_calls own.explanations
+    ++ framed_items (caller script reply) (split_word reply).0 (call_items script reply own.reasons) own.raw_calls own.explanations
 
 -- ---- the session
 
--- the heading of a session, and the raw calls of boot, after the number 0
+-- the heading of a session, and a link for each of these processes
+abbrev pub begin_items : List (List ℕ) → List Item
+begin_items processes = Fixed BeginSession ∷ flat_map link_items processes
+
+-- the raw calls of boot, after the number 0
 abbrev pub boot_items : List (List ℕ) → List Item
 boot_items raw_calls =
-    Fixed BeginSession ∷ Fixed BeginBoot ∷ Shown OtherLine (codes "0") ∷ Fixed BeginBehind ∷ map raw_item raw_calls ++ Fixed EndCall ∷ []
+    Fixed BeginBoot ∷ Shown OtherLine (codes "0") ∷ Fixed BeginBehind ∷ map raw_item raw_calls ++ Fixed EndCall ∷ []
 
 -- a raw call that belongs to no reply, after its own number
 abbrev pub other_call_items : List ℕ → List Item
@@ -87,7 +93,8 @@ calls_items script replies marked =
 -- the part of a page that shows a session, by the lines of its script, of its output and of its reasons
 abbrev pub session_items : List (List ℕ) → List (List ℕ) → List (List ℕ) → List Item
 session_items script output reasons =
-    calls_items script (filter is_reply output) (record {
+    begin_items (callers script (filter is_reply output))
+    ++ calls_items script (filter is_reply output) (record {
       reasons = filter is_reason reasons;
       raw_calls = filter is_raw_call output;
       explanations = filter is_explanation output;

@@ -3,18 +3,44 @@ ghost use Rattle.std.specs.Prelude.{◌≡◌, ◌≤◌, length, filter, IfOk, 
 ghost use Rattle.histar_script.specs.Lines.{lines_of};
 ghost use Rattle.histar_page.specs.Texts.{texts};
 ghost use Rattle.histar_page.specs.Items.{items_of};
-ghost use Rattle.histar_page.specs.Lines.{is_denied, is_refused};
-ghost use Rattle.histar_page.specs.Head.{head_items, is_heading, title_of};
+ghost use Rattle.histar_page.specs.Callers.{callers};
+ghost use Rattle.histar_page.specs.Lines.{is_denied, is_refused, is_reply};
+ghost use Rattle.histar_page.specs.Head.{head_items, is_heading, style_items, title_of};
 
+use crate::callers::callers_of;
 use crate::kind::Kind;
 use crate::lines::{LineKind, after_word, among, is_denied, lines_in};
 use crate::markup::Markup;
 use crate::piece::Piece;
 use crate::story::COMMENT;
+use crate::views::{View, push_each};
 use histar_script::split_word;
 use std::alloc::{AllocError, Global};
 
-/// Returns the pieces of the head of a page: the title, the name of the script's file, the numbers of calls, of
+/// Returns the pieces of a page up to its style, with a rule for each process that calls.
+pub(crate) fn style_pieces<'a>(
+    alloc: Global,
+    title: &'a [u8],
+    script: &'a [u8],
+    output: &'a [u8],
+) -> Result<Vec<Piece<'a>>, AllocError>
+    ensures { IfOk result (λ pieces. items_of pieces.items ≡ style_items title.entry.now
+        (callers (lines_of script.entry.now) (filter is_reply (lines_of output.entry.now)))) }
+{
+    let processes = callers_of(alloc, script, output)?;
+    let mut pieces = Vec::from_slice(
+        alloc,
+        &[
+            Piece::Fixed(Markup::Begin),
+            Piece::Shown(Kind::Title, title),
+            Piece::Fixed(Markup::Style),
+        ],
+    )?;
+    push_each(&mut pieces, View::Rules, processes.as_slice())?;
+    Ok(pieces)
+}
+
+/// Returns the pieces of the head of a page after its style: the title, the name of the script's file, the numbers of calls, of
 /// refusals and of denials in the output, and the version.
 pub(crate) fn head_pieces<'a>(
     alloc: Global,
@@ -32,9 +58,7 @@ pub(crate) fn head_pieces<'a>(
     Vec::from_slice(
         alloc,
         &[
-            Piece::Fixed(Markup::Begin),
-            Piece::Shown(Kind::Title, title),
-            Piece::Fixed(Markup::Style),
+            Piece::Fixed(Markup::EndStyle),
             Piece::Shown(Kind::MainTitle, title),
             Piece::Shown(Kind::FileName, name),
             Piece::Counted(Kind::Calls, replies.len() as u64),

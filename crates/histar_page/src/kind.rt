@@ -8,11 +8,27 @@ pub enum Kind {
     Title,
     /// The title, at the head of the page.
     MainTitle,
+    /// The process of a rule of style, at whose address the rule is followed.
+    RuleAddress,
+    /// The process of a rule of style, whose calls the rule leaves.
+    RuleCaller,
     FileName,
     Calls,
     Refusals,
     Denials,
     Version,
+    /// The process of a link, as the name of the place that the link is.
+    LinkTarget,
+    /// The process of a link, as the place to which the link leads.
+    LinkAddress,
+    /// The process of a link, as it is seen.
+    LinkName,
+    /// The process of a call that can be opened.
+    CallBy,
+    /// The process of a call with nothing behind it.
+    BareBy,
+    /// The number of a line, as the name of its place.
+    LineId,
     LineNumber,
     /// The number of a line without a reply, such as that of boot.
     OtherLine,
@@ -66,6 +82,16 @@ pub enum Kind {
     Trusted,
     /// A process that is confined.
     Confined,
+    /// A process that is neither.
+    Outsider,
+    /// The process of a call that read at the path of a secret.
+    ReadBy,
+    /// The process of a call that wrote there.
+    WrittenBy,
+    /// The number of the line of such a call, as the place to which a link leads.
+    UseAddress,
+    /// The number of the line of such a call, as it is seen.
+    UseLine,
     /// A user as whom a process that logs in may read a file.
     LoginReader,
     /// The path of a file that the titles after it are on.
@@ -107,12 +133,16 @@ impl Kind {
     {
         match self {
             Kind::Title => b"<title>",
+            Kind::RuleAddress => b"[id=\"by-",
             Kind::MainTitle => b"<h1>",
             Kind::FileName => b"<p>\n<span>file: <b>",
             Kind::Calls => b"<span>calls: <b>",
             Kind::Refusals => b"<span>refusals: <b>",
             Kind::Denials => b"<span>denied raw calls: <b>",
             Kind::Version => b"<span>histar <b>",
+            Kind::LinkTarget => b"<a class=\"by\" id=\"by-",
+            Kind::CallBy => b"<details data-by=\"",
+            Kind::BareBy => b"<div class=\"bare\" data-by=\"",
             Kind::LineNumber => b"<span class=\"number\">",
             Kind::OtherLine | Kind::Granted => b"<b>",
             Kind::Call | Kind::LoginBy => b"<code class=\"call\">",
@@ -141,6 +171,9 @@ impl Kind {
             Kind::Secret => b"<code>",
             Kind::Trusted => b"<span class=\"trusted\">trusted <b>",
             Kind::Confined => b"<span class=\"confined\">confined <b>",
+            Kind::Outsider => b"<span class=\"outside\">outside <b>",
+            Kind::ReadBy | Kind::WrittenBy => b"<span class=\"use\">",
+            Kind::UseAddress => b"<a href=\"#line-",
             Kind::LoginReader => b"<span class=\"login\">login <b>",
             Kind::LeakPath => b"<p class=\"titled\"><code>",
             Kind::LeakTitle => b"<p class=\"leak\"><code>",
@@ -156,7 +189,14 @@ impl Kind {
                 b"<line class=\"writes\" marker-end=\"url(#written)\" x1=\"210\" x2=\"518\" y1=\"",
             Kind::BothEdge =>
                 b"<line class=\"both\" marker-start=\"url(#both)\" marker-end=\"url(#both)\" x1=\"210\" x2=\"518\" y1=\"",
-            Kind::EdgeEnd | Kind::EdgeProcess | Kind::EdgeFile => b"",
+            Kind::EdgeEnd
+            | Kind::EdgeProcess
+            | Kind::EdgeFile
+            | Kind::RuleCaller
+            | Kind::LinkAddress
+            | Kind::LinkName
+            | Kind::LineId
+            | Kind::UseLine => b"",
             Kind::ProcessNode => b"<g class=\"node\" transform=\"translate(8 ",
             Kind::FileNode => b"<g class=\"node\" transform=\"translate(520 ",
             Kind::NodeName => b"<text x=\"8\" y=\"18\">",
@@ -169,6 +209,8 @@ impl Kind {
     {
         match self {
             Kind::Title => b"</title>\n",
+            Kind::RuleAddress => b"\"]:target ~ :is(details, .bare):not([data-by=\"",
+            Kind::RuleCaller => b"\"]) { display: none }\n",
             Kind::MainTitle => b"</h1>\n",
             Kind::FileName
             | Kind::Calls
@@ -177,10 +219,19 @@ impl Kind {
             | Kind::Version
             | Kind::Trusted
             | Kind::Confined
+            | Kind::Outsider
             | Kind::LoginReader
             | Kind::UserName
             | Kind::GroupName
             | Kind::MemberName => b"</b></span>\n",
+            Kind::LinkTarget => b"\" href=\"#by-",
+            Kind::LinkAddress => b"\">by ",
+            Kind::LinkName => b"</a>\n",
+            Kind::CallBy | Kind::BareBy => b"\" id=\"line-",
+            Kind::LineId | Kind::UseAddress => b"\">",
+            Kind::ReadBy => b" read here at line ",
+            Kind::WrittenBy => b" wrote here at line ",
+            Kind::UseLine => b"</a></span>\n",
             Kind::LineNumber | Kind::Reason => b"</span>\n",
             Kind::LoginBy => b"",
             Kind::LoginAs => b" &bull;&bull;&bull;&bull;</code>\n",

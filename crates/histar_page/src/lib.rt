@@ -5,6 +5,7 @@
 #![tactic(auto)]
 
 mod bands;
+mod callers;
 mod drawing;
 mod edges;
 mod files;
@@ -21,12 +22,15 @@ mod secrets;
 mod session;
 mod story;
 mod titles;
+mod uses;
 mod views;
 mod who;
 
+pub use callers::MOST_ALONE;
 pub use kind::Kind;
 pub use markup::Markup;
 pub use page::{Texts, page_text, pages_nest};
 pub use piece::Piece;
 pub use places::{MOST_DRAWN_FILES, MOST_DRAWN_PROCESSES, nodes_are_apart};
 pub use session::sessions_are_shown;
+pub use uses::{MOST_FOLLOWED_PROCESSES, MOST_FOLLOWED_SECRETS};

@@ -17,6 +17,9 @@ h2 { margin: 2rem 0 .6rem; font-size: 1.15rem }
 a { color: inherit }
 header p, nav, #refusals { display: flex; flex-wrap: wrap; gap: .2rem 1.2rem; margin: 0 0 .3rem; color: var(--dim) }
 header b { color: var(--ink) }
+#refusals { display: inline-flex; margin: 0 1.2rem .3rem 0 }
+.by { display: inline-block; margin: 0 1.2rem .3rem 0; color: var(--dim) }
+.by:target { color: var(--ink); font-weight: bold }
 code, small, td b, td i { font-family: ui-monospace, monospace; font-size: .85rem }
 code { white-space: pre-wrap; overflow-wrap: anywhere }
 summary, .bare { display: grid; grid-template-columns: 1rem 2.6rem minmax(0, 3fr) minmax(0, 2fr); gap: 0 .6rem; align-items: baseline; padding: .2rem 0; border-top: 1px solid var(--line) }
@@ -25,6 +28,7 @@ summary::-webkit-details-marker { display: none }
 summary::before { content: '+'; color: var(--dim); font-family: ui-monospace, monospace }
 details[open] > summary::before { content: '-' }
 .bare::before { content: '' }
+details:target > summary, .bare:target { background: var(--panel) }
 #refusals:target ~ .other, #refusals:target ~ details:not(:has(.refusal)), #refusals:target ~ .bare:not(:has(.refusal)) { display: none }
 .other > summary { display: block; color: var(--dim) }
 .other > summary::before { margin-right: .6rem }
@@ -61,13 +65,20 @@ th.job, td.job { background: var(--job) }
 .rights small + * + b { background: var(--r) }
 .rights small + * + * + b { background: var(--w) }
 .rights small + * + * + * + b { background: var(--d) }
-.secret { display: flex; flex-wrap: wrap; gap: .1rem .6rem; align-items: baseline; margin: 0; padding: .3rem 0; border-top: 1px solid var(--line) }
-.secret code { flex: 0 1 20rem; min-width: 12rem }
-.secret span { padding: 0 .4rem; border-radius: .2rem; font-size: .85rem; color: var(--letter) }
+.secret { display: grid; grid-template-columns: repeat(3, minmax(0, 1fr)); grid-auto-flow: dense; gap: .2rem .6rem; place-items: start }
+.secret { max-width: 46rem; margin: .6rem 0 0; padding: .3rem 0; border-top: 1px solid var(--line) }
+.secret code { grid-column: 1 / -1 }
+.secret span { padding: 0 .4rem; border-radius: .2rem; font-size: .85rem; color: var(--letter); overflow-wrap: anywhere }
 .secret b { font-family: ui-monospace, monospace; font-weight: normal }
-.trusted { background: var(--w) }
-.confined { background: var(--r) }
+.trusted { grid-column: 1; background: var(--w) }
+.confined { grid-column: 2; background: var(--r) }
+.outside, .login { grid-column: 3 }
+.outside { background: var(--panel) }
 .login { background: var(--s) }
+.sentence { margin: 0; max-width: 46rem; font-size: .9rem }
+.sentence > span:first-child { display: block; color: var(--dim) }
+.sentence code { color: var(--ink) }
+.use { display: inline-block; margin-right: .8rem }
 .titled, .leak { margin: 0 }
 .titled { padding-top: .3rem; border-top: 1px solid var(--line) }
 .leak { padding-left: 1.2rem; color: var(--dim) }
@@ -99,14 +110,10 @@ path.both { fill: var(--both) }
 @media print {
   :root { --page: #fff; --ink: #000; --dim: #444; --good: #17652f; --bad: #a40e1f; --letter: #000 }
   body { max-width: none; padding: 0; font-size: 10pt }
-  nav, #refusals { display: none }
+  nav, #refusals, .by { display: none }
   tr, summary, .bare { break-inside: avoid }
   .rights b, .job, .refusal, .behind { print-color-adjust: exact; -webkit-print-color-adjust: exact }
 }
-</style>
-</head>
-<body>
-<header>
 ";
 
 /// A fixed text of a page.
@@ -114,16 +121,16 @@ path.both { fill: var(--both) }
 pub enum Markup {
     Begin,
     Style,
+    EndStyle,
     EndHead,
     BeginWho,
     EndWho,
     BeginSession,
     BeginBoot,
     BeginOther,
-    BeginCall,
+    BeginSummary,
     BeginBehind,
     EndCall,
-    BeginBare,
     EndBare,
     EndSession,
     BeginFiles,
@@ -139,6 +146,9 @@ pub enum Markup {
     NoSecrets,
     OnSecrets,
     BeginSecret,
+    BeginLaw,
+    UnlessTold,
+    UnlessLogin,
     EndSecret,
     OnTitles,
     NoTitles,
@@ -167,6 +177,11 @@ impl Markup {
 <meta name=\"viewport\" content=\"width=device-width, initial-scale=1\">
 ",
             Markup::Style => STYLE,
+            Markup::EndStyle => b"</style>
+</head>
+<body>
+<header>
+",
             Markup::EndHead => b"</p>
 <nav><a href=\"#who\">Who</a> <a href=\"#session\">Session</a> <a href=\"#files\">Files</a> <a href=\"#secrets\">Secrets</a> <a href=\"#flows\">Flows</a> <a href=\"#drawing\">Drawing</a></nav>
 </header>
@@ -180,10 +195,9 @@ impl Markup {
 ",
             Markup::BeginBoot => b"<details class=\"other\">\n<summary>Boot, line ",
             Markup::BeginOther => b"<details class=\"other\">\n<summary>Raw calls of line ",
-            Markup::BeginCall => b"<details>\n<summary>",
+            Markup::BeginSummary => b"\n<summary>",
             Markup::BeginBehind => b"</summary>\n<div class=\"behind\">\n",
             Markup::EndCall => b"</div>\n</details>\n",
-            Markup::BeginBare => b"<div class=\"bare\">",
             Markup::EndBare => b"</div>\n",
             Markup::EndSession | Markup::EndSecrets | Markup::EndFlows => b"</section>\n",
             Markup::BeginFiles => b"<section id=\"files\">
@@ -215,6 +229,12 @@ impl Markup {
             Markup::OnSecrets =>
                 b"<p>On whom each file rests at the end that isn't for everyone to read: the trusted could pass it on, the confined can't, and who logs in as one of these users may read it.</p>\n",
             Markup::BeginSecret => b"<p class=\"secret\">\n",
+            Markup::BeginLaw => b"</p>
+<p class=\"sentence\"><span>After the session nobody outside learns what is in ",
+            Markup::UnlessTold =>
+                b"unless a trusted process makes a call, or they log in as a reader (<code>outsiders_learn_nothing</code>).</span>\n",
+            Markup::UnlessLogin =>
+                b"unless they log in as a reader (<code>outsiders_learn_nothing</code>).</span>\n",
             Markup::EndSecret => b"</p>\n",
             Markup::OnTitles =>
                 b"<h3>How each is revealed or changed</h3>\n<p>Below each file: which processes reveal it and to whom, which users read it after a login, and who changes it. These are the titles of what <code>histar leak</code> prints of the file, with the calls.</p>\n",

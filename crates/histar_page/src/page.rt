@@ -10,7 +10,7 @@ ghost use Rattle.histar_page.specs.Page.{sources_of};
 use crate::drawing::drawing_pieces;
 use crate::files::files_pieces;
 use crate::flows::flows_pieces;
-use crate::head::{head_pieces, title_of};
+use crate::head::{head_pieces, style_pieces, title_of};
 use crate::jobs::jobs_of;
 use crate::markup::Markup;
 use crate::piece::{Piece, fix, render};
@@ -70,6 +70,7 @@ fn render_head(alloc: Global, page: &mut Vec<u8>, texts: &Texts) -> Result<(), A
         ≡ page.old.items ++ rendered (head_shown (sources_of texts.now))) }
 {
     let title = title_of(alloc, texts.name, texts.script)?;
+    render_part(page, style_pieces(alloc, title, texts.script, texts.output))?;
     render_part(
         page,
         head_pieces(alloc, title, texts.name, texts.version, texts.output),
@@ -118,7 +119,13 @@ fn secrets_of<'a>(alloc: Global, texts: &Texts<'a>) -> Result<Vec<Piece<'a>>, Al
     if is_long(texts.secrets) {
         return left_out(alloc, Markup::SecretsLeftOut);
     }
-    secrets_pieces(alloc, texts.secrets, texts.titles)
+    secrets_pieces(
+        alloc,
+        texts.script,
+        texts.output,
+        texts.secrets,
+        texts.titles,
+    )
 }
 
 /// Returns the piece of a part that is left out, which says so.

@@ -1,14 +1,18 @@
 //! The session on a page: its story, and after each call its raw calls.
-ghost use Rattle.std.specs.Prelude.{◌≡◌, ◌≤◌, ◌+◌, ◌++◌, [], drop, length, IfOk, OnOk};
-ghost use Rattle.histar_script.specs.Lines.{lines_of};
+ghost use Rattle.std.specs.Prelude.{◌≡◌, ◌≤◌, ◌+◌, ◌++◌, ◌∷◌, [], drop, length, IfOk, OnOk};
+ghost use Rattle.histar_script.specs.Lines.{lines_of, split_word};
 ghost use Rattle.histar_page.specs.Texts.{texts};
 ghost use Rattle.histar_page.specs.Items.{items_of};
+ghost use Rattle.histar_page.specs.Items.Item.{Shown};
+ghost use Rattle.histar_page.specs.declared.kind.Kind.TheVariants.{LineId};
+ghost use Rattle.histar_page.specs.Callers.{callers};
 ghost use Rattle.histar_page.specs.Laws.{SessionsAreShown};
 ghost use Rattle.histar_page.specs.Order.{past_own, taken_own};
 ghost use Rattle.histar_page.specs.MarkedLines.{marked_in, marked_of};
-ghost use Rattle.histar_page.specs.Session.{boot_items, calls_items, kernel_items, session_items, turn_items, turns_from};
+ghost use Rattle.histar_page.specs.Session.{begin_items, boot_items, calls_items, kernel_items, session_items, turn_items, turns_from};
 ghost use Rattle.histar_page.specs.Story.{call_items};
 
+use crate::callers::{caller, callers_in};
 use crate::kind::Kind;
 use crate::lines::{LineKind, among, lines_in, own_count};
 use crate::markup::Markup;
@@ -76,8 +80,24 @@ fn line_pieces<'a>(
         raw_calls: raw_calls.as_slice(),
         explanations: explanations.as_slice(),
     };
-    let mut pieces = Vec::new(alloc);
+    let mut pieces = begin_session(alloc, script, lines.replies)?;
     push_session(&mut pieces, script, lines)?;
+    Ok(pieces)
+}
+
+/// Returns the heading of a session, and a link for each process whose calls these replies answer.
+fn begin_session<'a>(
+    alloc: Global,
+    script: &[&'a [u8]],
+    replies: &[&'a [u8]],
+) -> Result<Vec<Piece<'a>>, AllocError>
+    ensures { IfOk result (λ pieces. items_of pieces.items
+        ≡ begin_items (callers (texts script.now) (texts replies.now))) }
+{
+    let processes = callers_in(alloc, script, replies)?;
+    let mut pieces = Vec::new(alloc);
+    fix(&mut pieces, Markup::BeginSession)?;
+    push_each(&mut pieces, View::Links, processes.as_slice())?;
     Ok(pieces)
 }
 
@@ -149,7 +169,7 @@ fn own_lines<'b, 'a>(lines: &'b [&'a [u8]], from: usize, word: &[u8]) -> &'b [&'
     own
 }
 
-/// Adds the heading and the raw calls of boot.
+/// Adds the raw calls of boot.
 fn push_boot<'a>(pieces: &mut Vec<Piece<'a>>, boot: &[&'a [u8]]) -> Result<(), AllocError>
     ensures { OnOk result (items_of pieces.new.items
         ≡ items_of pieces.old.items ++ boot_items (texts boot.now)) }
@@ -157,7 +177,6 @@ fn push_boot<'a>(pieces: &mut Vec<Piece<'a>>, boot: &[&'a [u8]]) -> Result<(), A
     add(
         pieces,
         &[
-            Piece::Fixed(Markup::BeginSession),
             Piece::Fixed(Markup::BeginBoot),
             Piece::Shown(Kind::OtherLine, BOOT),
             Piece::Fixed(Markup::BeginBehind),
@@ -179,14 +198,35 @@ fn push_turn<'a>(
         ++ turn_items (texts script.now) before.now reply.now (marked_of own.entry)) }
 {
     push_notes(pieces, lines_between(script, before, reply), before)?;
+    let by = caller(script, reply);
     if own.raw_calls.is_empty() && own.explanations.is_empty() {
-        fix(pieces, Markup::BeginBare)?;
+        frame(pieces, Kind::BareBy, by, reply)?;
         push_call(pieces, script, reply, own.reasons)?;
         return fix(pieces, Markup::EndBare);
     }
-    fix(pieces, Markup::BeginCall)?;
+    frame(pieces, Kind::CallBy, by, reply)?;
+    fix(pieces, Markup::BeginSummary)?;
     push_call(pieces, script, reply, own.reasons)?;
     push_kernel(pieces, own.raw_calls, own.explanations)
+}
+
+/// Adds the beginning of the frame of a call: its process, and the number of its line.
+fn frame<'a>(
+    pieces: &mut Vec<Piece<'a>>,
+    kind: Kind,
+    by: &'a [u8],
+    reply: &'a [u8],
+) -> Result<(), AllocError>
+    ensures { OnOk result (items_of pieces.new.items ≡ items_of pieces.old.items
+        ++ Shown kind by.now ∷ Shown LineId (split_word reply.now).0 ∷ []) }
+{
+    add(
+        pieces,
+        &[
+            Piece::Shown(kind, by),
+            Piece::Shown(Kind::LineId, split_word(reply).0),
+        ],
+    )
 }
 
 /// Adds a call with its reply, and these reasons.

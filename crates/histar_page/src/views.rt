@@ -10,6 +10,7 @@ ghost use Rattle.histar_page.specs.Session.{hides_bytes, other_call_items, other
 ghost use Rattle.histar_page.specs.Views.{view_items, views};
 ghost use Rattle.histar_page.specs.declared.kind.Kind.TheVariants.{OtherLine};
 
+use crate::callers::{push_link, push_rule};
 use crate::files::COLON;
 use crate::kind::Kind;
 use crate::lines::{after_word, is_denied, mark_number, or_nothing};
@@ -44,6 +45,10 @@ pub(crate) enum View {
     Stats,
     /// Processes and users, each by the word before it.
     Members,
+    /// Links to the calls of each process.
+    Links,
+    /// Rules of style, by which the calls of each process are shown alone.
+    Rules,
 }
 
 /// Adds words or lines between two fixed texts.
@@ -98,6 +103,8 @@ fn push_one<'a>(pieces: &mut Vec<Piece<'a>>, view: View, text: &'a [u8]) -> Resu
         View::GroupMembers => show(pieces, Kind::MemberName, text),
         View::Stats => show(pieces, Kind::Stat, text),
         View::Members => push_member(pieces, text),
+        View::Links => push_link(pieces, text),
+        View::Rules => push_rule(pieces, text),
     }
 }
 

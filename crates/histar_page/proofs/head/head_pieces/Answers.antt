@@ -7,9 +7,9 @@ use Rattle.std.proofs.lemmas.Result.{IfOk-weaker}
 use Rattle.histar_page.specs.Texts.{texts}
 use Rattle.histar_page.specs.Items.{Item, items_of}
 use Rattle.histar_page.specs.Items.Item.{Fixed, Shown}
-use Rattle.histar_page.specs.declared.markup.Markup.TheVariants.{Begin, EndHead, Style}
+use Rattle.histar_page.specs.declared.markup.Markup.TheVariants.{EndHead, EndStyle}
 use Rattle.histar_page.specs.Lines.{is_denied, is_raw_call, is_refused, is_reply}
-use Rattle.histar_page.specs.declared.kind.Kind.TheVariants.{Calls, Denials, FileName, MainTitle, Refusals, Title, Version}
+use Rattle.histar_page.specs.declared.kind.Kind.TheVariants.{Calls, Denials, FileName, MainTitle, Refusals, Version}
 use Rattle.histar_page.proofs.head.head_pieces.Goals as goal
 
 pub returns : goal.returns
@@ -30,7 +30,7 @@ returns c =
     c.denials.ensures ∙ ap (λ lines. length (filter is_denied (texts lines))) c.as_slice-4.ensures.value
     ∙ ap (λ lines. length (filter is_denied lines)) raw_calls in
     let shown : ℕ → ℕ → ℕ → List Item = λ calls refused denied.
-    Fixed Begin ∷ Shown Title c.args.title.now ∷ Fixed Style ∷ Shown MainTitle c.args.title.now ∷ Shown FileName c.args.name.now
+    Fixed EndStyle ∷ Shown MainTitle c.args.title.now ∷ Shown FileName c.args.name.now
     ∷ Shown Calls (decimal calls) ∷ Shown Refusals (decimal refused) ∷ Shown Denials (decimal denied) ∷ Shown Version c.args.version.now
     ∷ Fixed EndHead ∷ [] in
     IfOk-weaker c.from_slice.result _ _ (λ pieces are. ap items_of are ∙ (λ i. shown (calls i) (refused i) (denied i))) c.from_slice.ensures.items
