@@ -68,7 +68,7 @@ use Rattle.histar_why.specs.Names.{process_of}
 use Rattle.histar_names.specs.KnownBirths.{NamesBirths}
 use Rattle.histar_why.specs.Reasons.{bytes_then, first_reason, has_directory, has_file, part_reason, reason_of, unread_in, unwritten_in}
 use Rattle.histar_why.specs.Reasons.{bytes_of as spot_bytes}
-use Rattle.histar_why.specs.Views.{CountsEntries, CountsIn, IsViewOf}
+use Rattle.histar_why.specs.Views.{CountsEntries, CountsIn, IsViewOf, asks_empty, asks_room}
 use Rattle.histar_why.specs.Ways.{IsAt, Reveals, Sight, sight_at, sight_of}
 use Rattle.histar_why.proofs.Found.{search_is}
 use Rattle.histar_why.proofs.Spots.{is_directory_is, is_there_is, led_directory, node_at, nothing_at, same_number, unread_is}
@@ -341,15 +341,18 @@ module _ (accounts : Accounts) (s : State) (f : Flat) (births : Births) (names :
         ap (λ (x : Path). option_map (MayNotWrite (parent x)) (unwritten_in view.facts.now.way.above)) path_is
         ∙ write_is (parent q) view.facts.now.way.above way_is.1 (parent_there q walked)
 
-    room_met : reason parts.HasRoomAbove
+    room_met : asks_room (parts_of call) ≡ true → reason parts.HasRoomAbove
         ≡ unless (nat_lt (length (entries_in f (parent q))) most_entries) (IsFull (parent q) (length (entries_in f (parent q))))
-    room_met =
-        let n = entries_are (parent q) view.facts.now.way.above way_is.1 view.facts.now.above is.facts.above in
+    room_met asks =
+        let counts = is.facts.above (ap asks_room is_asked.parts ∙ asks) in
+        let n = entries_are (parent q) view.facts.now.way.above way_is.1 view.facts.now.above counts in
         λ i. unless (nat_lt (n i) most_entries) (IsFull (parent (path_is i)) (n i))
 
-    empty_met : reason parts.IsEmpty ≡ unless (length (entries_in f q) == 0) (IsNotEmpty q (length (entries_in f q)))
-    empty_met =
-        let n = entries_are q view.facts.now.way.here way_is.2 view.facts.now.here is.facts.here in
+    empty_met : asks_empty (parts_of call) ≡ true
+        → reason parts.IsEmpty ≡ unless (length (entries_in f q) == 0) (IsNotEmpty q (length (entries_in f q)))
+    empty_met asks =
+        let counts = is.facts.here (ap asks_empty is_asked.parts ∙ asks) in
+        let n = entries_are q view.facts.now.way.here way_is.2 view.facts.now.here counts in
         λ i. unless (n i == 0) (IsNotEmpty (path_is i) (n i))
 
     -- how many bytes the file would have
@@ -402,14 +405,14 @@ module _ (accounts : Accounts) (s : State) (f : Flat) (births : Births) (names :
     firsts = first_reason view
 
     -- an entry that is made, a file whose bytes change, and an entry that is removed or renamed
-    room_first : (last : Part) (x : Option Reason) → reason last ≡ x
+    room_first : asks_room (parts_of call) ≡ true → (last : Part) (x : Option Reason) → reason last ≡ x
         → firsts (parts.NotRoot EEXIST ∷ parts.Walk ∷ parts.Absent ∷ parts.HasRoomAbove ∷ parts.MayWriteAbove ∷ last ∷ [])
         ≡ ((unless (is_below_root q) (root_reason EEXIST q) orelse why_walk accounts f p q orelse unless (not (is_there f q)) (IsTaken q)
         orelse unless (nat_lt (length (entries_in f (parent q))) most_entries) (IsFull (parent q) (length (entries_in f (parent q))))
         orelse not_written accounts f p (parent q)) orelse x)
-    room_first last x e =
+    room_first asks last x e =
         later (root_met EEXIST) (λ root. later walk_met (λ walked. λ i.
-        absent_met i orelse room_met i orelse write_above_met walked i orelse (none_last (reason last) ∙ e) i))
+        absent_met i orelse room_met asks i orelse write_above_met walked i orelse (none_last (reason last) ∙ e) i))
         ∙ sym (five (unless (is_below_root q) (root_reason EEXIST q)) (why_walk accounts f p q) (unless (not (is_there f q)) (IsTaken q))
         (unless (nat_lt (length (entries_in f (parent q))) most_entries) (IsFull (parent q) (length (entries_in f (parent q)))))
         (not_written accounts f p (parent q)) x)
@@ -437,8 +440,10 @@ module _ (accounts : Accounts) (s : State) (f : Flat) (births : Births) (names :
     -- the first part that is not met is that of the rule
     call_met : (c : UnixCall) → call ≡ c → is_some (why_need accounts f me p q (rule c).needs) ≡ true
         → firsts (parts_of c) ≡ why_need accounts f me p q (rule c).needs
-    call_met (Create r mode) e refused = room_first (parts.OfProcess (of_process.MayMake mode)) _ (make_met mode)
-    call_met (Mkdir r mode) e refused = room_first (parts.OfProcess (of_process.MayMake mode)) _ (make_met mode)
+    call_met (Create r mode) e refused =
+        room_first (ap (λ c. asks_room (parts_of c)) e) (parts.OfProcess (of_process.MayMake mode)) _ (make_met mode)
+    call_met (Mkdir r mode) e refused =
+        room_first (ap (λ c. asks_room (parts_of c)) e) (parts.OfProcess (of_process.MayMake mode)) _ (make_met mode)
     call_met (Read r) e refused = file_first (parts.MayRead ∷ []) _ (λ there. none_last (reason parts.MayRead) ∙ read_met)
     call_met (Write r bytes) e refused =
         file_first (parts.MayWrite ∷ parts.Fits kepts.Nothing (length bytes) ∷ []) _
@@ -452,7 +457,8 @@ module _ (accounts : Accounts) (s : State) (f : Flat) (births : Births) (names :
     call_met (Unlink r) e refused = entry_first (parts.IsFile ∷ parts.MayWriteAbove ∷ []) _ (λ walked. λ i. file_met i orelse written_last walked i)
     call_met (Rmdir r) e refused =
         entry_first (parts.IsDirectory ∷ parts.MayRead ∷ parts.IsEmpty ∷ parts.MayWriteAbove ∷ []) _
-        (λ walked. λ i. directory_met i orelse read_met i orelse empty_met i orelse written_last walked i)
+        (λ walked. λ i.
+        directory_met i orelse read_met i orelse empty_met (ap (λ c. asks_empty (parts_of c)) e) i orelse written_last walked i)
     call_met (Rmtree r) e refused = entry_first (parts.MayWriteAbove ∷ []) _ written_last
     call_met (Rename r name) e refused =
         entry_first (parts.AbsentBeside name ∷ parts.MayWriteAbove ∷ []) _
@@ -468,7 +474,8 @@ module _ (accounts : Accounts) (s : State) (f : Flat) (births : Births) (names :
         ∙ last_refuses (unless (is_some (user_named accounts.users name)) (NoUser name)) (option_map IsInJob (innermost p)) _
         (WrongPassword name) refused
     call_met (Wrap r) e refused =
-        (λ i. child_left_met i orelse number_left_met i orelse room_first (parts.OfProcess of_process.IsSomebody) _ somebody_met i)
+        (λ i. child_left_met i orelse number_left_met i orelse room_first (ap (λ c. asks_room (parts_of c)) e)
+        (parts.OfProcess of_process.IsSomebody) _ somebody_met i)
         ∙ sym (assoc (unless (nat_lt p.born most_children) (HadChildren p.born))
         (unless (nat_lt (length me) most_numbers) (HasNumbers (length me + 1))) _)
 

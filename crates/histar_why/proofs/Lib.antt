@@ -4,6 +4,8 @@ pub mod Naming
 pub mod Found
 pub mod Spots
 pub mod Evaluating
+pub mod Telling
+pub mod ByRefusal
 pub mod Saying
 pub mod Lines
 pub mod Turns

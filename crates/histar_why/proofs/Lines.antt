@@ -20,7 +20,7 @@ use Rattle.histar_why.specs.declared.views.View.{View}
 use Rattle.histar_why.specs.Absences.{absence_by}
 use Rattle.histar_why.specs.Names.{process_of}
 use Rattle.histar_why.specs.Reasons.{first_reason, reason_of}
-use Rattle.histar_why.specs.Logging.{Adds, SaysLine, SaysReason, SaysWords, words_of}
+use Rattle.histar_why.specs.Logging.{Adds, SaysLine, SaysReason, SaysWhy, words_of}
 use Rattle.histar_why.specs.Views.{IsViewOf}
 
 module _ (users : Accounts) (roots : Roots) (births : Births) (s : State) (asked : Asked) where
@@ -60,7 +60,7 @@ module _ (m : MachineModel) (births : Births) (asked : Asked) (reply : Reply) wh
 
   pub line_added : {X E : Type 0} (r : Result X E) (users : Accounts) (roots : Roots) (kernel : KernelModel) (known : Births)
       → users ≡ m.users → roots ≡ m.roots → kernel ≡ m.kernel → known ≡ births
-      → (old first second new : List ℕ) → first ≡ old ++ head → Adds (SaysWords users roots known (state kernel) asked) first second
+      → (old first second new : List ℕ) → first ≡ old ++ head → Adds (SaysWhy users roots known (state kernel) asked reply) first second
       → new ≡ (if is_ok r then second ++ codes "\n" else second) → OnOk r (Adds (SaysLine m births asked reply) old new)
   line_added (Err e) users roots kernel known us rs ks bs old first second new a b c = tt
   line_added (Ok x) users roots kernel known us rs ks bs old first second new a b c = (
@@ -69,7 +69,7 @@ module _ (m : MachineModel) (births : Births) (asked : Asked) (reply : Reply) wh
         ∙ append_assoc old (head ++ b.0) (codes "\n"),
     record {
       words = b.0;
-      says = subst (λ (y : Accounts × Roots × KernelModel × Births). SaysWords y.0 y.1 y.3 (state y.2) asked b.0)
+      says = subst (λ (y : Accounts × Roots × KernelModel × Births). SaysWhy y.0 y.1 y.3 (state y.2) asked reply b.0)
           (λ i. (us i, rs i, ks i, bs i)) b.2;
       is = refl;
     },

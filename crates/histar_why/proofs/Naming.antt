@@ -1,43 +1,19 @@
 -- What is noted of categories along the lines of a script is right.
-use Rattle.std.specs.Prelude.{◌≡◌, ℕ, zero, suc, ◌+◌, ◌-◌, ◌<◌, ◌≤◌, Bool, List, [], ◌∷◌, ◌++◌, length, replicate, Option, None, Some}
-use Rattle.std.specs.Prelude.{if◌then◌else◌, option_and_then, option_map, slice_get, Ok, refl}
-use Rattle.std.proofs.Common.{arith, ap, ◌⊎◌, inl, inr, sym, ◌∙◌, subst}
-use Rattle.std.proofs.lemmas.Bool.{true≢false}
-use Rattle.std.proofs.lemmas.List.{length-append, length-replicate}
+use Rattle.std.specs.Prelude.{[], ◌∷◌, ◌++◌}
+use Rattle.std.specs.Prelude.{Ok, refl}
+use Rattle.std.proofs.Common.{ap, sym, ◌∙◌, subst}
 use Rattle.histar_flat.specs.declared.calls.CallLine.{CallLine}
 use Rattle.histar_flat.specs.declared.replies.Reply.{Reply}
-use Rattle.histar_flat.specs.Words.{ProcName}
 use Rattle.histar_flat.specs.Accounts.{Accounts}
 use Rattle.histar_flat.specs.Calls.{IsCall}
-use Rattle.histar_flat.specs.Classes.{Process, knows}
-use Rattle.histar_flat.specs.Classes.Class.{Readable}
-use Rattle.histar_flat.specs.Files.{empty}
-use Rattle.histar_flat.specs.FlatState.{Flat, Node, IsTree, is_given}
-use Rattle.histar_flat.specs.FlatState.Content.{Dir}
+use Rattle.histar_flat.specs.FlatState.{Flat, IsTree}
 use Rattle.histar_flat.specs.FlatCalls.{flat_after}
-use Rattle.histar_flat.specs.Meaning.{boot, first_process, first_user}
-use Rattle.histar_flat.proofs.FileLemmas.{get_other}
-use Rattle.histar_flat.proofs.GivenNames.{next_is_new}
+use Rattle.histar_flat.specs.Meaning.{boot}
 use Rattle.histar_flat.proofs.Laws.{states_go_on}
 use Rattle.histar_flat.proofs.Trees.{paths_are_a_tree}
-use Rattle.histar_object.specs.State.{State}
-use Rattle.histar_rules.specs.declared.raw.Denied.{Denied}
-use Rattle.histar_rules.specs.declared.raw.RawCall.{RawCall}
-use Rattle.histar_rules.specs.Rules.{Leaves}
-use Rattle.histar_rules.proofs.TaintedCalls.{later_category}
-use Rattle.histar_trace.specs.declared.entries.TraceEntry.{TraceEntry}
 use Rattle.histar_syscall.specs.KernelModel.{state}
-use Rattle.histar_syscall.specs.Runs.{IsRun}
-use Rattle.histar_layout.specs.Status.{ProcessStatus}
-use Rattle.histar_programs.specs.declared.roots.Home.{Home}
 use Rattle.histar_programs.specs.declared.roots.Roots.{Roots}
-use Rattle.histar_programs.specs.Caller.{status_at}
-use Rattle.histar_programs.specs.Start.{roots_of}
-use Rattle.histar_refinement.specs.Categories.{is_for, IsUsed}
-use Rattle.histar_refinement.specs.Categories.CategoryName.{OfJob}
-use Rattle.histar_refinement.specs.KeptNames.{RepresentsStill}
-use Rattle.histar_refinement.proofs.CallerFound.{where_is, home_is, status_is}
-use Rattle.histar_names.specs.Births.{Births, births_after, child_of, last_child}
+use Rattle.histar_names.specs.Births.{Births, births_after}
 use Rattle.histar_shell.specs.Machine.{MachineModel, AnswersLine, IsStart}
 use Rattle.histar_shell.specs.Meaning.{AnswersAsMeant}
 use Rattle.histar_shell.proofs.CallRefinements.{calls_refine}

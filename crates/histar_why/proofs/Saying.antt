@@ -2,7 +2,7 @@
 use Rattle.std.specs.Prelude.{◌≡◌, ℕ, Bool, true, false, List, [], length, Option, None, Some, MatchBool, MatchOption, is_some, option_map, refl}
 use Rattle.std.proofs.Common.{ap, sym, ◌∙◌, subst}
 use Rattle.std.proofs.lemmas.Bool.{true≢false}
-use Rattle.std.proofs.lemmas.Option.{none-some}
+use Rattle.std.proofs.lemmas.Option.{none-some, same_Some}
 use Rattle.histar_flat.specs.declared.calls.CallLine.{CallLine}
 use Rattle.histar_flat.specs.declared.calls.UnixCall.{UnixCall}
 use Rattle.histar_flat.specs.declared.replies.Errno.{Errno}
@@ -11,7 +11,7 @@ use Rattle.histar_flat.specs.Words.{ProcName}
 use Rattle.histar_flat.specs.Accounts.{Accounts}
 use Rattle.histar_flat.specs.Classes.{Process}
 use Rattle.histar_flat.specs.FlatState.{Flat, IsTree}
-use Rattle.histar_flat.specs.FlatCalls.{changed, flat_after, flat_by, flat_or, refused, reply_to, running}
+use Rattle.histar_flat.specs.FlatCalls.{answer, changed, flat_after, flat_by, flat_or, refused, reply_by, reply_or, reply_to, running}
 use Rattle.histar_flat.proofs.Trees.{paths_are_a_tree}
 use Rattle.histar_object.specs.State.{State}
 use Rattle.histar_syscall.specs.KernelModel.{state}
@@ -30,7 +30,10 @@ use Rattle.histar_why.specs.declared.names.Caller.{Caller}
 use Rattle.histar_why.specs.Absences.{absence_by}
 use Rattle.histar_why.specs.Asked.{IsAsked}
 use Rattle.histar_why.specs.Names.{IsReached, Knows, process_of, running_at}
-use Rattle.histar_why.specs.Logging.{SaysIfRefused, SaysLine, SaysReason, SaysWords, words_of}
+use Rattle.histar_why.specs.declared.told.Told.{Told}
+use Rattle.histar_why.specs.Logging.{SaysIfRefused, SaysLine, SaysReason, SaysWhy, SaysWords, words_of}
+use Rattle.histar_why.specs.Told.{TellsReason, told_words}
+use Rattle.histar_why.proofs.ByRefusal.{told_said}
 use Rattle.histar_why.proofs.Evaluating.{reason_is}
 use Rattle.histar_why.proofs.Found.{absence_is, running_found}
 
@@ -120,6 +123,40 @@ module _ (accounts : Accounts) (f : Flat) (reached : IsReached accounts f) (line
             ∙ ap (absence_text me) (absence_is accounts s f births known.names me)))
         by (Some p) runs says = reason_said p runs says.0 says.1 words says.2
 
+    -- whether its refusal tells it or not
+    why_said : (reply : Reply) → reply ≡ reply_to accounts f me call → (words : List ℕ) → SaysWhy users roots births s asked reply words
+        → sentence accounts f me call ≡ Some words
+    why_said reply is words says = by says.0 says.1 says.2
+      where
+        -- a call that is answered otherwise tells nothing
+        answered : (p : Process) → running f me ≡ Some p → (told : Told) → words ≡ told_words asked told → (o : Option Errno)
+            → refused accounts f me p call ≡ o → TellsReason s roots asked (reply_or o (answer f me p call)) (Some told)
+            → sentence_by accounts f me (Some p) call ≡ Some words
+        answered p runs told said None none tells =
+            absurd (true≢false (sym refusal ∙ sym spoken ∙ ap (λ (o : Option Process). is_some (sentence_by accounts f me o call)) runs
+            ∙ some_words p (why accounts f me p call) ∙ no_reason p none))
+        answered p runs told said (Some e) refuses tells =
+            with_reason (why accounts f me p call) refl (refusals_have_reasons accounts f tree me p call ∙ refuses)
+          where
+            with_reason : (o : Option Reason) → why accounts f me p call ≡ o → option_map errno_of o ≡ Some e
+                → option_map (why_text me p) o ≡ Some words
+            with_reason None reason errno = absurd (none-some _ errno)
+            with_reason (Some r) reason errno =
+                ap Some (sym (said
+                ∙ told_said accounts s f births known.names tree line p asked is_asked told r reason e (same_Some _ _ errno) tells))
+
+        told_by : (told : Told) → words ≡ told_words asked told → (o : Option Process) → running f me ≡ o
+            → TellsReason s roots asked (reply_by accounts f me o call) (Some told) → sentence_by accounts f me o call ≡ Some words
+        told_by told said None runs tells = absurd (none-some told (sym tells))
+        told_by told said (Some p) runs tells = answered p runs told said (refused accounts f me p call) refl tells
+
+        by : (told : Option Told) → TellsReason s roots asked reply told
+            → MatchOption told (SaysWords users roots births s asked words) (λ reason. words ≡ told_words asked reason)
+            → sentence accounts f me call ≡ Some words
+        by None tells says = words_said words says
+        by (Some told) tells said =
+            told_by told said (running f me) refl (subst (λ (r : Reply). TellsReason s roots asked r (Some told)) is tells)
+
   -- the line is that of the rules, whether the call was refused or not
   pub line_said : (m : MachineModel) (births : Births) → Knows births accounts m (flat_after accounts f me call) → (asked : Asked)
       → IsAsked line asked → (reply : Reply) → reply ≡ reply_to accounts f me call → (text : List ℕ)
@@ -137,7 +174,7 @@ module _ (accounts : Accounts) (f : Flat) (reached : IsReached accounts f) (line
           let refuses : is_refusal (reply_to accounts f me call) ≡ true = ap is_refusal (sym is) ∙ refusal in
           let here : Knows births accounts m f = subst (Knows births accounts m) (nothing_changes refuses) known in
           let words =
-          subst (λ (x : Accounts × Roots). SaysWords x.0 x.1 births (state m.kernel) asked says.words)
+          subst (λ (x : Accounts × Roots). SaysWhy x.0 x.1 births (state m.kernel) asked reply says.words)
           (λ i. (here.shows.users i, here.shows.roots i)) says.says in
           says.is ∙ ap (λ (n : ℕ). line_text n reply (Some says.words)) is_asked.number
-          ∙ ap (line_text line.line reply) (sym (words_said m births here asked is_asked refuses says.words words))
+          ∙ ap (line_text line.line reply) (sym (why_said m births here asked is_asked refuses reply is says.words words))

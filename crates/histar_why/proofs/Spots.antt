@@ -1,6 +1,6 @@
 -- What is found at a path of a state is what the rules say is there.
 use Rattle.std.specs.Prelude.{◌≡◌, ℕ, ◌+◌, ◌*◌, true, List, [], ◌∷◌, length, map, Option, None, Some, MatchOption}
-use Rattle.std.specs.Prelude.{option_and_then, option_map, refl, Ok, Err}
+use Rattle.std.specs.Prelude.{option_and_then, option_map, refl, IfOk, Result, Ok, Err}
 use Rattle.std.proofs.Common.{ap, inr, sym, ◌∙◌, subst}
 use Rattle.std.proofs.lemmas.Option.{none-some, same_Some}
 use Rattle.std.specs.FinMap as maps
@@ -18,7 +18,13 @@ use Rattle.histar_object.specs.State.{State}
 use Rattle.histar_syscall.specs.KernelModel.{lent_bytes}
 use Rattle.histar_layout.specs.Checked.{IsLookedUp}
 use Rattle.histar_layout.specs.declared.checked.NotADirectory.{NotADirectory}
-use Rattle.histar_layout.specs.ClassLabels.{HasJobs, IsClassLabel, IsRisingFrom, class_label, owned_label}
+use Rattle.histar_layout.specs.ClassLabels.{FindsClass, HasJobs, IsClassLabel, IsRisingFrom, class_label, owned_label, without_jobs}
+use Rattle.histar_layout.specs.ShownClass.{class_shown}
+use Rattle.histar_layout.specs.declared.shown.ShownClass.{ShownClass}
+use Rattle.histar_layout.specs.declared.shown.ShownClass.TheVariants as shown
+use Rattle.histar_layout.proofs.ClassLabels.{one_class}
+use Rattle.histar_layout.proofs.ClassesShown.{classes_shown}
+use Rattle.histar_object.specs.Objects.{label_there}
 use Rattle.histar_layout.specs.Categories.{group_owner, scratch_label, write_category}
 use Rattle.histar_layout.specs.Directory.{Entries, IsDirectory}
 use Rattle.histar_layout.specs.Labelling.{written_by}
@@ -28,7 +34,6 @@ use Rattle.histar_layout.specs.declared.class.Class.{Class as NumberedClass}
 use Rattle.histar_layout.specs.declared.class.Class.TheVariants as numbered
 use Rattle.histar_layout.specs.declared.entry.Target.{Target}
 use Rattle.histar_layout.specs.declared.entry.Target.TheVariants as targets
-use Rattle.histar_layout.proofs.ClassLabels.{one_class as labels_have_one_class}
 use Rattle.histar_layout.proofs.DirectoryLemmas.{same_directory}
 use Rattle.histar_programs.specs.declared.roots.Roots.{Roots}
 use Rattle.histar_programs.specs.Start.{roots_of}
@@ -64,7 +69,7 @@ use Rattle.histar_why.specs.Causes.{class_by, class_named, jobs_by}
 use Rattle.histar_why.specs.Views.{CountsIn}
 use Rattle.histar_names.specs.KnownBirths.{NamesBirths}
 use Rattle.histar_why.specs.Reasons.{has_directory, reason_of, unread_in}
-use Rattle.histar_why.specs.Ways.{FindsBelow, FindsEntry, FindsSpot, HasClass, IsAt, IsSpot, IsWayTo, Lists, Reveals, Sight}
+use Rattle.histar_why.specs.Ways.{FindsBelow, FindsEntry, FindsSpot, HasClass, IsAt, IsSpot, IsWayTo, Lists, Reveals, ShowsClass, Sight}
 use Rattle.histar_why.specs.Ways.{sight_at, sight_by, sight_of, why_into_by}
 use Rattle.histar_why.proofs.Found.{jobs_are}
 
@@ -203,19 +208,15 @@ module _ (accounts : Accounts) (s : State) (f : Flat) (births : Births) (names :
       of_class = still_of_class accounts _ _ is_node.of_class;
     }
 
-    one_class : (class : NumberedClass) → HasClass (without_passwords accounts) s target class → class ≡ numbered_class l.category there.node.class
-    one_class class has =
-        labels_have_one_class (without_passwords accounts) has.label class (numbered_class l.category there.node.class) has.of_class
-        (subst (IsClassLabel (without_passwords accounts) (numbered_class l.category there.node.class))
-        (same_Some of_class.label has.label (sym of_class.label_is ∙ has.label_is)) of_class.of_class)
+    abbrev class : NumberedClass
+    class = numbered_class l.category there.node.class
 
     -- a spot there is what the process sees
-    sight_is : (spot : Spot) → IsSpot (without_passwords accounts) births s p target spot → sight_of spot ≡ sight_at accounts p there.node
+    sight_is : (spot : Spot) → IsSpot (without_passwords accounts) births s p target class spot → sight_of spot ≡ sight_at accounts p there.node
     sight_is spot is =
-        let class : class_named births is.class ≡ there.node.class =
-        ap (class_named births) (one_class is.class is.has_class) ∙ class_is q there.node there.at there.node.class refl in
         is.seen
-        ∙ (λ i. sight_by (without_passwords accounts) p (class i) (there.kind i) (length (there.bytes i)))
+        ∙ (λ i. sight_by (without_passwords accounts) p (class_is q there.node there.at there.node.class refl i) (there.kind i)
+        (length (there.bytes i)))
         ∙ (λ i. record {
           is_directory = is_dir there.node;
           bytes = length (bytes_of (Some there.node));
@@ -226,11 +227,13 @@ module _ (accounts : Accounts) (s : State) (f : Flat) (births : Births) (names :
     -- so what is found there is what the rules say
     at_target : (found : Option Spot) → FindsSpot (without_passwords accounts) births s p target found
         → IsAt (without_passwords accounts) roots births s accounts f p q found
-    at_target None none = absurd (none _ of_class)
-    at_target (Some spot) is = record {
-      leads = subst (LeadsTo s roots q) (sym is.leads) led;
-      seen = ap Some (sight_is spot is) ∙ ap (option_map (sight_at accounts p)) (sym there.at);
-    }
+    at_target None finds = absurd (finds class of_class)
+    at_target (Some spot) finds =
+        let is : IsSpot (without_passwords accounts) births s p target class spot = finds class of_class in
+        record {
+          leads = subst (LeadsTo s roots q) (sym is.leads) led;
+          seen = ap Some (sight_is spot is) ∙ ap (option_map (sight_at accounts p)) (sym there.at);
+        }
 
   -- ---- one name more
 
@@ -388,6 +391,79 @@ module _ (s : State) (above : Target) (name : Name) (container listing : ℕ) (i
   entries_counted n read_as is_read count =
       subst (λ (t : Target). CountsIn s t n) (sym is) (λ dir here.
       count ∙ ap maps.len (same_directory bytes read_as dir is_read (subst (λ (b : List ℕ). IsDirectory b dir) (sym read) here)))
+
+-- ---- one spot
+
+-- where the object of a target has no label, it is of no class
+pub no_label : (users : Accounts) (births : Births) (s : State) (p : Process) (target : Target)
+    → label_there (s.objects (object_of target)) ≡ None → FindsSpot users births s p target None
+no_label users births s p target none other has = none-some has.label (sym none ∙ has.label_is)
+
+-- where its label shows no class, neither
+pub no_class : (users : Accounts) (births : Births) (s : State) (p : Process) (target : Target) (label : Levels)
+    → label_there (s.objects (object_of target)) ≡ Some label → ShowsClass users label None → FindsSpot users births s p target None
+no_class users births s p target label there shows other has =
+    none-some other (shows other (subst (IsClassLabel users other) (same_Some _ _ (sym has.label_is ∙ there)) has.of_class))
+
+-- the spot of the class that its label shows
+pub spot_found : (users : Accounts) (births : Births) (s : State) (p : Process) (target : Target) (label : Levels)
+    → label_there (s.objects (object_of target)) ≡ Some label → (class : NumberedClass) → ShowsClass users label (Some class)
+    → (spot : Spot) → IsSpot users births s p target class spot → FindsSpot users births s p target (Some spot)
+spot_found users births s p target label there class shows spot is other has =
+    subst (λ (c : NumberedClass). IsSpot users births s p target c spot)
+    (same_Some class other (shows other (subst (IsClassLabel users other) (same_Some _ _ (sym has.label_is ∙ there)) has.of_class))) is
+
+-- ---- the class of a label
+
+module _ (users : Accounts) (label : Levels) where
+  -- what a label shows is its class without jobs
+  shown_is : (shown : Option ShownClass) → shown ≡ class_shown users label → (class : NumberedClass) → IsClassLabel users class label
+      → shown ≡ Some (without_jobs class)
+  shown_is shown e class is = e ∙ classes_shown users class label is
+
+  -- a label that shows nothing is of no class
+  pub none_shown : None ≡ class_shown users label → ShowsClass users label None
+  none_shown e class is = absurd (none-some _ (shown_is None e class is))
+
+  -- a class that a label shows and that has no jobs
+  pub private_shown : (owner : Name) → Some (shown.Private owner) ≡ class_shown users label
+      → ShowsClass users label (Some (numbered.Private owner))
+  private_shown owner e class is = by class (shown_is _ e class is)
+    where
+      by : (c : NumberedClass) → Some (shown.Private owner) ≡ Some (without_jobs c) → Some (numbered.Private owner) ≡ Some c
+      by (numbered.Private other) e = cc
+      by _ e = absurd (cc)
+
+  pub readable_shown : (owner : Name) → Some (shown.Readable owner) ≡ class_shown users label
+      → ShowsClass users label (Some (numbered.Readable owner))
+  readable_shown owner e class is = by class (shown_is _ e class is)
+    where
+      by : (c : NumberedClass) → Some (shown.Readable owner) ≡ Some (without_jobs c) → Some (numbered.Readable owner) ≡ Some c
+      by (numbered.Readable other) e = cc
+      by _ e = absurd (cc)
+
+  pub open_shown : Some shown.Open ≡ class_shown users label → ShowsClass users label (Some numbered.Open)
+  open_shown e class is = by class (shown_is _ e class is)
+    where
+      by : (c : NumberedClass) → Some shown.Open ≡ Some (without_jobs c) → Some numbered.Open ≡ Some c
+      by numbered.Open e = refl
+      by _ e = absurd (cc)
+
+  pub group_shown : (group : Name) → Some (shown.Group group) ≡ class_shown users label → ShowsClass users label (Some (numbered.Group group))
+  group_shown group e class is = by class (shown_is _ e class is)
+    where
+      by : (c : NumberedClass) → Some (shown.Group group) ≡ Some (without_jobs c) → Some (numbered.Group group) ≡ Some c
+      by (numbered.Group other) e = cc
+      by _ e = absurd (cc)
+
+  -- a class that was found of a label is the only one
+  pub found_shown : (found : Option NumberedClass) → FindsClass users label found → ShowsClass users label found
+  found_shown None none class is = absurd (none class is)
+  found_shown (Some class) is other also = ap Some (one_class users label class other is also)
+
+  pub shown_if_found : {E : Type 0} (r : Result (Option NumberedClass) E) → IfOk r (FindsClass users label) → IfOk r (ShowsClass users label)
+  shown_if_found (Ok found) finds = found_shown found finds
+  shown_if_found (Err e) finds = tt
 
 -- the spot of a class is that of its target
 module _ (users : Accounts) (births : Births) (p : Process) (class : NumberedClass) where

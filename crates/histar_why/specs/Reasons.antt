@@ -21,6 +21,8 @@ use Rattle.histar_why.specs.declared.asked.Part.{Part}
 use Rattle.histar_why.specs.declared.asked.Part.TheVariants as parts
 use Rattle.histar_why.specs.declared.asked.ProcessPart.{ProcessPart}
 use Rattle.histar_why.specs.declared.asked.ProcessPart.TheVariants as of_process
+use Rattle.histar_why.specs.declared.reasons.PathReason.{PathReason as AtPath}
+use Rattle.histar_why.specs.declared.reasons.PathReason.TheVariants as at_path
 use Rattle.histar_why.specs.declared.reasons.ProcessReason.{ProcessReason as OwnReason}
 use Rattle.histar_why.specs.declared.reasons.ProcessReason.TheVariants as own
 use Rattle.histar_why.specs.declared.reasons.Reason.{Reason as Found}
@@ -44,18 +46,22 @@ process_reason_of (own.WrongPassword name) = WrongPassword name
 process_reason_of (own.IsInJob job) = IsInJob job
 process_reason_of own.StartsNoJob = StartsNoJob
 
+-- a reason of what is at a path, as the rules have it
+abbrev pub path_reason_of : AtPath → Reason
+path_reason_of (at_path.IsMissing q) = IsMissing q
+path_reason_of (at_path.HasFile q) = HasFile q
+path_reason_of (at_path.HasDirectory q) = HasDirectory q
+path_reason_of (at_path.IsTaken q) = IsTaken q
+path_reason_of at_path.RootStays = RootStays
+path_reason_of (at_path.IsFull q n) = IsFull q n
+path_reason_of (at_path.IsNotEmpty q n) = IsNotEmpty q n
+path_reason_of (at_path.IsTooLong q n) = IsTooLong q n
+
 -- a reason, as the rules have it
 abbrev pub reason_of : Found → Reason
 reason_of (found.MayNotRead q cause) = MayNotRead q (cause_of cause)
 reason_of (found.MayNotWrite q cause) = MayNotWrite q (cause_of cause)
-reason_of (found.IsMissing q) = IsMissing q
-reason_of (found.HasFile q) = HasFile q
-reason_of (found.HasDirectory q) = HasDirectory q
-reason_of (found.IsTaken q) = IsTaken q
-reason_of found.RootStays = RootStays
-reason_of (found.IsFull q n) = IsFull q n
-reason_of (found.IsNotEmpty q n) = IsNotEmpty q n
-reason_of (found.IsTooLong q n) = IsTooLong q n
+reason_of (found.OfPath reason) = path_reason_of reason
 reason_of (found.OfProcess reason) = process_reason_of reason
 
 -- ---- what was seen at a path
@@ -106,27 +112,32 @@ module _ (view : View) where
   process_reason of_process.InNoJob = option_map IsInJob (innermost (process_of view.caller.now))
   process_reason of_process.IsSomebody = unless (not (same view.caller.now.user nobody)) StartsNoJob
 
+  -- why a part that is of what is at a path, whoever calls, is not met; none for other parts
+  abbrev pub path_reason : Part → Option Reason
+  path_reason (parts.NotRoot e) = unless (is_below_root view.asked.now.path) (root_reason e view.asked.now.path)
+  path_reason parts.Exists = unless (is_some view.facts.now.way.here) (IsMissing view.asked.now.path)
+  path_reason parts.IsFile = unless (has_file view.facts.now.way.here) (HasDirectory view.asked.now.path)
+  path_reason parts.IsDirectory = unless (has_directory view.facts.now.way.here) (HasFile view.asked.now.path)
+  path_reason parts.Absent = unless (not (is_some view.facts.now.way.here)) (IsTaken view.asked.now.path)
+  path_reason (parts.AbsentBeside name) =
+      unless (not view.facts.now.beside) (IsTaken (name ∷ parent view.asked.now.path))
+  path_reason parts.HasRoomAbove =
+      unless (nat_lt view.facts.now.above most_entries) (IsFull (parent view.asked.now.path) view.facts.now.above)
+  path_reason parts.IsEmpty = unless (view.facts.now.here == 0) (IsNotEmpty view.asked.now.path view.facts.now.here)
+  path_reason (parts.Fits kept new) =
+      unless (nat_le (bytes_then kept view.facts.now.way.here new) most_bytes)
+      (IsTooLong view.asked.now.path (bytes_then kept view.facts.now.way.here new))
+  path_reason part = None
+
   -- why a part is not met
   abbrev pub part_reason : Part → Option Reason
-  part_reason (parts.NotRoot e) = unless (is_below_root view.asked.now.path) (root_reason e view.asked.now.path)
   part_reason parts.Walk = option_map reason_of view.facts.now.way.walk
-  part_reason parts.Exists = unless (is_some view.facts.now.way.here) (IsMissing view.asked.now.path)
-  part_reason parts.IsFile = unless (has_file view.facts.now.way.here) (HasDirectory view.asked.now.path)
-  part_reason parts.IsDirectory = unless (has_directory view.facts.now.way.here) (HasFile view.asked.now.path)
-  part_reason parts.Absent = unless (not (is_some view.facts.now.way.here)) (IsTaken view.asked.now.path)
-  part_reason (parts.AbsentBeside name) =
-      unless (not view.facts.now.beside) (IsTaken (name ∷ parent view.asked.now.path))
   part_reason parts.MayRead = option_map (MayNotRead view.asked.now.path) (unread_in view.facts.now.way.here)
   part_reason parts.MayWrite = option_map (MayNotWrite view.asked.now.path) (unwritten_in view.facts.now.way.here)
   part_reason parts.MayWriteAbove =
       option_map (MayNotWrite (parent view.asked.now.path)) (unwritten_in view.facts.now.way.above)
-  part_reason parts.HasRoomAbove =
-      unless (nat_lt view.facts.now.above most_entries) (IsFull (parent view.asked.now.path) view.facts.now.above)
-  part_reason parts.IsEmpty = unless (view.facts.now.here == 0) (IsNotEmpty view.asked.now.path view.facts.now.here)
-  part_reason (parts.Fits kept new) =
-      unless (nat_le (bytes_then kept view.facts.now.way.here new) most_bytes)
-      (IsTooLong view.asked.now.path (bytes_then kept view.facts.now.way.here new))
   part_reason (parts.OfProcess part) = process_reason part
+  part_reason part = path_reason part
 
   -- why the first of these parts that is not met isn't
   abbrev pub first_reason : List Part → Option Reason

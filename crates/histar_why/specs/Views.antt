@@ -1,6 +1,7 @@
 -- What a call is about, read off the objects of a state.
-use Rattle.std.specs.Prelude.{◌≡◌, ℕ, Bool, false, [], ◌∷◌, map, Option, None, Some, MatchOption, is_some, option_map}
+use Rattle.std.specs.Prelude.{◌≡◌, ℕ, Bool, true, false, List, [], ◌∷◌, map, Option, None, Some, MatchOption, is_some, option_map}
 use Rattle.std.specs.FinMap as maps
+use Rattle.std.specs.List.{list_any}
 use Rattle.histar_base.specs.Refusals.{◌orelse◌}
 use Rattle.histar_flat.specs.Words.{ProcName}
 use Rattle.histar_flat.specs.Accounts.{Accounts}
@@ -20,6 +21,8 @@ use Rattle.histar_reasons.specs.Causes.{unknown}
 use Rattle.histar_reasons.specs.Reasons.{Reason}
 use Rattle.histar_reasons.specs.Reasons.Reason.{NoProcess, IsUnseen}
 use Rattle.histar_why.specs.declared.asked.Asked.{Asked}
+use Rattle.histar_why.specs.declared.asked.Part.{Part}
+use Rattle.histar_why.specs.declared.asked.Part.TheVariants.{HasRoomAbove, IsEmpty}
 use Rattle.histar_why.specs.declared.names.Caller.{Caller}
 use Rattle.histar_why.specs.declared.views.Facts.{Facts}
 use Rattle.histar_why.specs.declared.views.View.{View}
@@ -54,12 +57,28 @@ search_by users births s first p [] = None
 search_by users births s first p (n ∷ above) =
     search_by users births s first p above orelse unfound_by births p (n ∷ above) (node_at users s first (n ∷ above))
 
--- this was read for a call of a process
+-- a part needs room in the directory of the path; a part needs the directory at the path to be empty
+abbrev pub is_room_part : Part → Bool
+is_room_part HasRoomAbove = true
+is_room_part part = false
+
+abbrev pub is_empty_part : Part → Bool
+is_empty_part IsEmpty = true
+is_empty_part part = false
+
+-- one of these parts does
+abbrev pub asks_room : List Part → Bool
+asks_room parts = list_any is_room_part parts
+
+abbrev pub asks_empty : List Part → Bool
+asks_empty parts = list_any is_empty_part parts
+
+-- this was read for a call of a process: its entries are counted where a part asks for their number
 pub record AreFactsOf (users : Accounts) (roots : Roots) (births : Births) (s : State) (p : Process) (asked : Asked)
     (facts : Facts) : Type 0 where
   pub way : IsWayTo users roots births s p asked.path facts.way
-  pub above : CountsEntries s facts.way.above facts.above
-  pub here : CountsEntries s facts.way.here facts.here
+  pub above : asks_room asked.parts.items ≡ true → CountsEntries s facts.way.above facts.above
+  pub here : asks_empty asked.parts.items ≡ true → CountsEntries s facts.way.here facts.here
   pub beside : IsBeside s roots asked facts.beside
   pub sought : option_map reason_of facts.sought ≡ search_by users births s roots.home p asked.other
 

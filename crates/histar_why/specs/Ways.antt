@@ -27,6 +27,7 @@ use Rattle.histar_names.specs.Births.{Births}
 use Rattle.histar_reasons.specs.Causes.{Cause, unread, unwritten}
 use Rattle.histar_reasons.specs.Reasons.{Reason, why_walk}
 use Rattle.histar_reasons.specs.Reasons.Reason.{MayNotRead, IsMissing, HasFile}
+use Rattle.histar_why.specs.declared.ways.Seen.{Seen}
 use Rattle.histar_why.specs.declared.ways.Spot.{Spot}
 use Rattle.histar_why.specs.declared.ways.Way.{Way}
 use Rattle.histar_why.specs.Causes.{cause_of, class_named}
@@ -70,19 +71,21 @@ pub record HasClass (users : Accounts) (s : State) (target : Target) (class : Nu
   pub label_is : label_there (s.objects (object_of target)) ≡ Some label
   pub of_class : IsClassLabel users class label
 
--- the spot is that of a target, by the class of its object
-pub record IsSpot (users : Accounts) (births : Births) (s : State) (p : Process) (target : Target)
+-- the spot is that of a target whose object is of this class
+pub record IsSpot (users : Accounts) (births : Births) (s : State) (p : Process) (target : Target) (class : NumberedClass)
     (spot : Spot) : Type 0 where
   pub leads : spot.target ≡ target
-  pub class : NumberedClass
-  pub has_class : HasClass users s target class
   pub seen : sight_of spot
       ≡ sight_by users p (class_named births class) (is_directory target) (length (file_bytes_at s target))
 
--- the spot that was found is that of a target, and none was found only if its object is of no class
+-- where the object of a target is of a class, the spot that was found is that of the target, by this class
 abbrev pub FindsSpot : Accounts → Births → State → Process → Target → Option Spot → Type 0
 FindsSpot users births s p target found =
-    MatchOption found ((class : NumberedClass) → HasClass users s target class → ⊥) (IsSpot users births s p target)
+    (class : NumberedClass) → HasClass users s target class → MatchOption found ⊥ (IsSpot users births s p target class)
+
+-- where a label is of a class, that class was found
+abbrev pub ShowsClass : Accounts → Levels → Option NumberedClass → Type 0
+ShowsClass users label found = (class : NumberedClass) → IsClassLabel users class label → found ≡ Some class
 
 -- the directory at the one target lists this name, and its entry leads to the other target
 abbrev pub Lists : State → Target → Name → Target → Type 0
@@ -105,6 +108,10 @@ FindsListed users births s p above name found =
 abbrev pub FindsBelow : Accounts → Births → State → Process → Option Spot → Name → Option Spot → Type 0
 FindsBelow users births s p directory name found =
     MatchOption directory (found ≡ None) (λ spot. FindsListed users births s p spot.target name found)
+
+-- why the process can't go into what is seen at a path
+abbrev pub why_into_seen : Seen → Path → Option Reason
+why_into_seen seen q = unless seen.is_directory (HasFile q) orelse option_map (MayNotRead q) (option_map cause_of seen.unread)
 
 -- why the process can't go into the directory of a path, by what is on the way to it
 abbrev pub why_into_by : Way → Path → Option Reason

@@ -13,6 +13,7 @@ mod names;
 mod reasons;
 mod sentences;
 mod session;
+mod told;
 mod views;
 mod ways;
 

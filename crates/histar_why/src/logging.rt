@@ -6,14 +6,16 @@ ghost use Rattle.histar_names.specs.Births.{births_after};
 ghost use Rattle.histar_reasons.specs.Laws.{is_refusal};
 ghost use Rattle.histar_syscall.specs.KernelModel.{state};
 ghost use Rattle.histar_why.specs.Names.{process_of, running_at};
-ghost use Rattle.histar_why.specs.Logging.{Adds, SaysIfRefused, SaysLine, SaysReason, SaysWords};
+ghost use Rattle.histar_why.specs.Logging.{Adds, SaysIfRefused, SaysLine, SaysReason, SaysWhy};
+ghost use Rattle.histar_why.specs.Logging.{SaysWords};
 
 use crate::absences::absence_of;
 use crate::asked::Asked;
 use crate::names::{Caller, Reader, caller_of, node_at};
 use crate::reasons::first_reason;
-use crate::sentences::{push_absence, push_reason};
+use crate::sentences::{push_absence, push_reason, push_told};
 use crate::session::Log;
+use crate::told::told_reason;
 use crate::views::{View, facts_of};
 use histar_flat::{ProcName, Reply};
 use histar_label::LabelStore;
@@ -69,7 +71,7 @@ fn push_line<S: LabelStore + Drop>(
         births: log.births.as_slice(),
     };
     push_head(alloc, &mut log.text, asked.line, reply)?;
-    push_words(alloc, &reader, asked, &mut log.text)?;
+    push_words(alloc, &reader, asked, reply, &mut log.text)?;
     log.text.extend_from_slice(b"\n")
 }
 
@@ -98,8 +100,27 @@ fn push_head(
     text.extend_from_slice(b": ")
 }
 
-/// Adds why a call was refused.
+/// Adds why a call was refused: by its refusal where that tells, and else by the process that made
+/// it.
 fn push_words<S: LabelStore + Drop>(
+    alloc: Global,
+    reader: &Reader<S>,
+    asked: &Asked,
+    reply: &Reply,
+    text: &mut Vec<u8>,
+) -> Result<(), AllocError>
+    ensures { OnOk result
+        (Adds (SaysWhy reader.now.users.now reader.now.roots.now reader.now.births.now
+        (state reader.now.kernel.now) asked.now reply.now) text.old.items text.new.items) }
+{
+    match told_reason(reader, asked, reply) {
+        Some(told) => push_told(text, asked, &told),
+        None => push_own_words(alloc, reader, asked, text),
+    }
+}
+
+/// Adds why a call of its process was refused, or why there is no such process.
+fn push_own_words<S: LabelStore + Drop>(
     alloc: Global,
     reader: &Reader<S>,
     asked: &Asked,

@@ -15,7 +15,8 @@ ghost use Rattle.histar_why.specs.Causes.{cause_of};
 ghost use Rattle.histar_why.specs.Names.{process_of};
 ghost use Rattle.histar_why.specs.Reasons.{bytes_of, bytes_then, first_reason, has_directory};
 ghost use Rattle.histar_why.specs.Reasons.{has_file, part_reason, process_reason};
-ghost use Rattle.histar_why.specs.Reasons.{process_reason_of, reason_of, unread_in, unwritten_in};
+ghost use Rattle.histar_why.specs.Reasons.{path_reason, path_reason_of, process_reason_of};
+ghost use Rattle.histar_why.specs.Reasons.{reason_of, unread_in, unwritten_in};
 
 use crate::asked::{Kept, Part, ProcessPart};
 use crate::causes::{Cause, innermost, is_member, nobody};
@@ -40,6 +41,15 @@ pub(crate) enum Reason {
     /// The process may not read what is at the path; may not write it.
     MayNotRead(Path, Cause),
     MayNotWrite(Path, Cause),
+    /// It is a reason of what is at a path, whoever calls.
+    OfPath(PathReason),
+    /// It is a reason of the process.
+    OfProcess(ProcessReason),
+}
+
+/// Why a call is refused by what is at a path, whoever makes it.
+#[derive(Clone, Copy)]
+pub(crate) enum PathReason {
     /// Nothing is at the path; a file is; a directory is; something is.
     IsMissing(Path),
     HasFile(Path),
@@ -53,8 +63,6 @@ pub(crate) enum Reason {
     IsNotEmpty(Path, usize),
     /// The file would have this many bytes.
     IsTooLong(Path, u128),
-    /// It is a reason of the process.
-    OfProcess(ProcessReason),
 }
 
 /// Why a call of a process that runs is refused, whatever is at its path.
@@ -87,38 +95,54 @@ pub(crate) enum ProcessReason {
 pub(crate) fn first_reason(view: &View, parts: &[Part]) -> Option<Reason>
     ensures { option_map reason_of result ≡ first_reason view.now parts.now }
 {
-    let [part, more @ ..] = parts else {
-        return None;
-    };
-    match part_reason(view, part) {
-        Some(reason) => Some(reason),
-        None => first_reason(view, more),
+    for part in parts {
+        let reason = part_reason(view, part);
+        if reason.is_some() {
+            return reason;
+        }
     }
+    None
 }
 
 /// Returns why a part is not met, if it isn't.
 fn part_reason(view: &View, part: &Part) -> Option<Reason>
     ensures { option_map reason_of result ≡ part_reason view.now part.now }
 {
-    let path = view.asked.path;
+    let path = &view.asked.path;
+    let way = &view.facts.way;
     match part {
-        Part::NotRoot(errno) => unless(path.depth() > 0, root_reason(*errno, path)),
-        Part::Walk => view.facts.way.walk,
-        Part::Exists => unless(view.facts.way.here.is_some(), Reason::IsMissing(path)),
-        Part::IsFile => unless(has_file(&view.facts.way.here), Reason::HasDirectory(path)),
-        Part::IsDirectory => unless(has_directory(&view.facts.way.here), Reason::HasFile(path)),
-        Part::Absent => unless(!view.facts.way.here.is_some(), Reason::IsTaken(path)),
-        Part::AbsentBeside(name) => unless(
-            !view.facts.beside,
-            Reason::IsTaken(beside(&path, *name)),
-        ),
-        Part::MayRead => not_read(path, &view.facts.way.here),
-        Part::MayWrite => not_written(path, &view.facts.way.here),
-        Part::MayWriteAbove => not_written(above(&path), &view.facts.way.above),
-        Part::HasRoomAbove => no_room(above(&path), view.facts.above),
-        Part::IsEmpty => not_empty(path, view.facts.here),
-        Part::Fits(kept, new) => too_long(path, &view.facts.way.here, *kept, *new),
+        Part::Walk => way.walk,
+        Part::MayRead => not_read(path, &way.here),
+        Part::MayWrite => not_written(path, &way.here),
+        Part::MayWriteAbove => not_written(&above(path), &way.above),
         Part::OfProcess(part) => process_reason(view, part),
+        _ => match path_reason(view, part) {
+            Some(reason) => Some(Reason::OfPath(reason)),
+            None => None,
+        },
+    }
+}
+
+/// Returns why a part that is of what is at a path, whoever calls, is not met, if it isn't. Of
+/// other parts it returns none.
+fn path_reason(view: &View, part: &Part) -> Option<PathReason>
+    ensures { option_map path_reason_of result ≡ path_reason view.now part.now }
+{
+    let path = &view.asked.path;
+    let here = &view.facts.way.here;
+    match part {
+        Part::NotRoot(errno) if path.depth() == 0 => Some(root_reason(*errno, *path)),
+        Part::Exists if here.is_none() => Some(PathReason::IsMissing(*path)),
+        Part::IsFile if !has_file(here) => Some(PathReason::HasDirectory(*path)),
+        Part::IsDirectory if !has_directory(here) => Some(PathReason::HasFile(*path)),
+        Part::Absent if here.is_some() => Some(PathReason::IsTaken(*path)),
+        Part::AbsentBeside(name) if view.facts.beside => {
+            Some(PathReason::IsTaken(beside(path, *name)))
+        }
+        Part::HasRoomAbove => no_room(path, view.facts.above),
+        Part::IsEmpty => not_empty(path, view.facts.here),
+        Part::Fits(kept, new) => too_long(path, here, *kept, *new),
+        _ => None,
     }
 }
 
@@ -145,30 +169,27 @@ fn process_reason(view: &View, part: &ProcessPart) -> Option<Reason>
         ProcessPart::HasPassword(name) => (false, ProcessReason::WrongPassword(*name)),
         ProcessPart::IsSomebody => (caller.user != nobody(), ProcessReason::StartsNoJob),
     };
-    unless(is_met, Reason::OfProcess(reason))
-}
-
-/// Returns the reason, unless the part is met.
-fn unless(is_met: bool, reason: Reason) -> Option<Reason>
-    ensures { option_map reason_of result ≡ unless is_met (reason_of reason) }
-{
-    if is_met { None } else { Some(reason) }
+    if is_met {
+        None
+    } else {
+        Some(Reason::OfProcess(reason))
+    }
 }
 
 /// Returns why a call may not name `/`, by its refusal.
-fn root_reason(errno: Errno, path: Path) -> Reason
-    ensures { reason_of result ≡ root_reason errno path }
+fn root_reason(errno: Errno, path: Path) -> PathReason
+    ensures { path_reason_of result ≡ root_reason errno path }
 {
     match errno {
-        Errno::EEXIST => Reason::IsTaken(path),
-        Errno::EISDIR => Reason::HasDirectory(path),
-        _ => Reason::RootStays,
+        Errno::EEXIST => PathReason::IsTaken(path),
+        Errno::EISDIR => PathReason::HasDirectory(path),
+        _ => PathReason::RootStays,
     }
 }
 
 /// Returns why the process may not read what is at a path.
-pub(crate) fn not_read(path: Path, spot: &Option<Spot>) -> Option<Reason>
-    ensures { option_map reason_of result ≡ option_map (MayNotRead path) (unread_in spot.now) }
+fn not_read(path: &Path, spot: &Option<Spot>) -> Option<Reason>
+    ensures { option_map reason_of result ≡ option_map (MayNotRead path.now) (unread_in spot.now) }
 {
     match spot {
         Some(spot) => denied_read(path, &spot.seen.unread),
@@ -177,8 +198,8 @@ pub(crate) fn not_read(path: Path, spot: &Option<Spot>) -> Option<Reason>
 }
 
 /// Returns why the process may not write what is at a path.
-fn not_written(path: Path, spot: &Option<Spot>) -> Option<Reason>
-    ensures { option_map reason_of result ≡ option_map (MayNotWrite path) (unwritten_in spot.now) }
+fn not_written(path: &Path, spot: &Option<Spot>) -> Option<Reason>
+    ensures { option_map reason_of result ≡ option_map (MayNotWrite path.now) (unwritten_in spot.now) }
 {
     match spot {
         Some(spot) => denied_write(path, &spot.seen.unwritten),
@@ -187,54 +208,67 @@ fn not_written(path: Path, spot: &Option<Spot>) -> Option<Reason>
 }
 
 /// Returns a cause as why the process may not read what is at a path.
-fn denied_read(path: Path, cause: &Option<Cause>) -> Option<Reason>
+fn denied_read(path: &Path, cause: &Option<Cause>) -> Option<Reason>
     ensures { option_map reason_of result
-        ≡ option_map (MayNotRead path) (option_map cause_of cause.now) }
+        ≡ option_map (MayNotRead path.now) (option_map cause_of cause.now) }
 {
     match cause {
-        Some(cause) => Some(Reason::MayNotRead(path, *cause)),
+        Some(cause) => Some(Reason::MayNotRead(*path, *cause)),
         None => None,
     }
 }
 
 /// Returns a cause as why the process may not write what is at a path.
-fn denied_write(path: Path, cause: &Option<Cause>) -> Option<Reason>
+fn denied_write(path: &Path, cause: &Option<Cause>) -> Option<Reason>
     ensures { option_map reason_of result
-        ≡ option_map (MayNotWrite path) (option_map cause_of cause.now) }
+        ≡ option_map (MayNotWrite path.now) (option_map cause_of cause.now) }
 {
     match cause {
-        Some(cause) => Some(Reason::MayNotWrite(path, *cause)),
+        Some(cause) => Some(Reason::MayNotWrite(*path, *cause)),
         None => None,
     }
 }
 
-/// Returns why a directory has no room for an entry.
-fn no_room(path: Path, entries: usize) -> Option<Reason>
-    ensures { option_map reason_of result
-        ≡ unless (nat_lt entries most_entries) (IsFull path entries) }
+/// Returns why the directory of a path has no room for an entry.
+fn no_room(path: &Path, entries: usize) -> Option<PathReason>
+    ensures { option_map path_reason_of result
+        ≡ unless (nat_lt entries most_entries) (IsFull (parent path.now) entries) }
 {
-    unless(entries < MOST_ENTRIES, Reason::IsFull(path, entries))
+    if entries < MOST_ENTRIES {
+        None
+    } else {
+        Some(PathReason::IsFull(above(path), entries))
+    }
 }
 
 /// Returns why a directory is not empty.
-fn not_empty(path: Path, entries: usize) -> Option<Reason>
-    ensures { option_map reason_of result ≡ unless (entries == 0) (IsNotEmpty path entries) }
+fn not_empty(path: &Path, entries: usize) -> Option<PathReason>
+    ensures { option_map path_reason_of result
+        ≡ unless (entries == 0) (IsNotEmpty path.now entries) }
 {
-    unless(entries == 0, Reason::IsNotEmpty(path, entries))
+    if entries == 0 {
+        None
+    } else {
+        Some(PathReason::IsNotEmpty(*path, entries))
+    }
 }
 
 /// Returns why a file may not have this many new bytes.
-fn too_long(path: Path, spot: &Option<Spot>, kept: Kept, new: usize) -> Option<Reason>
-    ensures { option_map reason_of result
+fn too_long(path: &Path, spot: &Option<Spot>, kept: Kept, new: usize) -> Option<PathReason>
+    ensures { option_map path_reason_of result
         ≡ unless (nat_le (bytes_then kept spot.now new) most_bytes)
-        (IsTooLong path (bytes_then kept spot.now new)) }
+        (IsTooLong path.now (bytes_then kept spot.now new)) }
 {
     let old = match kept {
         Kept::All => bytes_of(spot),
         Kept::Nothing => 0,
     };
     let bytes = old as u128 + new as u128;
-    unless(bytes <= MOST_BYTES, Reason::IsTooLong(path, bytes))
+    if bytes <= MOST_BYTES {
+        None
+    } else {
+        Some(PathReason::IsTooLong(*path, bytes))
+    }
 }
 
 /// Checks whether a process may make something of a mode.

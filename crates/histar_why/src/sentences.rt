@@ -9,11 +9,14 @@ ghost use Rattle.histar_why.specs.Absences.{absence_of};
 ghost use Rattle.histar_why.specs.Causes.{cause_of};
 ghost use Rattle.histar_why.specs.Names.{process_of};
 ghost use Rattle.histar_why.specs.Reasons.{process_reason_of, reason_of};
+ghost use Rattle.histar_why.specs.Told.{path_words, told_words};
 
 use crate::absences::Absence;
+use crate::asked::Asked;
 use crate::causes::{Cause, innermost};
 use crate::names::Caller;
-use crate::reasons::{ProcessReason, Reason};
+use crate::reasons::{PathReason, ProcessReason, Reason};
+use crate::told::Told;
 use histar_flat::{Name, Path, ProcName};
 use histar_texts::{push_path, push_process};
 use itoa::Buffer;
@@ -56,15 +59,35 @@ pub(crate) fn push_reason(
             push_about_path(text, " may not write ", path, ": ")?;
             push_cause(text, me, caller, cause)
         }
-        Reason::IsMissing(path) => push_about_path(text, "there is no ", path, ""),
-        Reason::HasFile(path) => push_about_path(text, "", path, " is a file"),
-        Reason::HasDirectory(path) => push_about_path(text, "", path, " is a directory"),
-        Reason::IsTaken(path) => push_about_path(text, "", path, " is there already"),
-        Reason::RootStays => push_str(text, "/ can be neither removed nor renamed"),
-        Reason::IsFull(path, count) => push_entries(text, path, *count, ", and 64 is the most"),
-        Reason::IsNotEmpty(path, count) => push_entries(text, path, *count, ""),
-        Reason::IsTooLong(path, bytes) => push_too_long(text, path, *bytes),
+        Reason::OfPath(reason) => push_path_reason(text, reason),
         Reason::OfProcess(reason) => push_process_reason(text, me, caller, reason),
+    }
+}
+
+/// Adds the sentence of a reason that a refusal tells by itself.
+pub(crate) fn push_told(text: &mut Vec<u8>, asked: &Asked, told: &Told) -> Result<(), AllocError>
+    ensures { OnOk result (text.new.items ≡ text.old.items ++ told_words asked.now told.now) }
+{
+    match told {
+        Told::OfPath(reason) => push_path_reason(text, reason),
+        Told::IsNoChild => push_no_child(text, &asked.process, &asked.other),
+    }
+}
+
+/// Adds the sentence of a reason that is of what is at a path, whoever calls.
+fn push_path_reason(text: &mut Vec<u8>, reason: &PathReason) -> Result<(), AllocError>
+    ensures { OnOk result (text.new.items
+        ≡ text.old.items ++ path_words reason.now) }
+{
+    match reason {
+        PathReason::IsMissing(path) => push_about_path(text, "there is no ", path, ""),
+        PathReason::HasFile(path) => push_about_path(text, "", path, " is a file"),
+        PathReason::HasDirectory(path) => push_about_path(text, "", path, " is a directory"),
+        PathReason::IsTaken(path) => push_about_path(text, "", path, " is there already"),
+        PathReason::RootStays => push_str(text, "/ can be neither removed nor renamed"),
+        PathReason::IsFull(path, count) => push_entries(text, path, *count, ", and 64 is the most"),
+        PathReason::IsNotEmpty(path, count) => push_entries(text, path, *count, ""),
+        PathReason::IsTooLong(path, bytes) => push_too_long(text, path, *bytes),
     }
 }
 

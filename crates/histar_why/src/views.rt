@@ -1,13 +1,13 @@
 //! What the call of a process is about, as the machine's own objects show it.
-ghost use Rattle.std.specs.Prelude.{◌≡◌, ◌≤◌, length, option_map, IfOk};
+ghost use Rattle.std.specs.Prelude.{◌≡◌, ◌≤◌, length, option_map, true, IfOk};
 ghost use Rattle.histar_flat.specs.Words.{most_numbers};
 ghost use Rattle.histar_syscall.specs.KernelModel.{state};
 ghost use Rattle.histar_why.specs.Names.{node_at, process_of};
 ghost use Rattle.histar_why.specs.Reasons.{reason_of};
-ghost use Rattle.histar_why.specs.Views.{AreFactsOf, CountsEntries, CountsIn, IsBeside, search_by};
-ghost use Rattle.histar_why.specs.Views.{unfound_by};
+ghost use Rattle.histar_why.specs.Views.{AreFactsOf, CountsEntries, CountsIn, IsBeside, asks_empty};
+ghost use Rattle.histar_why.specs.Views.{asks_room, search_by, unfound_by};
 
-use crate::asked::Asked;
+use crate::asked::{Asked, Part};
 use crate::causes::unknown;
 use crate::names::{Caller, Reader, names_of, node_at};
 use crate::reasons::{ProcessReason, Reason, beside};
@@ -24,7 +24,8 @@ use std::alloc::{AllocError, Global};
 pub(crate) struct Facts {
     /// The way to the path.
     pub way: Way,
-    /// How many entries there are in the directory of the path, and at the path.
+    /// How many entries there are in the directory of the path, and at the path, where the call
+    /// needs to know.
     pub above: usize,
     pub here: usize,
     /// Whether something in that directory has the name that the call gives.
@@ -57,11 +58,43 @@ pub(crate) fn facts_of<S: LabelStore + Drop>(
     let way = way_to(alloc, reader, caller, asked.path.names())?;
     Ok(Facts {
         way,
-        above: count_at(alloc, reader.kernel, &way.above)?,
-        here: count_at(alloc, reader.kernel, &way.here)?,
+        above: count_if(asks_room(asked), alloc, reader.kernel, &way.above)?,
+        here: count_if(asks_empty(asked), alloc, reader.kernel, &way.here)?,
         beside: is_beside(reader, asked),
         sought: search(alloc, reader, caller, asked.other.numbers())?,
     })
+}
+
+/// Checks whether a call needs room in the directory of its path.
+fn asks_room(asked: &Asked) -> bool
+    ensures { result ≡ asks_room asked.now.parts.items }
+{
+    let parts = asked.parts.as_slice();
+    parts.iter().any(|part| matches!(part, Part::HasRoomAbove))
+}
+
+/// Checks whether a call needs the directory at its path to be empty.
+fn asks_empty(asked: &Asked) -> bool
+    ensures { result ≡ asks_empty asked.now.parts.items }
+{
+    let parts = asked.parts.as_slice();
+    parts.iter().any(|part| matches!(part, Part::IsEmpty))
+}
+
+/// Counts the entries of the directory that is there, if they are asked for.
+fn count_if<S: LabelStore + Drop>(
+    is_asked: bool,
+    alloc: Global,
+    kernel: &Kernel<S>,
+    spot: &Option<Spot>,
+) -> Result<usize, AllocError>
+    ensures { IfOk result (λ n. is_asked ≡ true → CountsEntries (state kernel.now) spot.now n) }
+{
+    if is_asked {
+        count_at(alloc, kernel, spot)
+    } else {
+        Ok(0)
+    }
 }
 
 /// Counts the entries of the directory that is there. Where none is, there are none.

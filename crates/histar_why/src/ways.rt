@@ -7,14 +7,14 @@ ghost use Rattle.histar_why.specs.Causes.{jobs_by};
 ghost use Rattle.histar_why.specs.Names.{process_of};
 ghost use Rattle.histar_why.specs.Reasons.{reason_of};
 ghost use Rattle.histar_why.specs.Ways.{FindsBelow, FindsEntry, FindsListed, FindsSpot, IsWayTo};
-ghost use Rattle.histar_why.specs.Ways.{why_into_by};
+ghost use Rattle.histar_why.specs.Ways.{ShowsClass, why_into_by, why_into_seen};
 
 use crate::causes::{Cause, unread, unwritten};
 use crate::names::{Caller, Reader, names_of};
-use crate::reasons::{Reason, not_read};
+use crate::reasons::{PathReason, Reason};
 use histar_flat::{Name, Path, ProcName};
-use histar_label::LabelStore;
-use histar_layout::{Class, Target, class_of, look_up_checked};
+use histar_label::{Label, LabelStore};
+use histar_layout::{Class, ShownClass, Target, UserTable, class_of, look_up_checked, shown_class};
 use histar_names::Purpose;
 use histar_syscall::Kernel;
 use std::alloc::{AllocError, Global};
@@ -87,9 +87,22 @@ fn why_into(way: &Way, names: &[Name]) -> Option<Reason>
         return Some(reason);
     }
     match way.here {
-        None => Some(Reason::IsMissing(path_of(names))),
-        Some(spot) if !spot.seen.is_directory => Some(Reason::HasFile(path_of(names))),
-        Some(_) => not_read(path_of(names), &way.here),
+        None => Some(Reason::OfPath(PathReason::IsMissing(path_of(names)))),
+        Some(spot) => why_into_spot(&spot.seen, names),
+    }
+}
+
+/// Returns why the process can't go into what is there, by what is seen of it.
+fn why_into_spot(seen: &Seen, names: &[Name]) -> Option<Reason>
+    requires { length names.now ≤ most_names }
+    ensures { option_map reason_of result ≡ why_into_seen seen.now names.now }
+{
+    if !seen.is_directory {
+        return Some(Reason::OfPath(PathReason::HasFile(path_of(names))));
+    }
+    match seen.unread {
+        Some(cause) => Some(Reason::MayNotRead(path_of(names), cause)),
+        None => None,
     }
 }
 
@@ -153,7 +166,7 @@ fn spot_of<S: LabelStore + Drop>(
     let Some(label) = reader.kernel.label(target.object()) else {
         return Ok(None);
     };
-    let Some(class) = class_of(alloc, label, reader.users)? else {
+    let Some(class) = class_in(alloc, label, reader.users)? else {
         return Ok(None);
     };
     let jobs = jobs_of(alloc, reader.births, &class)?;
@@ -164,6 +177,24 @@ fn spot_of<S: LabelStore + Drop>(
         unwritten: unwritten(reader.users, caller, &class, jobs.as_slice()),
     };
     Ok(Some(Spot { target, seen }))
+}
+
+/// Returns the class of a label, if it has one. The label of a file of no job is not compared with that
+/// of its class.
+fn class_in(alloc: Global, label: &Label, users: &UserTable) -> Result<Option<Class>, AllocError>
+    ensures { IfOk result (ShowsClass users.now label.now) }
+{
+    let Some(shown) = shown_class(label, users) else {
+        return Ok(None);
+    };
+    let class = match shown {
+        ShownClass::Private(owner) => Class::Private(owner),
+        ShownClass::Readable(owner) => Class::Readable(owner),
+        ShownClass::Open => Class::Open,
+        ShownClass::Scratch(_) => return class_of(alloc, label, users),
+        ShownClass::Group(group) => Class::Group(group),
+    };
+    Ok(Some(class))
 }
 
 /// Returns the names of the jobs of a class.

@@ -1,10 +1,10 @@
--- Proves the goals of `push_words` of src/logging.rt that the search leaves open.
+-- Proves the goals of `push_own_words` of src/logging.rt that the search leaves open.
 use Rattle.std.proofs.Common.{sym, ap, ◌∙◌}
 use Rattle.std.specs.Prelude.{option_map}
 use Rattle.histar_syscall.specs.KernelModel.{state}
 use Rattle.histar_why.specs.Names.{process_of}
 use Rattle.histar_why.proofs.Lines.{added_as, running_said}
-use Rattle.histar_why.proofs.logging.push_words.Goals as goal
+use Rattle.histar_why.proofs.logging.push_own_words.Goals as goal
 
 pub returns-in-Some : goal.returns-in-Some
 returns-in-Some g c =

@@ -1,0 +1,255 @@
+-- What a refusal tells by itself is why its call was refused.
+use Rattle.std.specs.Prelude.{◌≡◌, Bool, true, false, List, [], ◌∷◌, length, Option, None, Some, MatchOption}
+use Rattle.std.specs.Prelude.{if◌then◌else◌, is_some, option_map, refl}
+use Rattle.std.proofs.Common.{ap, sym, ◌∙◌}
+use Rattle.std.proofs.lemmas.Bool.{true≢false}
+use Rattle.std.proofs.lemmas.Option.{none-some, same_Some}
+use Rattle.histar_base.specs.Refusals.{◌orelse◌, unless}
+use Rattle.histar_flat.specs.declared.calls.CallLine.{CallLine}
+use Rattle.histar_flat.specs.declared.calls.UnixCall.{UnixCall}
+use Rattle.histar_flat.specs.declared.calls.UnixCall.TheVariants.{Create, Mkdir, Read, Write, Append, List as ListCall, Stat, Unlink, Rmdir, Rmtree}
+use Rattle.histar_flat.specs.declared.calls.UnixCall.TheVariants.{Rename, Spawn, Exit, Status, Kill, Whoami, Login, Wrap}
+use Rattle.histar_flat.specs.declared.replies.Errno.{Errno}
+use Rattle.histar_flat.specs.declared.replies.Errno.TheVariants.{ENOENT, ENOTDIR, EISDIR, EEXIST, EACCES, EPERM, ENOTEMPTY, EBUSY, ENOSPC, EFBIG}
+use Rattle.histar_flat.specs.declared.replies.Errno.TheVariants.{ESRCH, EAGAIN, EAUTH}
+use Rattle.histar_flat.specs.Words.{Name, Path, ProcName}
+use Rattle.histar_flat.specs.PathOrder.{parent}
+use Rattle.histar_flat.specs.Accounts.{Accounts}
+use Rattle.histar_flat.specs.Classes.{Process}
+use Rattle.histar_flat.specs.Files.{get}
+use Rattle.histar_flat.specs.FlatState.{Flat, IsTree, Node, is_some_and, is_there}
+use Rattle.histar_flat.specs.Needs.{is_below_root, is_child}
+use Rattle.histar_flat.specs.CallRules.{path_of}
+use Rattle.histar_object.specs.Objects.{label_there}
+use Rattle.histar_object.specs.State.{State}
+use Rattle.histar_layout.specs.Jobs.{is_empty}
+use Rattle.histar_layout.specs.declared.entry.Target.{Target}
+use Rattle.histar_layout.proofs.Members.{first_of, second_of}
+use Rattle.histar_programs.specs.declared.roots.Roots.{Roots}
+use Rattle.histar_programs.specs.Start.{roots_of}
+use Rattle.histar_refinement.specs.NumberedClasses.{job_numbers}
+use Rattle.histar_refinement.specs.Represents.{ObjectsMatch}
+use Rattle.histar_refinement.proofs.Agreeing.{home_found}
+use Rattle.histar_refinement.proofs.CallerFound.{home_is, is_or_zero, where_is}
+use Rattle.histar_refinement.proofs.JobLabels.{chain_is}
+use Rattle.histar_refinement.proofs.StatusFound.{numbered_home}
+use Rattle.histar_readout.specs.Resolve.{Resolves}
+use Rattle.histar_names.specs.Births.{Births}
+use Rattle.histar_names.specs.KnownBirths.{NamesBirths}
+use Rattle.histar_reasons.specs.Causes.{unknown}
+use Rattle.histar_reasons.specs.Reasons.{Reason, errno_of, unseen, why, why_not_found}
+use Rattle.histar_reasons.specs.Reasons.Reason.{HasDirectory, IsMissing, IsNoChild, IsTaken, IsUnseen, NoProcess}
+use Rattle.histar_reasons.specs.Sentences.{why_text}
+use Rattle.histar_reasons.proofs.Agreeing.{directory_there}
+use Rattle.histar_why.specs.declared.asked.Asked.{Asked}
+use Rattle.histar_why.specs.declared.reasons.PathReason.{PathReason}
+use Rattle.histar_why.specs.declared.reasons.PathReason.TheVariants as at_path
+use Rattle.histar_why.specs.declared.told.Told.{Told}
+use Rattle.histar_why.specs.declared.told.Told.TheVariants.{OfPath, IsNoChild as SeesNoChild}
+use Rattle.histar_why.specs.Asked.{IsAsked, beside_of, other_of, parts_of}
+use Rattle.histar_why.specs.Reasons.{path_reason_of}
+use Rattle.histar_why.specs.Told.{FindsMissing, TellsErrno, anybody, are_free_to, asks_child, has_no_job, is_free_at, is_free_in, path_words}
+use Rattle.histar_why.specs.Told.{taken_path, told_of as reason_of_told, told_words}
+use Rattle.histar_why.proofs.Spots.{node_at, nothing_at}
+use Rattle.histar_why.proofs.Telling.{first_missing, taken_by, told_of}
+
+-- ---- its sentence
+
+-- the sentence of a reason of what is at a path is the same whoever calls
+pub path_alike : (me : ProcName) (p : Process) (reason : PathReason) → why_text me p (path_reason_of reason) ≡ path_words reason
+path_alike me p (at_path.IsMissing q) = refl
+path_alike me p (at_path.HasFile q) = refl
+path_alike me p (at_path.HasDirectory q) = refl
+path_alike me p (at_path.IsTaken q) = refl
+path_alike me p at_path.RootStays = refl
+path_alike me p (at_path.IsFull q n) = refl
+path_alike me p (at_path.IsNotEmpty q n) = refl
+path_alike me p (at_path.IsTooLong q n) = refl
+
+-- so is that of a reason that a refusal tells, whatever is known of the process
+pub told_alike : (asked : Asked) (p : Process) (told : Told) → why_text asked.process p (reason_of_told asked told) ≡ told_words asked told
+told_alike asked p (OfPath reason) = path_alike asked.process p reason ∙ sym (path_alike asked.process anybody reason)
+told_alike asked p SeesNoChild = refl
+
+-- ---- what is read of a state
+
+module _ (accounts : Accounts) (s : State) (f : Flat) (births : Births) (names : NamesBirths births accounts s f) (tree : IsTree f) where
+  abbrev roots : Roots
+  roots = roots_of (length accounts.users)
+
+  abbrev l : ObjectsMatch accounts s f
+  l = names.represents.matched
+
+  -- something is found at a path where the flat state has something
+  resolved_is : (q : Path) (found : Option Target) → Resolves s roots q found → is_some found ≡ is_there f q
+  unfolding Resolves
+  resolved_is q None nowhere = sym (ap (λ (o : Option Node). is_some_and o (λ n. true)) (nothing_at accounts s f births names q nowhere))
+  resolved_is q (Some target) led = sym (ap (λ (o : Option Node). is_some_and o (λ n. true)) (node_at accounts s f births names q target led).at)
+
+  -- a path at which nothing is is not `/`
+  below_root : (q : Path) → is_there f q ≡ false → is_below_root q ≡ true
+  below_root [] none = absurd (true≢false (sym (directory_there (get f.files []) tree.root) ∙ none))
+  below_root (n ∷ d) none = refl
+
+  -- one name more on the way
+  one_more : (n : Name) (d : Path) (missing : Option Path)
+      → (is_below_root d ≡ true → FindsMissing s roots d missing → missing ≡ Some (first_missing f d))
+      → FindsMissing s roots (n ∷ d) missing → missing ≡ Some (first_missing f (n ∷ d))
+  one_more n d missing above is = by is.0 (resolved_is d is.0 is.1) is.2
+    where
+      by : (found : Option Target) → is_some found ≡ is_there f d
+          → MatchOption found (FindsMissing s roots d missing) (λ there. missing ≡ Some (n ∷ d))
+          → missing ≡ Some (first_missing f (n ∷ d))
+      by None none finds =
+          above (below_root d (sym none)) finds ∙ ap (λ (b : Bool). Some (if b then n ∷ d else first_missing f d)) none
+      by (Some target) there finds = finds ∙ ap (λ (b : Bool). Some (if b then n ∷ d else first_missing f d)) there
+
+  -- the path that was found missing is the first on the way that is
+  missing_is : (q : Path) (missing : Option Path) → is_below_root q ≡ true → FindsMissing s roots q missing
+      → missing ≡ Some (first_missing f q)
+  missing_is [] missing below is = absurd (true≢false (sym below))
+  missing_is (n ∷ d) missing below is = one_more n d missing (λ b finds. missing_is d missing b finds) is
+
+  -- ---- processes that all see
+
+  -- a process is in no job where its container's label says so
+  free_is : (me : ProcName) → is_free_at s roots.home me ≡ is_some_and (f.processes me) (λ p. is_empty (job_numbers l.category p.chain))
+  free_is me = ap (is_free_in s) (home_is accounts s f l me) ∙ by (f.processes me) refl
+    where
+      outer : (p : Process) → f.processes me ≡ Some p
+          → has_no_job (label_there (s.objects (where_is accounts s f l me).container)) ≡ is_empty (job_numbers l.category p.chain)
+      outer p here =
+          let numbered = numbered_home accounts s f l me ∙ ap is_some here in
+          ap (λ found. has_no_job (label_there found))
+          (home_found accounts s f l me p here (where_is accounts s f l me).container (is_or_zero _ numbered)).1
+          ∙ ap is_empty (chain_is l.category l.different me p (l.processes me p here).chain)
+
+      by : (o : Option Process) → f.processes me ≡ o
+          → is_free_in s (option_map (λ (p : Process). where_is accounts s f l me) o)
+          ≡ is_some_and o (λ p. is_empty (job_numbers l.category p.chain))
+      by None e = refl
+      by (Some p) e = outer p e
+
+  -- a process that is there and in no job is seen
+  seen_by : (p : Process) (name : ProcName) (o : Option Process) → is_some_and o (λ other. is_empty (job_numbers l.category other.chain)) ≡ true
+      → (unless (is_some o) (NoProcess name) orelse unseen accounts f p name o) ≡ None
+  seen_by p name None h = absurd (true≢false (sym h))
+  seen_by p name (Some other) h = by other.chain h
+    where
+      by : (chain : List ProcName) → is_empty (job_numbers l.category chain) ≡ true → option_map (IsUnseen name) (unknown p chain) ≡ None
+      by [] h = refl
+      by (job ∷ chain) h = absurd (true≢false (sym h))
+
+  -- where a process and all above it are there and in no job, each process finds it
+  all_find : (p : Process) (name : ProcName) → are_free_to s roots.home name ≡ true → why_not_found accounts f p name ≡ None
+  all_find p [] h = refl
+  all_find p (n ∷ above) h =
+      (λ i. all_find p above (first_of (are_free_to s roots.home above) (is_free_at s roots.home (n ∷ above)) h) i
+      orelse (unless (is_some (f.processes (n ∷ above))) (NoProcess (n ∷ above))
+      orelse unseen accounts f p (n ∷ above) (f.processes (n ∷ above))))
+      ∙ seen_by p (n ∷ above) (f.processes (n ∷ above))
+      (sym (free_is (n ∷ above)) ∙ second_of (are_free_to s roots.home above) (is_free_at s roots.home (n ∷ above)) h)
+
+  -- ---- the reason
+
+  module _ (line : CallLine) (p : Process) (asked : Asked) (is_asked : IsAsked line asked) (told : Told) (r : Reason)
+      (refused : why accounts f line.process p line.call ≡ Some r) where
+    abbrev call : UnixCall
+    call = line.call
+
+    taken_is : (c : UnixCall) → (elim (beside_of c) [ None ↦ path_of c | Some name ↦ name ∷ parent (path_of c) ]) ≡ taken_by c
+    taken_is (Create q mode) = refl
+    taken_is (Mkdir q mode) = refl
+    taken_is (Read q) = refl
+    taken_is (Write q bytes) = refl
+    taken_is (Append q bytes) = refl
+    taken_is (ListCall q) = refl
+    taken_is (Stat q) = refl
+    taken_is (Unlink q) = refl
+    taken_is (Rmdir q) = refl
+    taken_is (Rmtree q) = refl
+    taken_is (Rename q name) = refl
+    taken_is Spawn = refl
+    taken_is (Exit n) = refl
+    taken_is (Status name) = refl
+    taken_is (Kill name) = refl
+    taken_is Whoami = refl
+    taken_is (Login name password) = refl
+    taken_is (Wrap q) = refl
+
+    path_taken : taken_path asked ≡ taken_by call
+    path_taken =
+        (λ i. elim (is_asked.beside i) [ None ↦ is_asked.path i | Some name ↦ name ∷ parent (is_asked.path i) ])
+        ∙ taken_is call
+
+    -- where a call needs a child, it is a kill
+    kill_is : (c : UnixCall) → call ≡ c → asks_child (parts_of c) ≡ true → why_not_found accounts f p (other_of c) ≡ None
+        → r ≡ IsNoChild (other_of c)
+    kill_is (Kill name) e asks found =
+        by (is_child line.process name)
+        (sym (ap (λ (c : UnixCall). why accounts f line.process p c) e) ∙ refused)
+      where
+        by : (b : Bool) → (why_not_found accounts f p name orelse unless b (IsNoChild name)) ≡ Some r → r ≡ IsNoChild name
+        by true h = absurd (none-some r (sym (ap (λ (o : Option Reason). o orelse None) found) ∙ h))
+        by false h = sym (same_Some _ _ (sym (ap (λ (o : Option Reason). o orelse Some (IsNoChild name)) found) ∙ h))
+    kill_is (Create q mode) e asks found = absurd (true≢false (sym asks))
+    kill_is (Mkdir q mode) e asks found = absurd (true≢false (sym asks))
+    kill_is (Read q) e asks found = absurd (true≢false (sym asks))
+    kill_is (Write q bytes) e asks found = absurd (true≢false (sym asks))
+    kill_is (Append q bytes) e asks found = absurd (true≢false (sym asks))
+    kill_is (ListCall q) e asks found = absurd (true≢false (sym asks))
+    kill_is (Stat q) e asks found = absurd (true≢false (sym asks))
+    kill_is (Unlink q) e asks found = absurd (true≢false (sym asks))
+    kill_is (Rmdir q) e asks found = absurd (true≢false (sym asks))
+    kill_is (Rmtree q) e asks found = absurd (true≢false (sym asks))
+    kill_is (Rename q name) e asks found = absurd (true≢false (sym asks))
+    kill_is Spawn e asks found = absurd (true≢false (sym asks))
+    kill_is (Exit n) e asks found = absurd (true≢false (sym asks))
+    kill_is (Status name) e asks found = absurd (true≢false (sym asks))
+    kill_is Whoami e asks found = absurd (true≢false (sym asks))
+    kill_is (Login name password) e asks found = absurd (true≢false (sym asks))
+    kill_is (Wrap q) e asks found = absurd (true≢false (sym asks))
+
+    abbrev reason : Reason
+    reason = reason_of_told asked told
+
+    -- the path that a call of ENOENT is about
+    missing_told : (q : Path) → path_of call ≡ q → (missing : Option Path) → FindsMissing s roots q missing
+        → Some told ≡ option_map (λ d. OfPath (at_path.IsMissing d)) missing → errno_of r ≡ ENOENT → reason ≡ r
+    missing_told [] e missing finds is errno =
+        absurd (none-some told (sym (is ∙ ap (option_map (λ d. OfPath (at_path.IsMissing d))) finds)))
+    missing_told (n ∷ d) e missing finds is errno =
+        ap (reason_of_told asked)
+        (same_Some told _ (is ∙ ap (option_map (λ x. OfPath (at_path.IsMissing x))) (missing_is (n ∷ d) missing refl finds)))
+        ∙ ap (λ (q : Path). IsMissing (first_missing f q)) (sym e)
+        ∙ sym ((told_of accounts f tree line.process p call r refused).3 errno (λ root. absurd (cc)))
+
+    -- the reason that is told is the rule's
+    told_right : (e : Errno) → errno_of r ≡ e → TellsErrno s roots asked e (Some told) → reason ≡ r
+    told_right EEXIST errno tells =
+        ap (reason_of_told asked) (same_Some told _ tells) ∙ ap IsTaken path_taken
+        ∙ sym ((told_of accounts f tree line.process p call r refused).0 errno)
+    told_right EISDIR errno tells =
+        ap (reason_of_told asked) (same_Some told _ tells) ∙ ap HasDirectory is_asked.path
+        ∙ sym ((told_of accounts f tree line.process p call r refused).1 errno)
+    told_right EBUSY errno tells =
+        ap (reason_of_told asked) (same_Some told _ tells)
+        ∙ sym ((told_of accounts f tree line.process p call r refused).2 errno)
+    told_right ENOENT errno tells = missing_told asked.path (sym is_asked.path) tells.0 tells.1 tells.2 errno
+    told_right EACCES errno tells =
+        ap (reason_of_told asked) tells.0 ∙ ap IsNoChild is_asked.other
+        ∙ sym (kill_is call refl (sym (ap asks_child is_asked.parts) ∙ tells.1)
+        (all_find p (other_of call) (sym (ap (are_free_to s roots.home) is_asked.other) ∙ tells.2)))
+    told_right ENOTDIR errno tells = absurd (none-some told (sym tells))
+    told_right EPERM errno tells = absurd (none-some told (sym tells))
+    told_right ENOTEMPTY errno tells = absurd (none-some told (sym tells))
+    told_right ENOSPC errno tells = absurd (none-some told (sym tells))
+    told_right EFBIG errno tells = absurd (none-some told (sym tells))
+    told_right ESRCH errno tells = absurd (none-some told (sym tells))
+    told_right EAGAIN errno tells = absurd (none-some told (sym tells))
+    told_right EAUTH errno tells = absurd (none-some told (sym tells))
+
+    -- and its sentence is that of the rule
+    pub told_said : (e : Errno) → errno_of r ≡ e → TellsErrno s roots asked e (Some told) → told_words asked told ≡ why_text line.process p r
+    told_said e errno tells =
+        sym (told_alike asked p told) ∙ (λ i. why_text (is_asked.by i) p (told_right e errno tells i))

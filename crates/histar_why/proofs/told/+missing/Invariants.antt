@@ -1,0 +1,6 @@
+-- The invariants and measures of `+missing` of src/told.rt.
+use Rattle.std.proofs.Common.{length}
+use Rattle.histar_why.proofs.told.+missing.Given as goal
+
+abbrev pub decreases-missing : goal.decreases-missing
+decreases-missing g l = length l.names.now

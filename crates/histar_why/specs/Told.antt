@@ -1,0 +1,109 @@
+-- What a refusal tells by itself of its reason, whoever made the call.
+use Rattle.std.specs.Prelude.{◌≡◌, ℕ, Bool, true, false, ◌&&◌, List, [], ◌∷◌, Option, None, Some, MatchOption, option_map}
+use Rattle.std.specs.List.{list_any}
+use Rattle.histar_flat.specs.declared.replies.Errno.{Errno}
+use Rattle.histar_flat.specs.declared.replies.Errno.TheVariants.{EEXIST, EISDIR, EBUSY, ENOENT, EACCES}
+use Rattle.histar_flat.specs.declared.replies.Reply.{Reply}
+use Rattle.histar_flat.specs.declared.replies.Reply.TheVariants.{Refused}
+use Rattle.histar_flat.specs.Words.{Path, ProcName}
+use Rattle.histar_flat.specs.PathOrder.{parent}
+use Rattle.histar_flat.specs.Classes.{Process}
+use Rattle.histar_level.specs.Levels.{Levels}
+use Rattle.histar_object.specs.State.{State}
+use Rattle.histar_object.specs.Objects.{label_there}
+use Rattle.histar_layout.specs.Jobs.{is_empty, jobs_in}
+use Rattle.histar_layout.specs.declared.entry.Target.{Target}
+use Rattle.histar_programs.specs.Caller.{home_at}
+use Rattle.histar_programs.specs.declared.roots.Home.{Home}
+use Rattle.histar_programs.specs.declared.roots.Roots.{Roots}
+use Rattle.histar_readout.specs.Resolve.{Resolves}
+use Rattle.histar_reasons.specs.Reasons.{Reason}
+use Rattle.histar_reasons.specs.Reasons.Reason.{IsNoChild}
+use Rattle.histar_reasons.specs.Sentences.{why_text}
+use Rattle.histar_why.specs.declared.asked.Asked.{Asked}
+use Rattle.histar_why.specs.declared.asked.Part.{Part}
+use Rattle.histar_why.specs.declared.asked.Part.TheVariants.{OfProcess}
+use Rattle.histar_why.specs.declared.asked.ProcessPart.TheVariants.{IsChild}
+use Rattle.histar_why.specs.declared.reasons.PathReason.{PathReason}
+use Rattle.histar_why.specs.declared.reasons.PathReason.TheVariants.{IsMissing, HasDirectory, IsTaken, RootStays}
+use Rattle.histar_why.specs.Reasons.{path_reason_of}
+use Rattle.histar_why.specs.declared.told.Told.{Told}
+use Rattle.histar_why.specs.declared.told.Told.TheVariants.{OfPath, IsNoChild as SeesNoChild}
+
+-- the path at which something is, where a call is refused since it is there
+abbrev pub taken_path : Asked → Path
+taken_path asked = elim asked.beside [ None ↦ asked.path | Some name ↦ name ∷ parent asked.path ]
+
+-- the call needs the process that it names to be a child of its own
+abbrev pub is_child_part : Part → Bool
+is_child_part (OfProcess (IsChild name)) = true
+is_child_part part = false
+
+abbrev pub asks_child : List Part → Bool
+asks_child parts = list_any is_child_part parts
+
+-- the label of a process's container has no job
+abbrev pub has_no_job : Option Levels → Bool
+has_no_job None = false
+has_no_job (Some outer) = is_empty (jobs_in outer)
+
+-- the process at this place, if there is one, is in no job
+abbrev pub is_free_in : State → Option Home → Bool
+is_free_in s None = false
+is_free_in s (Some home) = has_no_job (label_there (s.objects home.container))
+
+-- the process of this name is there and in no job
+abbrev pub is_free_at : State → Home → ProcName → Bool
+is_free_at s first me = is_free_in s (home_at s first me)
+
+-- the process of this name and all above it but process 0 are there and in no job
+abbrev pub are_free_to : State → Home → ProcName → Bool
+are_free_to s first [] = true
+are_free_to s first (n ∷ above) = are_free_to s first above && is_free_at s first (n ∷ above)
+
+-- ---- its sentence
+
+-- the reason that a refusal tells, as the rules have it
+abbrev pub told_of : Asked → Told → Reason
+told_of asked (OfPath reason) = path_reason_of reason
+told_of asked SeesNoChild = IsNoChild asked.other
+
+-- a process of which nothing is known
+abbrev pub anybody : Process
+anybody = record { user = []; chain = []; held = []; exited = None; born = 0 }
+
+-- the sentence of a reason of what is at a path, which is the same whoever calls
+abbrev pub path_words : PathReason → List ℕ
+path_words reason = why_text [] anybody (path_reason_of reason)
+
+-- the sentence of a reason that a refusal tells, which is the same of whatever user the process is
+abbrev pub told_words : Asked → Told → List ℕ
+told_words asked told = why_text asked.process anybody (told_of asked told)
+
+-- ---- what tells it
+
+module _ (s : State) (roots : Roots) where
+  -- This is which path on the way to a path is missing: the one below the last directory that is there. Where the path is `/` none is.
+  abbrev pub FindsMissing : Path → Option Path → Type 0
+  FindsMissing [] missing = missing ≡ None
+  FindsMissing (n ∷ d) missing =
+      (found : Option Target) × Resolves s roots d found
+      × MatchOption found (FindsMissing d missing) (λ there. missing ≡ Some (n ∷ d))
+
+  -- The reason of a call that is refused like this, where that tells: by the paths of the call, by the paths that are there, or since the
+  -- process that it names is seen by all.
+  abbrev pub TellsErrno : Asked → Errno → Option Told → Type 0
+  TellsErrno asked EEXIST told = told ≡ Some (OfPath (IsTaken (taken_path asked)))
+  TellsErrno asked EISDIR told = told ≡ Some (OfPath (HasDirectory asked.path))
+  TellsErrno asked EBUSY told = told ≡ Some (OfPath RootStays)
+  TellsErrno asked ENOENT told =
+      (missing : Option Path) × FindsMissing asked.path missing × (told ≡ option_map (λ q. OfPath (IsMissing q)) missing)
+  TellsErrno asked EACCES told =
+      MatchOption told (Unit {0})
+      (λ reason. (reason ≡ SeesNoChild) × (asks_child asked.parts.items ≡ true) × (are_free_to s roots.home asked.other ≡ true))
+  TellsErrno asked errno told = told ≡ None
+
+  -- the reason of a call with this reply, where that tells
+  abbrev pub TellsReason : Asked → Reply → Option Told → Type 0
+  TellsReason asked (Refused errno) told = TellsErrno asked errno told
+  TellsReason asked reply told = told ≡ None

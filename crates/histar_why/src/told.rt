@@ -1,0 +1,131 @@
+//! What a refusal tells by itself of its reason, whoever made the call.
+ghost use Rattle.std.specs.Prelude.{◌≡◌, ◌≤◌, length};
+ghost use Rattle.histar_flat.specs.Words.{most_names};
+ghost use Rattle.histar_syscall.specs.KernelModel.{state};
+ghost use Rattle.histar_why.specs.Told.{FindsMissing, TellsErrno, TellsReason, are_free_to, asks_child};
+ghost use Rattle.histar_why.specs.Told.{is_free_at, taken_path};
+
+use crate::asked::{Asked, Part, ProcessPart};
+use crate::names::Reader;
+use crate::reasons::{PathReason, beside};
+use crate::ways::path_of;
+use histar_flat::{Errno, Name, Path, Reply};
+use histar_label::LabelStore;
+use histar_layout::is_in_job;
+use histar_programs::home_at;
+use histar_readout::resolve::resolve;
+
+/// A reason that follows from a refusal, with no look at who called.
+#[derive(Clone, Copy)]
+pub(crate) enum Told {
+    /// It is a reason of what is at a path.
+    OfPath(PathReason),
+    /// The process that is named is no child of the caller.
+    IsNoChild,
+}
+
+/// Returns why a call was refused, where the refusal tells it together with the paths and the
+/// processes that are there.
+pub(crate) fn told_reason<S: LabelStore + Drop>(
+    reader: &Reader<S>,
+    asked: &Asked,
+    reply: &Reply,
+) -> Option<Told>
+    ensures { TellsReason (state reader.now.kernel.now) reader.now.roots.now asked.now reply.now
+        result }
+{
+    match reply {
+        Reply::Refused(errno) => told_by(reader, asked, *errno),
+        _ => None,
+    }
+}
+
+/// Returns why a call was refused like this, where that tells.
+fn told_by<S: LabelStore + Drop>(reader: &Reader<S>, asked: &Asked, errno: Errno) -> Option<Told>
+    ensures { TellsErrno (state reader.now.kernel.now) reader.now.roots.now asked.now errno result }
+{
+    match errno {
+        Errno::EEXIST => Some(Told::OfPath(PathReason::IsTaken(taken_path(asked)))),
+        Errno::EISDIR => Some(Told::OfPath(PathReason::HasDirectory(asked.path))),
+        Errno::EBUSY => Some(Told::OfPath(PathReason::RootStays)),
+        Errno::ENOENT => match missing(reader, asked.path.names()) {
+            Some(path) => Some(Told::OfPath(PathReason::IsMissing(path))),
+            None => None,
+        },
+        Errno::EACCES => no_child(reader, asked),
+        _ => None,
+    }
+}
+
+/// Returns the path at which something is, where a call is refused since it is there.
+fn taken_path(asked: &Asked) -> Path
+    ensures { result ≡ taken_path asked.now }
+{
+    match asked.beside {
+        Some(name) => beside(&asked.path, name),
+        None => asked.path,
+    }
+}
+
+/// Returns which path on the way to the path of these names is missing: the one below the last
+/// directory that is there. Where the path is `/` none is.
+fn missing<S: LabelStore + Drop>(reader: &Reader<S>, names: &[Name]) -> Option<Path>
+    requires { length names.now ≤ most_names }
+    ensures { FindsMissing (state reader.now.kernel.now) reader.now.roots.now names.now result }
+{
+    let [_, directory @ ..] = names else {
+        return None;
+    };
+    if resolve(reader.kernel, reader.roots, &path_of(directory)).is_some() {
+        Some(path_of(names))
+    } else {
+        missing(reader, directory)
+    }
+}
+
+/// Returns that the process that is named is no child of the caller, where a call needs that and
+/// every process may see the one that is named.
+fn no_child<S: LabelStore + Drop>(reader: &Reader<S>, asked: &Asked) -> Option<Told>
+    ensures { TellsErrno (state reader.now.kernel.now) reader.now.roots.now asked.now
+        Errno.EACCES result }
+{
+    if asks_child(asked) && are_free_to(reader, asked.other.numbers()) {
+        Some(Told::IsNoChild)
+    } else {
+        None
+    }
+}
+
+/// Checks whether a call needs the process that it names to be a child of its own.
+fn asks_child(asked: &Asked) -> bool
+    ensures { result ≡ asks_child asked.now.parts.items }
+{
+    let parts = asked.parts.as_slice();
+    parts.iter().any(|part| matches!(part, Part::OfProcess(ProcessPart::IsChild(_))))
+}
+
+/// Checks whether the process of these numbers and all above it but process 0 are there and in no
+/// job.
+fn are_free_to<S: LabelStore + Drop>(reader: &Reader<S>, numbers: &[u8]) -> bool
+    ensures { result ≡ are_free_to (state reader.now.kernel.now) reader.now.roots.now.home
+        numbers.now }
+{
+    let [_, above @ ..] = numbers else {
+        return true;
+    };
+    are_free_to(reader, above) && is_free_at(reader, numbers)
+}
+
+/// Checks whether the process of these numbers is there and in no job.
+fn is_free_at<S: LabelStore + Drop>(reader: &Reader<S>, numbers: &[u8]) -> bool
+    ensures { result ≡ is_free_at (state reader.now.kernel.now) reader.now.roots.now.home
+        numbers.now }
+{
+    let Some(home) = home_at(reader.kernel, reader.roots.home, numbers) else {
+        return false;
+    };
+    match reader.kernel.label(home.container) {
+        Some(outer) => !is_in_job(outer),
+        None => false,
+    }
+}
