@@ -250,6 +250,7 @@ module _ (accounts : Accounts) (s : State) (f : Flat) (births : Births) (names :
     told_right EAUTH errno tells = absurd (none-some told (sym tells))
 
     -- and its sentence is that of the rule
-    pub told_said : (e : Errno) → errno_of r ≡ e → TellsErrno s roots asked e (Some told) → told_words asked told ≡ why_text line.process p r
+    pub told_said : (e : Errno) → errno_of r ≡ e → TellsErrno s roots asked e (Some told)
+        → told_words asked told ≡ why_text line.process p r
     told_said e errno tells =
         sym (told_alike asked p told) ∙ (λ i. why_text (is_asked.by i) p (told_right e errno tells i))
