@@ -3,6 +3,7 @@ pub mod WordLemmas
 pub mod OwnLemmas
 pub mod StoryLemmas
 pub mod SessionLemmas
+pub mod CallerLemmas
 pub mod PageLemmas
 pub mod ViewLemmas
 pub mod Nests

@@ -1,5 +1,5 @@
 -- The processes whose calls a session answers, and by what a reader sees the calls of one of them alone.
-use Rattle.std.specs.Prelude.{ℕ, ◌&&◌, ◌||◌, not, Bool, List, [], ◌∷◌, ◌++◌, ◌==◌, length, nat_le, nat_lt}
+use Rattle.std.specs.Prelude.{ℕ, ◌&&◌, ◌||◌, not, Bool, List, [], ◌∷◌, ◌++◌, ◌==◌, filter, length, map, nat_le, nat_lt, take}
 use Rattle.std.specs.Prelude.{if◌then◌else◌}
 use Rattle.std.specs.List.{list_all, list_any}
 use Rattle.std.specs.Str.{bytes_eq}
@@ -24,6 +24,17 @@ is_name_byte b = b == 46 || (nat_le 48 b && nat_le b 57)
 abbrev pub is_name : List ℕ → Bool
 is_name word = not (length word == 0) && list_all is_name_byte word
 
+-- words, each once, in the order in which they come first
+abbrev pub each_once : List (List ℕ) → List (List ℕ)
+each_once [] = []
+each_once (word ∷ words) = word ∷ filter (λ other. not (bytes_eq word other)) (each_once words)
+
+-- the processes of a session, each once, in the order of their first calls that were answered, but for MOST_ALONE at most
+abbrev pub callers : List (List ℕ) → List (List ℕ) → List (List ℕ)
+callers script replies = take MOST_ALONE (each_once (filter is_name (map (caller script) replies)))
+
+-- ---- how they are found
+
 -- a word is one of these
 abbrev pub is_among : List (List ℕ) → List ℕ → Bool
 is_among words word = list_any (λ other. bytes_eq other word) words
@@ -35,15 +46,6 @@ is_next processes word = nat_lt (length processes) MOST_ALONE && (is_name word &
 -- these processes, and one more if it comes after them
 abbrev pub with_caller : List (List ℕ) → List ℕ → List (List ℕ)
 with_caller processes word = if is_next processes word then processes ++ word ∷ [] else processes
-
--- these processes, and then that of each reply which isn't among those before it, as long as they are few
-abbrev pub callers_after : List (List ℕ) → List (List ℕ) → List (List ℕ) → List (List ℕ)
-callers_after script processes [] = processes
-callers_after script processes (reply ∷ replies) = callers_after script (with_caller processes (caller script reply)) replies
-
--- the processes of a session, each once, in the order of their first calls that were answered
-abbrev pub callers : List (List ℕ) → List (List ℕ) → List (List ℕ)
-callers script replies = callers_after script [] replies
 
 -- ---- how the calls of one are shown alone
 

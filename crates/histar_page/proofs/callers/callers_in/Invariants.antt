@@ -1,7 +1,8 @@
 -- The invariants and measures of `callers_in` of src/callers.rt.
-use Rattle.std.proofs.Common.{◌≡◌, [], length}
+use Rattle.std.proofs.Common.{◌≡◌, [], length, map}
 use Rattle.histar_page.specs.Texts.{texts}
-use Rattle.histar_page.specs.Callers.{callers_after}
+use Rattle.histar_page.specs.Callers.{caller}
+use Rattle.histar_page.proofs.CallerLemmas.{found_after}
 use Rattle.histar_page.proofs.callers.callers_in.Given as goal
 
 abbrev pub decreases-replies : goal.decreases-replies
@@ -9,4 +10,5 @@ decreases-replies l = length l.rest
 
 abbrev pub invariant-replies : goal.invariant-replies
 invariant-replies l =
-    callers_after (texts l.script) (texts l.found.items) (texts l.rest) ≡ callers_after (texts l.script) [] (texts l.replies)
+    found_after (texts l.found.items) (map (caller (texts l.script)) (texts l.rest))
+    ≡ found_after [] (map (caller (texts l.script)) (texts l.replies))
