@@ -1,4 +1,4 @@
--- What a refusal tells by itself is why its call was refused.
+-- What a refusal implies by itself is why its call was refused.
 use Rattle.std.specs.Prelude.{◌≡◌, Bool, true, false, List, [], ◌∷◌, length, Option, None, Some, MatchOption}
 use Rattle.std.specs.Prelude.{if◌then◌else◌, is_some, option_map, refl}
 use Rattle.std.proofs.Common.{ap, sym, ◌∙◌}
@@ -44,14 +44,14 @@ use Rattle.histar_reasons.proofs.Agreeing.{directory_there}
 use Rattle.histar_why.specs.declared.asked.Asked.{Asked}
 use Rattle.histar_why.specs.declared.reasons.PathReason.{PathReason}
 use Rattle.histar_why.specs.declared.reasons.PathReason.TheVariants as at_path
-use Rattle.histar_why.specs.declared.told.Told.{Told}
-use Rattle.histar_why.specs.declared.told.Told.TheVariants.{OfPath, IsNoChild as SeesNoChild}
+use Rattle.histar_why.specs.declared.implied.Implied.{Implied}
+use Rattle.histar_why.specs.declared.implied.Implied.TheVariants.{OfPath, IsNoChild as SeesNoChild}
 use Rattle.histar_why.specs.Asked.{IsAsked, beside_of, other_of, parts_of}
 use Rattle.histar_why.specs.Reasons.{path_reason_of}
-use Rattle.histar_why.specs.Told.{FindsMissing, TellsErrno, anybody, are_free_to, asks_child, has_no_job, is_free_at, is_free_in, path_words}
-use Rattle.histar_why.specs.Told.{taken_path, told_of as reason_of_told, told_words}
+use Rattle.histar_why.specs.Implied.{FindsMissing, ImpliesErrno, anybody, are_free_to, asks_child, has_no_job, is_free_at, is_free_in, path_words}
+use Rattle.histar_why.specs.Implied.{taken_path, implied_of as reason_of_implied, implied_words}
 use Rattle.histar_why.proofs.Spots.{node_at, nothing_at}
-use Rattle.histar_why.proofs.Telling.{first_missing, taken_by, told_of}
+use Rattle.histar_why.proofs.Implying.{first_missing, taken_by, implied_of}
 
 -- ---- its sentence
 
@@ -66,10 +66,11 @@ path_alike me p (at_path.IsFull q n) = refl
 path_alike me p (at_path.IsNotEmpty q n) = refl
 path_alike me p (at_path.IsTooLong q n) = refl
 
--- so is that of a reason that a refusal tells, whatever is known of the process
-pub told_alike : (asked : Asked) (p : Process) (told : Told) → why_text asked.process p (reason_of_told asked told) ≡ told_words asked told
-told_alike asked p (OfPath reason) = path_alike asked.process p reason ∙ sym (path_alike asked.process anybody reason)
-told_alike asked p SeesNoChild = refl
+-- so is that of a reason that a refusal implies, whatever is known of the process
+pub implied_alike : (asked : Asked) (p : Process) (implied : Implied)
+    → why_text asked.process p (reason_of_implied asked implied) ≡ implied_words asked implied
+implied_alike asked p (OfPath reason) = path_alike asked.process p reason ∙ sym (path_alike asked.process anybody reason)
+implied_alike asked p SeesNoChild = refl
 
 -- ---- what is read of a state
 
@@ -152,7 +153,7 @@ module _ (accounts : Accounts) (s : State) (f : Flat) (births : Births) (names :
 
   -- ---- the reason
 
-  module _ (line : CallLine) (p : Process) (asked : Asked) (is_asked : IsAsked line asked) (told : Told) (r : Reason)
+  module _ (line : CallLine) (p : Process) (asked : Asked) (is_asked : IsAsked line asked) (implied : Implied) (r : Reason)
       (refused : why accounts f line.process p line.call ≡ Some r) where
     abbrev call : UnixCall
     call = line.call
@@ -211,46 +212,46 @@ module _ (accounts : Accounts) (s : State) (f : Flat) (births : Births) (names :
     kill_is (Wrap q) e asks found = absurd (true≢false (sym asks))
 
     abbrev reason : Reason
-    reason = reason_of_told asked told
+    reason = reason_of_implied asked implied
 
     -- the path that a call of ENOENT is about
-    missing_told : (q : Path) → path_of call ≡ q → (missing : Option Path) → FindsMissing s roots q missing
-        → Some told ≡ option_map (λ d. OfPath (at_path.IsMissing d)) missing → errno_of r ≡ ENOENT → reason ≡ r
-    missing_told [] e missing finds is errno =
-        absurd (none-some told (sym (is ∙ ap (option_map (λ d. OfPath (at_path.IsMissing d))) finds)))
-    missing_told (n ∷ d) e missing finds is errno =
-        ap (reason_of_told asked)
-        (same_Some told _ (is ∙ ap (option_map (λ x. OfPath (at_path.IsMissing x))) (missing_is (n ∷ d) missing refl finds)))
+    missing_implied : (q : Path) → path_of call ≡ q → (missing : Option Path) → FindsMissing s roots q missing
+        → Some implied ≡ option_map (λ d. OfPath (at_path.IsMissing d)) missing → errno_of r ≡ ENOENT → reason ≡ r
+    missing_implied [] e missing finds is errno =
+        absurd (none-some implied (sym (is ∙ ap (option_map (λ d. OfPath (at_path.IsMissing d))) finds)))
+    missing_implied (n ∷ d) e missing finds is errno =
+        ap (reason_of_implied asked)
+        (same_Some implied _ (is ∙ ap (option_map (λ x. OfPath (at_path.IsMissing x))) (missing_is (n ∷ d) missing refl finds)))
         ∙ ap (λ (q : Path). IsMissing (first_missing f q)) (sym e)
-        ∙ sym ((told_of accounts f tree line.process p call r refused).3 errno (λ root. absurd (cc)))
+        ∙ sym ((implied_of accounts f tree line.process p call r refused).3 errno (λ root. absurd (cc)))
 
-    -- the reason that is told is the rule's
-    told_right : (e : Errno) → errno_of r ≡ e → TellsErrno s roots asked e (Some told) → reason ≡ r
-    told_right EEXIST errno tells =
-        ap (reason_of_told asked) (same_Some told _ tells) ∙ ap IsTaken path_taken
-        ∙ sym ((told_of accounts f tree line.process p call r refused).0 errno)
-    told_right EISDIR errno tells =
-        ap (reason_of_told asked) (same_Some told _ tells) ∙ ap HasDirectory is_asked.path
-        ∙ sym ((told_of accounts f tree line.process p call r refused).1 errno)
-    told_right EBUSY errno tells =
-        ap (reason_of_told asked) (same_Some told _ tells)
-        ∙ sym ((told_of accounts f tree line.process p call r refused).2 errno)
-    told_right ENOENT errno tells = missing_told asked.path (sym is_asked.path) tells.0 tells.1 tells.2 errno
-    told_right EACCES errno tells =
-        ap (reason_of_told asked) tells.0 ∙ ap IsNoChild is_asked.other
-        ∙ sym (kill_is call refl (sym (ap asks_child is_asked.parts) ∙ tells.1)
-        (all_find p (other_of call) (sym (ap (are_free_to s roots.home) is_asked.other) ∙ tells.2)))
-    told_right ENOTDIR errno tells = absurd (none-some told (sym tells))
-    told_right EPERM errno tells = absurd (none-some told (sym tells))
-    told_right ENOTEMPTY errno tells = absurd (none-some told (sym tells))
-    told_right ENOSPC errno tells = absurd (none-some told (sym tells))
-    told_right EFBIG errno tells = absurd (none-some told (sym tells))
-    told_right ESRCH errno tells = absurd (none-some told (sym tells))
-    told_right EAGAIN errno tells = absurd (none-some told (sym tells))
-    told_right EAUTH errno tells = absurd (none-some told (sym tells))
+    -- the reason that is implied is the rule's
+    implied_right : (e : Errno) → errno_of r ≡ e → ImpliesErrno s roots asked e (Some implied) → reason ≡ r
+    implied_right EEXIST errno implies =
+        ap (reason_of_implied asked) (same_Some implied _ implies) ∙ ap IsTaken path_taken
+        ∙ sym ((implied_of accounts f tree line.process p call r refused).0 errno)
+    implied_right EISDIR errno implies =
+        ap (reason_of_implied asked) (same_Some implied _ implies) ∙ ap HasDirectory is_asked.path
+        ∙ sym ((implied_of accounts f tree line.process p call r refused).1 errno)
+    implied_right EBUSY errno implies =
+        ap (reason_of_implied asked) (same_Some implied _ implies)
+        ∙ sym ((implied_of accounts f tree line.process p call r refused).2 errno)
+    implied_right ENOENT errno implies = missing_implied asked.path (sym is_asked.path) implies.0 implies.1 implies.2 errno
+    implied_right EACCES errno implies =
+        ap (reason_of_implied asked) implies.0 ∙ ap IsNoChild is_asked.other
+        ∙ sym (kill_is call refl (sym (ap asks_child is_asked.parts) ∙ implies.1)
+        (all_find p (other_of call) (sym (ap (are_free_to s roots.home) is_asked.other) ∙ implies.2)))
+    implied_right ENOTDIR errno implies = absurd (none-some implied (sym implies))
+    implied_right EPERM errno implies = absurd (none-some implied (sym implies))
+    implied_right ENOTEMPTY errno implies = absurd (none-some implied (sym implies))
+    implied_right ENOSPC errno implies = absurd (none-some implied (sym implies))
+    implied_right EFBIG errno implies = absurd (none-some implied (sym implies))
+    implied_right ESRCH errno implies = absurd (none-some implied (sym implies))
+    implied_right EAGAIN errno implies = absurd (none-some implied (sym implies))
+    implied_right EAUTH errno implies = absurd (none-some implied (sym implies))
 
     -- and its sentence is that of the rule
-    pub told_said : (e : Errno) → errno_of r ≡ e → TellsErrno s roots asked e (Some told)
-        → told_words asked told ≡ why_text line.process p r
-    told_said e errno tells =
-        sym (told_alike asked p told) ∙ (λ i. why_text (is_asked.by i) p (told_right e errno tells i))
+    pub implied_said : (e : Errno) → errno_of r ≡ e → ImpliesErrno s roots asked e (Some implied)
+        → implied_words asked implied ≡ why_text line.process p r
+    implied_said e errno implies =
+        sym (implied_alike asked p implied) ∙ (λ i. why_text (is_asked.by i) p (implied_right e errno implies i))

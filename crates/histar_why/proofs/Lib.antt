@@ -4,7 +4,7 @@ pub mod Naming
 pub mod Found
 pub mod Spots
 pub mod Evaluating
-pub mod Telling
+pub mod Implying
 pub mod ByRefusal
 pub mod Saying
 pub mod Lines

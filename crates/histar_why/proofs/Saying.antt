@@ -30,10 +30,10 @@ use Rattle.histar_why.specs.declared.names.Caller.{Caller}
 use Rattle.histar_why.specs.Absences.{absence_by}
 use Rattle.histar_why.specs.Asked.{IsAsked}
 use Rattle.histar_why.specs.Names.{IsReached, Knows, process_of, running_at}
-use Rattle.histar_why.specs.declared.told.Told.{Told}
+use Rattle.histar_why.specs.declared.implied.Implied.{Implied}
 use Rattle.histar_why.specs.Logging.{SaysIfRefused, SaysLine, SaysReason, SaysWhy, SaysWords, words_of}
-use Rattle.histar_why.specs.Told.{TellsReason, told_words}
-use Rattle.histar_why.proofs.ByRefusal.{told_said}
+use Rattle.histar_why.specs.Implied.{ImpliesReason, implied_words}
+use Rattle.histar_why.proofs.ByRefusal.{implied_said}
 use Rattle.histar_why.proofs.Evaluating.{reason_is}
 use Rattle.histar_why.proofs.Found.{absence_is, running_found}
 
@@ -123,19 +123,19 @@ module _ (accounts : Accounts) (f : Flat) (reached : IsReached accounts f) (line
             ∙ ap (absence_text me) (absence_is accounts s f births known.names me)))
         by (Some p) runs says = reason_said p runs says.0 says.1 words says.2
 
-    -- whether its refusal tells it or not
+    -- whether its refusal implies it or not
     why_said : (reply : Reply) → reply ≡ reply_to accounts f me call → (words : List ℕ) → SaysWhy users roots births s asked reply words
         → sentence accounts f me call ≡ Some words
     why_said reply is words says = by says.0 says.1 says.2
       where
-        -- a call that is answered otherwise tells nothing
-        answered : (p : Process) → running f me ≡ Some p → (told : Told) → words ≡ told_words asked told → (o : Option Errno)
-            → refused accounts f me p call ≡ o → TellsReason s roots asked (reply_or o (answer f me p call)) (Some told)
+        -- a call that is answered otherwise implies nothing
+        answered : (p : Process) → running f me ≡ Some p → (implied : Implied) → words ≡ implied_words asked implied → (o : Option Errno)
+            → refused accounts f me p call ≡ o → ImpliesReason s roots asked (reply_or o (answer f me p call)) (Some implied)
             → sentence_by accounts f me (Some p) call ≡ Some words
-        answered p runs told said None none tells =
+        answered p runs implied said None none implies =
             absurd (true≢false (sym refusal ∙ sym spoken ∙ ap (λ (o : Option Process). is_some (sentence_by accounts f me o call)) runs
             ∙ some_words p (why accounts f me p call) ∙ no_reason p none))
-        answered p runs told said (Some e) refuses tells =
+        answered p runs implied said (Some e) refuses implies =
             with_reason (why accounts f me p call) refl (refusals_have_reasons accounts f tree me p call ∙ refuses)
           where
             with_reason : (o : Option Reason) → why accounts f me p call ≡ o → option_map errno_of o ≡ Some e
@@ -143,19 +143,19 @@ module _ (accounts : Accounts) (f : Flat) (reached : IsReached accounts f) (line
             with_reason None reason errno = absurd (none-some _ errno)
             with_reason (Some r) reason errno =
                 ap Some (sym (said
-                ∙ told_said accounts s f births known.names tree line p asked is_asked told r reason e (same_Some _ _ errno) tells))
+                ∙ implied_said accounts s f births known.names tree line p asked is_asked implied r reason e (same_Some _ _ errno) implies))
 
-        told_by : (told : Told) → words ≡ told_words asked told → (o : Option Process) → running f me ≡ o
-            → TellsReason s roots asked (reply_by accounts f me o call) (Some told) → sentence_by accounts f me o call ≡ Some words
-        told_by told said None runs tells = absurd (none-some told (sym tells))
-        told_by told said (Some p) runs tells = answered p runs told said (refused accounts f me p call) refl tells
+        implied_by : (implied : Implied) → words ≡ implied_words asked implied → (o : Option Process) → running f me ≡ o
+            → ImpliesReason s roots asked (reply_by accounts f me o call) (Some implied) → sentence_by accounts f me o call ≡ Some words
+        implied_by implied said None runs implies = absurd (none-some implied (sym implies))
+        implied_by implied said (Some p) runs implies = answered p runs implied said (refused accounts f me p call) refl implies
 
-        by : (told : Option Told) → TellsReason s roots asked reply told
-            → MatchOption told (SaysWords users roots births s asked words) (λ reason. words ≡ told_words asked reason)
+        by : (implied : Option Implied) → ImpliesReason s roots asked reply implied
+            → MatchOption implied (SaysWords users roots births s asked words) (λ reason. words ≡ implied_words asked reason)
             → sentence accounts f me call ≡ Some words
-        by None tells says = words_said words says
-        by (Some told) tells said =
-            told_by told said (running f me) refl (subst (λ (r : Reply). TellsReason s roots asked r (Some told)) is tells)
+        by None implies says = words_said words says
+        by (Some implied) implies said =
+            implied_by implied said (running f me) refl (subst (λ (r : Reply). ImpliesReason s roots asked r (Some implied)) is implies)
 
   -- the line is that of the rules, whether the call was refused or not
   pub line_said : (m : MachineModel) (births : Births) → Knows births accounts m (flat_after accounts f me call) → (asked : Asked)

@@ -5,7 +5,7 @@ pub mod Asked
 pub mod Reasons
 pub mod Ways
 pub mod Views
-pub mod Told
+pub mod Implied
 pub mod Absences
 pub mod Logging
 pub mod Session

@@ -14,12 +14,12 @@ use Rattle.histar_reasons.specs.Sentences.{absence_text, line_text, why_text}
 use Rattle.histar_shell.specs.Machine.{MachineModel}
 use Rattle.histar_why.specs.declared.asked.Asked.{Asked}
 use Rattle.histar_why.specs.declared.names.Caller.{Caller}
-use Rattle.histar_why.specs.declared.told.Told.{Told}
+use Rattle.histar_why.specs.declared.implied.Implied.{Implied}
 use Rattle.histar_why.specs.declared.views.View.{View}
 use Rattle.histar_why.specs.Absences.{absence_by}
 use Rattle.histar_why.specs.Names.{process_of, running_at}
 use Rattle.histar_why.specs.Reasons.{first_reason}
-use Rattle.histar_why.specs.Told.{TellsReason, told_words}
+use Rattle.histar_why.specs.Implied.{ImpliesReason, implied_words}
 use Rattle.histar_why.specs.Views.{IsViewOf}
 
 -- something with this property was added
@@ -45,11 +45,11 @@ module _ (users : Accounts) (roots : Roots) (births : Births) (s : State) where
       (words ≡ absence_text asked.process (absence_by s roots.home asked.process))
       (λ p. (caller : Caller) × (process_of caller ≡ p) × SaysReason caller asked words)
 
-  -- these words say why a call with this reply was refused: by what the refusal tells, or else by what is read of its process
+  -- these words say why a call with this reply was refused: by what the refusal implies, or else by what is read of its process
   abbrev pub SaysWhy : Asked → Reply → List ℕ → Type 0
   SaysWhy asked reply words =
-      (told : Option Told) × TellsReason s roots asked reply told
-      × MatchOption told (SaysWords asked words) (λ reason. words ≡ told_words asked reason)
+      (implied : Option Implied) × ImpliesReason s roots asked reply implied
+      × MatchOption implied (SaysWords asked words) (λ reason. words ≡ implied_words asked reason)
 
 -- this is the line of a refused call
 pub record SaysLine (m : MachineModel) (births : Births) (asked : Asked) (reply : Reply) (line : List ℕ) : Type 0 where

@@ -8,12 +8,12 @@ mod absences;
 mod answering;
 mod asked;
 mod causes;
+mod implied;
 mod logging;
 mod names;
 mod reasons;
 mod sentences;
 mod session;
-mod told;
 mod views;
 mod ways;
 

@@ -11,11 +11,11 @@ ghost use Rattle.histar_why.specs.Logging.{SaysWords};
 
 use crate::absences::absence_of;
 use crate::asked::Asked;
+use crate::implied::implied_reason;
 use crate::names::{Caller, Reader, caller_of, node_at};
 use crate::reasons::first_reason;
-use crate::sentences::{push_absence, push_reason, push_told};
+use crate::sentences::{push_absence, push_implied, push_reason};
 use crate::session::Log;
-use crate::told::told_reason;
 use crate::views::{View, facts_of};
 use histar_flat::{ProcName, Reply};
 use histar_label::LabelStore;
@@ -100,7 +100,7 @@ fn push_head(
     text.extend_from_slice(b": ")
 }
 
-/// Adds why a call was refused: by its refusal where that tells, and else by the process that made
+/// Adds why a call was refused: by its refusal where that implies, and else by the process that made
 /// it.
 fn push_words<S: LabelStore + Drop>(
     alloc: Global,
@@ -113,8 +113,8 @@ fn push_words<S: LabelStore + Drop>(
         (Adds (SaysWhy reader.now.users.now reader.now.roots.now reader.now.births.now
         (state reader.now.kernel.now) asked.now reply.now) text.old.items text.new.items) }
 {
-    match told_reason(reader, asked, reply) {
-        Some(told) => push_told(text, asked, &told),
+    match implied_reason(reader, asked, reply) {
+        Some(implied) => push_implied(text, asked, &implied),
         None => push_own_words(alloc, reader, asked, text),
     }
 }

@@ -9,14 +9,14 @@ ghost use Rattle.histar_why.specs.Absences.{absence_of};
 ghost use Rattle.histar_why.specs.Causes.{cause_of};
 ghost use Rattle.histar_why.specs.Names.{process_of};
 ghost use Rattle.histar_why.specs.Reasons.{process_reason_of, reason_of};
-ghost use Rattle.histar_why.specs.Told.{path_words, told_words};
+ghost use Rattle.histar_why.specs.Implied.{path_words, implied_words};
 
 use crate::absences::Absence;
 use crate::asked::Asked;
 use crate::causes::{Cause, innermost};
+use crate::implied::Implied;
 use crate::names::Caller;
 use crate::reasons::{PathReason, ProcessReason, Reason};
-use crate::told::Told;
 use histar_flat::{Name, Path, ProcName};
 use histar_texts::{push_path, push_process};
 use itoa::Buffer;
@@ -64,13 +64,17 @@ pub(crate) fn push_reason(
     }
 }
 
-/// Adds the sentence of a reason that a refusal tells by itself.
-pub(crate) fn push_told(text: &mut Vec<u8>, asked: &Asked, told: &Told) -> Result<(), AllocError>
-    ensures { OnOk result (text.new.items ≡ text.old.items ++ told_words asked.now told.now) }
+/// Adds the sentence of a reason that a refusal implies by itself.
+pub(crate) fn push_implied(
+    text: &mut Vec<u8>,
+    asked: &Asked,
+    implied: &Implied,
+) -> Result<(), AllocError>
+    ensures { OnOk result (text.new.items ≡ text.old.items ++ implied_words asked.now implied.now) }
 {
-    match told {
-        Told::OfPath(reason) => push_path_reason(text, reason),
-        Told::IsNoChild => push_no_child(text, &asked.process, &asked.other),
+    match implied {
+        Implied::OfPath(reason) => push_path_reason(text, reason),
+        Implied::IsNoChild => push_no_child(text, &asked.process, &asked.other),
     }
 }
 

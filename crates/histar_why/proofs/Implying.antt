@@ -156,126 +156,127 @@ module _ (accounts : Accounts) (f : Flat) (tree : IsTree f) (p : Process) where
 
 module _ (accounts : Accounts) (f : Flat) (tree : IsTree f) (me : ProcName) (p : Process) (call : UnixCall) where
   -- a reason that follows from the refusal alone is this one
-  abbrev pub IsTold : Reason → Type 0
-  IsTold (IsTaken x) = x ≡ taken_by call
-  IsTold (HasDirectory x) = x ≡ path_of call
-  IsTold (IsMissing x) = x ≡ first_missing f (path_of call)
-  IsTold (NoUser name) = path_of call ≡ []
-  IsTold reason = Unit {0}
+  abbrev pub IsImplied : Reason → Type 0
+  IsImplied (IsTaken x) = x ≡ taken_by call
+  IsImplied (HasDirectory x) = x ≡ path_of call
+  IsImplied (IsMissing x) = x ≡ first_missing f (path_of call)
+  IsImplied (NoUser name) = path_of call ≡ []
+  IsImplied reason = Unit {0}
 
   -- the path of the call
   abbrev q : Path
   q = path_of call
 
-  -- a reason of a walk to the path is told
-  walk_told : (r : Path) → q ≡ r → IfAny IsTold (why_walk accounts f p r)
-  walk_told [] e = tt
-  walk_told (n ∷ d) e = any_so (OnWay accounts f tree p d) IsTold by (why_into accounts f p d) (into_missing accounts f tree p d)
+  -- a reason of a walk to the path is implied
+  walk_implied : (r : Path) → q ≡ r → IfAny IsImplied (why_walk accounts f p r)
+  walk_implied [] e = tt
+  walk_implied (n ∷ d) e = any_so (OnWay accounts f tree p d) IsImplied by (why_into accounts f p d) (into_missing accounts f tree p d)
     where
-      by : (r : Reason) → OnWay accounts f tree p d r → IsTold r
+      by : (r : Reason) → OnWay accounts f tree p d r → IsImplied r
       by (IsMissing x) way = way.1 ∙ sym (missing_above accounts f tree p n d way.0) ∙ ap (first_missing f) (sym e)
       by (HasFile x) way = tt
       by (MayNotRead x cause) way = tt
       by _ way = absurd (way)
 
-  -- a reason of a search is told
-  search_told : (name : ProcName) → IfAny IsTold (why_not_found accounts f p name)
-  search_told [] = tt
-  search_told (n ∷ above) =
-      any_orelse IsTold (why_not_found accounts f p above) _ (search_told above)
-      (λ e. any_orelse IsTold (unless (is_some (f.processes (n ∷ above))) (NoProcess (n ∷ above))) _
-      (any_unless IsTold (is_some (f.processes (n ∷ above))) (NoProcess (n ∷ above)) (λ h. tt))
+  -- a reason of a search is implied
+  search_implied : (name : ProcName) → IfAny IsImplied (why_not_found accounts f p name)
+  search_implied [] = tt
+  search_implied (n ∷ above) =
+      any_orelse IsImplied (why_not_found accounts f p above) _ (search_implied above)
+      (λ e. any_orelse IsImplied (unless (is_some (f.processes (n ∷ above))) (NoProcess (n ∷ above))) _
+      (any_unless IsImplied (is_some (f.processes (n ∷ above))) (NoProcess (n ∷ above)) (λ h. tt))
       (λ i. by (f.processes (n ∷ above))))
     where
-      by : (o : Option Process) → IfAny IsTold (unseen accounts f p (n ∷ above) o)
+      by : (o : Option Process) → IfAny IsImplied (unseen accounts f p (n ∷ above) o)
       by None = tt
-      by (Some other) = any_map IsTold (IsUnseen (n ∷ above)) (unknown p other.chain) (λ job. tt)
+      by (Some other) = any_map IsImplied (IsUnseen (n ∷ above)) (unknown p other.chain) (λ job. tt)
 
-  -- why nothing is made of a mode is told
-  unmade_told : (mode : Mode) → IsTold (unmade mode)
-  unmade_told (modes.Group group) = tt
-  unmade_told _ = tt
+  -- why nothing is made of a mode is implied
+  unmade_implied : (mode : Mode) → IsImplied (unmade mode)
+  unmade_implied (modes.Group group) = tt
+  unmade_implied _ = tt
 
-  -- what has to be so where a test is made, that its reason is told
-  abbrev Tells : Errno → Test → Type 0
-  Tells e NotRoot = IsTold (root_reason e q)
-  Tells e Exists = why_walk accounts f p q ≡ None
-  Tells e Absent = q ≡ taken_by call
-  Tells e (AbsentBeside name) = (name ∷ parent q) ≡ taken_by call
-  Tells e (IsUser name) = q ≡ []
-  Tells e _ = Unit {0}
+  -- what has to be so where a test is made, that its reason is implied
+  abbrev Implies : Errno → Test → Type 0
+  Implies e NotRoot = IsImplied (root_reason e q)
+  Implies e Exists = why_walk accounts f p q ≡ None
+  Implies e Absent = q ≡ taken_by call
+  Implies e (AbsentBeside name) = (name ∷ parent q) ≡ taken_by call
+  Implies e (IsUser name) = q ≡ []
+  Implies e _ = Unit {0}
 
-  -- the reason of a test is told
-  test_told : (e : Errno) (test : Test) → Tells e test → IfAny IsTold (why_test accounts f me p q e test)
-  test_told e NotRoot tells = any_unless IsTold (passes accounts f me p q NotRoot) (root_reason e q) (λ h. tells)
-  test_told e Exists tells = any_unless IsTold (passes accounts f me p q Exists) (IsMissing q) (λ h. sym (walked_there accounts f tree p q tells))
-  test_told e IsFile tells = any_unless IsTold (passes accounts f me p q IsFile) (HasDirectory q) (λ h. refl)
-  test_told e IsDirectory tells = any_unless IsTold (passes accounts f me p q IsDirectory) (HasFile q) (λ h. tt)
-  test_told e Absent tells = any_unless IsTold (passes accounts f me p q Absent) (IsTaken q) (λ h. tells)
-  test_told e (AbsentBeside name) tells =
-      any_unless IsTold (passes accounts f me p q (AbsentBeside name)) (IsTaken (name ∷ parent q)) (λ h. tells)
-  test_told e MayRead tells = any_map IsTold (MayNotRead q) (unread accounts p (class_of (get f.files q))) (λ cause. tt)
-  test_told e MayWrite tells = any_map IsTold (MayNotWrite q) (unwritten accounts p (class_of (get f.files q))) (λ cause. tt)
-  test_told e MayWriteAbove tells =
-      any_map IsTold (MayNotWrite (parent q)) (unwritten accounts p (class_of (get f.files (parent q)))) (λ cause. tt)
-  test_told e HasRoomAbove tells = any_unless IsTold (passes accounts f me p q HasRoomAbove) (IsFull (parent q) _) (λ h. tt)
-  test_told e IsEmpty tells = any_unless IsTold (passes accounts f me p q IsEmpty) (IsNotEmpty q _) (λ h. tt)
-  test_told e (Fits new) tells = any_unless IsTold (passes accounts f me p q (Fits new)) (IsTooLong q _) (λ h. tt)
-  test_told e (MayMake mode) tells = any_unless IsTold (passes accounts f me p q (MayMake mode)) (unmade mode) (λ h. unmade_told mode)
-  test_told e HasChildLeft tells = any_unless IsTold (passes accounts f me p q HasChildLeft) (HadChildren p.born) (λ h. tt)
-  test_told e HasNumberLeft tells = any_unless IsTold (passes accounts f me p q HasNumberLeft) (HasNumbers _) (λ h. tt)
-  test_told e (IsChild name) tells = any_unless IsTold (passes accounts f me p q (IsChild name)) (IsNoChild name) (λ h. tt)
-  test_told e (IsUser name) tells = any_unless IsTold (passes accounts f me p q (IsUser name)) (NoUser name) (λ h. tells)
-  test_told e (HasPassword name password) tells =
-      any_unless IsTold (passes accounts f me p q (HasPassword name password)) (WrongPassword name) (λ h. tt)
-  test_told e InNoJob tells = any_map IsTold IsInJob (innermost p) (λ job. tt)
-  test_told e IsSomebody tells = any_unless IsTold (passes accounts f me p q IsSomebody) StartsNoJob (λ h. tt)
+  -- the reason of a test is implied
+  test_implied : (e : Errno) (test : Test) → Implies e test → IfAny IsImplied (why_test accounts f me p q e test)
+  test_implied e NotRoot implies = any_unless IsImplied (passes accounts f me p q NotRoot) (root_reason e q) (λ h. implies)
+  test_implied e Exists implies = any_unless IsImplied (passes accounts f me p q Exists) (IsMissing q)
+      (λ h. sym (walked_there accounts f tree p q implies))
+  test_implied e IsFile implies = any_unless IsImplied (passes accounts f me p q IsFile) (HasDirectory q) (λ h. refl)
+  test_implied e IsDirectory implies = any_unless IsImplied (passes accounts f me p q IsDirectory) (HasFile q) (λ h. tt)
+  test_implied e Absent implies = any_unless IsImplied (passes accounts f me p q Absent) (IsTaken q) (λ h. implies)
+  test_implied e (AbsentBeside name) implies =
+      any_unless IsImplied (passes accounts f me p q (AbsentBeside name)) (IsTaken (name ∷ parent q)) (λ h. implies)
+  test_implied e MayRead implies = any_map IsImplied (MayNotRead q) (unread accounts p (class_of (get f.files q))) (λ cause. tt)
+  test_implied e MayWrite implies = any_map IsImplied (MayNotWrite q) (unwritten accounts p (class_of (get f.files q))) (λ cause. tt)
+  test_implied e MayWriteAbove implies =
+      any_map IsImplied (MayNotWrite (parent q)) (unwritten accounts p (class_of (get f.files (parent q)))) (λ cause. tt)
+  test_implied e HasRoomAbove implies = any_unless IsImplied (passes accounts f me p q HasRoomAbove) (IsFull (parent q) _) (λ h. tt)
+  test_implied e IsEmpty implies = any_unless IsImplied (passes accounts f me p q IsEmpty) (IsNotEmpty q _) (λ h. tt)
+  test_implied e (Fits new) implies = any_unless IsImplied (passes accounts f me p q (Fits new)) (IsTooLong q _) (λ h. tt)
+  test_implied e (MayMake mode) implies = any_unless IsImplied (passes accounts f me p q (MayMake mode)) (unmade mode) (λ h. unmade_implied mode)
+  test_implied e HasChildLeft implies = any_unless IsImplied (passes accounts f me p q HasChildLeft) (HadChildren p.born) (λ h. tt)
+  test_implied e HasNumberLeft implies = any_unless IsImplied (passes accounts f me p q HasNumberLeft) (HasNumbers _) (λ h. tt)
+  test_implied e (IsChild name) implies = any_unless IsImplied (passes accounts f me p q (IsChild name)) (IsNoChild name) (λ h. tt)
+  test_implied e (IsUser name) implies = any_unless IsImplied (passes accounts f me p q (IsUser name)) (NoUser name) (λ h. implies)
+  test_implied e (HasPassword name password) implies =
+      any_unless IsImplied (passes accounts f me p q (HasPassword name password)) (WrongPassword name) (λ h. tt)
+  test_implied e InNoJob implies = any_map IsImplied IsInJob (innermost p) (λ job. tt)
+  test_implied e IsSomebody implies = any_unless IsImplied (passes accounts f me p q IsSomebody) StartsNoJob (λ h. tt)
 
-  -- each test of a need is made where its reason is told
-  abbrev AllTell : Type 0 → Need → Type 0
-  AllTell Known (a then b) = AllTell Known a × AllTell (Known × (why_need accounts f me p q a ≡ None)) b
-  AllTell Known (test or e) = Known → Tells e test
-  AllTell Known _ = Unit {0}
+  -- each test of a need is made where its reason is implied
+  abbrev AllImply : Type 0 → Need → Type 0
+  AllImply Known (a then b) = AllImply Known a × AllImply (Known × (why_need accounts f me p q a ≡ None)) b
+  AllImply Known (test or e) = Known → Implies e test
+  AllImply Known _ = Unit {0}
 
-  -- the reason of such a need is told
-  need_told : (Known : Type 0) (need : Need) → AllTell Known need → Known → IfAny IsTold (why_need accounts f me p q need)
-  need_told Known Nothing tell known = tt
-  need_told Known (a then b) tell known =
-      any_orelse IsTold (why_need accounts f me p q a) (why_need accounts f me p q b) (need_told Known a tell.0 known)
-      (λ e. need_told (Known × (why_need accounts f me p q a ≡ None)) b tell.1 (known, e))
-  need_told Known (test or e) tell known = test_told e test (tell known)
-  need_told Known Walk tell known = walk_told q refl
-  need_told Known (Found name) tell known = search_told name
+  -- the reason of such a need is implied
+  need_implied : (Known : Type 0) (need : Need) → AllImply Known need → Known → IfAny IsImplied (why_need accounts f me p q need)
+  need_implied Known Nothing imply known = tt
+  need_implied Known (a then b) imply known =
+      any_orelse IsImplied (why_need accounts f me p q a) (why_need accounts f me p q b) (need_implied Known a imply.0 known)
+      (λ e. need_implied (Known × (why_need accounts f me p q a ≡ None)) b imply.1 (known, e))
+  need_implied Known (test or e) imply known = test_implied e test (imply known)
+  need_implied Known Walk imply known = walk_implied q refl
+  need_implied Known (Found name) imply known = search_implied name
 
 module _ (accounts : Accounts) (f : Flat) (tree : IsTree f) (me : ProcName) (p : Process) where
   -- so it is in each rule
-  all_tell : (call : UnixCall) → AllTell accounts f tree me p call (Unit {0}) (rule call).needs
-  all_tell (Create r mode) = assumption
-  all_tell _ = assumption
+  all_imply : (call : UnixCall) → AllImply accounts f tree me p call (Unit {0}) (rule call).needs
+  all_imply (Create r mode) = assumption
+  all_imply _ = assumption
 
 module _ (accounts : Accounts) (f : Flat) (tree : IsTree f) (me : ProcName) (p : Process) (call : UnixCall) where
-  -- the reason is told of this call
-  abbrev Told : Reason → Type 0
-  Told = IsTold accounts f tree me p call
+  -- the reason is implied of this call
+  abbrev Implied : Reason → Type 0
+  Implied = IsImplied accounts f tree me p call
 
-  -- the reason of a call is told
-  pub reason_told : (r : Reason) → why accounts f me p call ≡ Some r → Told r
-  reason_told r h =
-      of_any Told (why accounts f me p call) r
-      (need_told accounts f tree me p call (Unit {0}) (rule call).needs (all_tell accounts f tree me p call) tt) h
+  -- the reason of a call is implied
+  pub reason_implied : (r : Reason) → why accounts f me p call ≡ Some r → Implied r
+  reason_implied r h =
+      of_any Implied (why accounts f me p call) r
+      (need_implied accounts f tree me p call (Unit {0}) (rule call).needs (all_imply accounts f tree me p call) tt) h
 
   -- so a refusal alone gives the reason, where it is EEXIST, EISDIR or EBUSY, or ENOENT of a call that names a path
-  pub told_of : (r : Reason) → why accounts f me p call ≡ Some r
+  pub implied_of : (r : Reason) → why accounts f me p call ≡ Some r
       → (errno_of r ≡ EEXIST → r ≡ IsTaken (taken_by call))
       × (errno_of r ≡ EISDIR → r ≡ HasDirectory (path_of call))
       × (errno_of r ≡ EBUSY → r ≡ RootStays)
       × (errno_of r ≡ ENOENT → (path_of call ≡ [] → ⊥) → r ≡ IsMissing (first_missing f (path_of call)))
-  told_of r h = (
-    λ e. let it = taken_reason r e in it.1 ∙ ap IsTaken (subst Told it.1 (reason_told r h)),
-    λ e. let it = directory_reason r e in it.1 ∙ ap HasDirectory (subst Told it.1 (reason_told r h)),
+  implied_of r h = (
+    λ e. let it = taken_reason r e in it.1 ∙ ap IsTaken (subst Implied it.1 (reason_implied r h)),
+    λ e. let it = directory_reason r e in it.1 ∙ ap HasDirectory (subst Implied it.1 (reason_implied r h)),
     λ e. root_stays_reason r e,
     λ e below. elim (missing_reason r e) [
-      | inl it ↦ it.1 ∙ ap IsMissing (subst Told it.1 (reason_told r h))
-      | inr it ↦ absurd (below (subst Told it.1 (reason_told r h)))
+      | inl it ↦ it.1 ∙ ap IsMissing (subst Implied it.1 (reason_implied r h))
+      | inr it ↦ absurd (below (subst Implied it.1 (reason_implied r h)))
     ],
   )

@@ -1,9 +1,9 @@
-//! What a refusal tells by itself of its reason, whoever made the call.
+//! What a refusal implies by itself of its reason, whoever made the call.
 ghost use Rattle.std.specs.Prelude.{◌≡◌, ◌≤◌, length};
 ghost use Rattle.histar_flat.specs.Words.{most_names};
 ghost use Rattle.histar_syscall.specs.KernelModel.{state};
-ghost use Rattle.histar_why.specs.Told.{FindsMissing, TellsErrno, TellsReason, are_free_to, asks_child};
-ghost use Rattle.histar_why.specs.Told.{is_free_at, taken_path};
+ghost use Rattle.histar_why.specs.Implied.{FindsMissing, ImpliesErrno, ImpliesReason, are_free_to, asks_child};
+ghost use Rattle.histar_why.specs.Implied.{is_free_at, taken_path};
 
 use crate::asked::{Asked, Part, ProcessPart};
 use crate::names::Reader;
@@ -17,39 +17,43 @@ use histar_readout::resolve::resolve;
 
 /// A reason that follows from a refusal, with no look at who called.
 #[derive(Clone, Copy)]
-pub(crate) enum Told {
+pub(crate) enum Implied {
     /// It is a reason of what is at a path.
     OfPath(PathReason),
     /// The process that is named is no child of the caller.
     IsNoChild,
 }
 
-/// Returns why a call was refused, where the refusal tells it together with the paths and the
+/// Returns why a call was refused, where the refusal implies it together with the paths and the
 /// processes that are there.
-pub(crate) fn told_reason<S: LabelStore + Drop>(
+pub(crate) fn implied_reason<S: LabelStore + Drop>(
     reader: &Reader<S>,
     asked: &Asked,
     reply: &Reply,
-) -> Option<Told>
-    ensures { TellsReason (state reader.now.kernel.now) reader.now.roots.now asked.now reply.now
+) -> Option<Implied>
+    ensures { ImpliesReason (state reader.now.kernel.now) reader.now.roots.now asked.now reply.now
         result }
 {
     match reply {
-        Reply::Refused(errno) => told_by(reader, asked, *errno),
+        Reply::Refused(errno) => implied_by(reader, asked, *errno),
         _ => None,
     }
 }
 
-/// Returns why a call was refused like this, where that tells.
-fn told_by<S: LabelStore + Drop>(reader: &Reader<S>, asked: &Asked, errno: Errno) -> Option<Told>
-    ensures { TellsErrno (state reader.now.kernel.now) reader.now.roots.now asked.now errno result }
+/// Returns why a call was refused like this, where that implies it.
+fn implied_by<S: LabelStore + Drop>(
+    reader: &Reader<S>,
+    asked: &Asked,
+    errno: Errno,
+) -> Option<Implied>
+    ensures { ImpliesErrno (state reader.now.kernel.now) reader.now.roots.now asked.now errno result }
 {
     match errno {
-        Errno::EEXIST => Some(Told::OfPath(PathReason::IsTaken(taken_path(asked)))),
-        Errno::EISDIR => Some(Told::OfPath(PathReason::HasDirectory(asked.path))),
-        Errno::EBUSY => Some(Told::OfPath(PathReason::RootStays)),
+        Errno::EEXIST => Some(Implied::OfPath(PathReason::IsTaken(taken_path(asked)))),
+        Errno::EISDIR => Some(Implied::OfPath(PathReason::HasDirectory(asked.path))),
+        Errno::EBUSY => Some(Implied::OfPath(PathReason::RootStays)),
         Errno::ENOENT => match missing(reader, asked.path.names()) {
-            Some(path) => Some(Told::OfPath(PathReason::IsMissing(path))),
+            Some(path) => Some(Implied::OfPath(PathReason::IsMissing(path))),
             None => None,
         },
         Errno::EACCES => no_child(reader, asked),
@@ -85,12 +89,12 @@ fn missing<S: LabelStore + Drop>(reader: &Reader<S>, names: &[Name]) -> Option<P
 
 /// Returns that the process that is named is no child of the caller, where a call needs that and
 /// every process may see the one that is named.
-fn no_child<S: LabelStore + Drop>(reader: &Reader<S>, asked: &Asked) -> Option<Told>
-    ensures { TellsErrno (state reader.now.kernel.now) reader.now.roots.now asked.now
+fn no_child<S: LabelStore + Drop>(reader: &Reader<S>, asked: &Asked) -> Option<Implied>
+    ensures { ImpliesErrno (state reader.now.kernel.now) reader.now.roots.now asked.now
         Errno.EACCES result }
 {
     if asks_child(asked) && are_free_to(reader, asked.other.numbers()) {
-        Some(Told::IsNoChild)
+        Some(Implied::IsNoChild)
     } else {
         None
     }

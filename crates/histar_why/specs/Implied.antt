@@ -1,4 +1,4 @@
--- What a refusal tells by itself of its reason, whoever made the call.
+-- What a refusal implies by itself of its reason, whoever made the call.
 use Rattle.std.specs.Prelude.{◌≡◌, ℕ, Bool, true, false, ◌&&◌, List, [], ◌∷◌, Option, None, Some, MatchOption, option_map}
 use Rattle.std.specs.List.{list_any}
 use Rattle.histar_flat.specs.declared.replies.Errno.{Errno}
@@ -27,8 +27,8 @@ use Rattle.histar_why.specs.declared.asked.ProcessPart.TheVariants.{IsChild}
 use Rattle.histar_why.specs.declared.reasons.PathReason.{PathReason}
 use Rattle.histar_why.specs.declared.reasons.PathReason.TheVariants.{IsMissing, HasDirectory, IsTaken, RootStays}
 use Rattle.histar_why.specs.Reasons.{path_reason_of}
-use Rattle.histar_why.specs.declared.told.Told.{Told}
-use Rattle.histar_why.specs.declared.told.Told.TheVariants.{OfPath, IsNoChild as SeesNoChild}
+use Rattle.histar_why.specs.declared.implied.Implied.{Implied}
+use Rattle.histar_why.specs.declared.implied.Implied.TheVariants.{OfPath, IsNoChild as SeesNoChild}
 
 -- the path at which something is, where a call is refused since it is there
 abbrev pub taken_path : Asked → Path
@@ -63,10 +63,10 @@ are_free_to s first (n ∷ above) = are_free_to s first above && is_free_at s fi
 
 -- ---- its sentence
 
--- the reason that a refusal tells, as the rules have it
-abbrev pub told_of : Asked → Told → Reason
-told_of asked (OfPath reason) = path_reason_of reason
-told_of asked SeesNoChild = IsNoChild asked.other
+-- the reason that a refusal implies, as the rules have it
+abbrev pub implied_of : Asked → Implied → Reason
+implied_of asked (OfPath reason) = path_reason_of reason
+implied_of asked SeesNoChild = IsNoChild asked.other
 
 -- a process of which nothing is known
 abbrev pub anybody : Process
@@ -76,11 +76,11 @@ anybody = record { user = []; chain = []; held = []; exited = None; born = 0 }
 abbrev pub path_words : PathReason → List ℕ
 path_words reason = why_text [] anybody (path_reason_of reason)
 
--- the sentence of a reason that a refusal tells, which is the same of whatever user the process is
-abbrev pub told_words : Asked → Told → List ℕ
-told_words asked told = why_text asked.process anybody (told_of asked told)
+-- the sentence of a reason that a refusal implies, which is the same of whatever user the process is
+abbrev pub implied_words : Asked → Implied → List ℕ
+implied_words asked implied = why_text asked.process anybody (implied_of asked implied)
 
--- ---- what tells it
+-- ---- what implies a reason
 
 module _ (s : State) (roots : Roots) where
   -- This is which path on the way to a path is missing: the one below the last directory that is there. Where the path is `/` none is.
@@ -90,20 +90,20 @@ module _ (s : State) (roots : Roots) where
       (found : Option Target) × Resolves s roots d found
       × MatchOption found (FindsMissing d missing) (λ there. missing ≡ Some (n ∷ d))
 
-  -- The reason of a call that is refused like this, where that tells: by the paths of the call, by the paths that are there, or since the
+  -- The reason of a call that is refused like this, where that implies one: by the paths of the call, by the paths that are there, or since the
   -- process that it names is seen by all.
-  abbrev pub TellsErrno : Asked → Errno → Option Told → Type 0
-  TellsErrno asked EEXIST told = told ≡ Some (OfPath (IsTaken (taken_path asked)))
-  TellsErrno asked EISDIR told = told ≡ Some (OfPath (HasDirectory asked.path))
-  TellsErrno asked EBUSY told = told ≡ Some (OfPath RootStays)
-  TellsErrno asked ENOENT told =
-      (missing : Option Path) × FindsMissing asked.path missing × (told ≡ option_map (λ q. OfPath (IsMissing q)) missing)
-  TellsErrno asked EACCES told =
-      MatchOption told (Unit {0})
+  abbrev pub ImpliesErrno : Asked → Errno → Option Implied → Type 0
+  ImpliesErrno asked EEXIST implied = implied ≡ Some (OfPath (IsTaken (taken_path asked)))
+  ImpliesErrno asked EISDIR implied = implied ≡ Some (OfPath (HasDirectory asked.path))
+  ImpliesErrno asked EBUSY implied = implied ≡ Some (OfPath RootStays)
+  ImpliesErrno asked ENOENT implied =
+      (missing : Option Path) × FindsMissing asked.path missing × (implied ≡ option_map (λ q. OfPath (IsMissing q)) missing)
+  ImpliesErrno asked EACCES implied =
+      MatchOption implied (Unit {0})
       (λ reason. (reason ≡ SeesNoChild) × (asks_child asked.parts.items ≡ true) × (are_free_to s roots.home asked.other ≡ true))
-  TellsErrno asked errno told = told ≡ None
+  ImpliesErrno asked errno implied = implied ≡ None
 
-  -- the reason of a call with this reply, where that tells
-  abbrev pub TellsReason : Asked → Reply → Option Told → Type 0
-  TellsReason asked (Refused errno) told = TellsErrno asked errno told
-  TellsReason asked reply told = told ≡ None
+  -- the reason of a call with this reply, where that implies one
+  abbrev pub ImpliesReason : Asked → Reply → Option Implied → Type 0
+  ImpliesReason asked (Refused errno) implied = ImpliesErrno asked errno implied
+  ImpliesReason asked reply implied = implied ≡ None
