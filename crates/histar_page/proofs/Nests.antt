@@ -26,7 +26,7 @@ use Rattle.histar_page.specs.declared.markup.Markup.TheVariants.{Arrows, Begin, 
 use Rattle.histar_page.specs.declared.markup.Markup.TheVariants.{BeginFiles, BeginFlows, BeginLabels, BeginOther, BeginRow, BeginSecret, BeginSecrets}
 use Rattle.histar_page.specs.declared.markup.Markup.TheVariants.{BeginSession, BeginWho, End, EndBare, EndCall, EndCell, EndColumns, EndDrawing}
 use Rattle.histar_page.specs.declared.markup.Markup.TheVariants.{EndFiles, EndFlows, EndHead, EndRow, EndSecret, EndSecrets, EndSession, EndUsers}
-use Rattle.histar_page.specs.declared.markup.Markup.TheVariants.{BeginLaw, BeginSummary, FilesLeftOut, SecretsLeftOut, UnlessLogin, UnlessTold}
+use Rattle.histar_page.specs.declared.markup.Markup.TheVariants.{BeginLaw, BeginSummary, FilesLeftOut, SecretsLeftOut, UnlessLogin, UnlessCalled}
 use Rattle.histar_page.specs.declared.markup.Markup.TheVariants.{EndStyle, EndWho, NoSecrets, NoTitles, NotDrawn, OnFlows, OnSecrets, OnTitles, Style}
 use Rattle.histar_page.specs.Items.{Item}
 use Rattle.histar_page.specs.Items.Item.{Fixed, Shown}
@@ -415,7 +415,7 @@ condition_nests : (s : List (List ℕ)) (members : List (List ℕ))
     → Reads (item_text (Fixed (condition_of members))) (within (codes "span" ∷ s)) (within s)
 condition_nests s members =
     let P : Markup → Type 0 = λ markup. Reads (item_text (Fixed markup)) (within (codes "span" ∷ s)) (within s) in
-    by_if (list_any (has_role (codes "trusted")) members) P (fixed UnlessTold refl) (fixed UnlessLogin refl)
+    by_if (list_any (has_role (codes "trusted")) members) P (fixed UnlessCalled refl) (fixed UnlessLogin refl)
 
 reply_nests : (s : List (List ℕ)) (script : List (List ℕ)) (path reply : List ℕ) → Leads (reply_items script path reply) (within s) (within s)
 reply_nests s script path reply =

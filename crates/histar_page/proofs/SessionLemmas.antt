@@ -51,7 +51,8 @@ of_all test f passes [] = refl
 of_all test f passes (line ∷ lines) = rw (passes line) (ap (λ l. f line ∷ l) (of_all test f passes lines))
 
 -- the items of raw calls have none of these kinds, if no kind of raw calls is one
-raw_none : (test : Kind → Bool) → test HiddenBytes ≡ false → test DeniedCall ≡ false → test RawCall ≡ false → (lines : List (List ℕ))
+raw_none : (test : Kind → Bool) → test HiddenBytes ≡ false → test DeniedCall ≡ false → test RawCall ≡ false
+    → (lines : List (List ℕ))
     → of_kinds test (map raw_item lines) ≡ []
 raw_none test hidden denied made lines = of_none test raw_item (raw_test test false hidden denied made) lines
 

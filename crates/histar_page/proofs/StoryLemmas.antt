@@ -51,7 +51,8 @@ plain-append xs ys h k = list_all-append is_plain xs ys ∙ and_from _ _ h k
 
 -- a plain kind is none of the others
 apart : (k : Kind) → (is_story_kind k && not (is_number_kind k)) ≡ true
-    → (is_raw_kind k ≡ false) × (is_why_kind k ≡ false) × (is_other_kind k ≡ false) × (is_number_kind k ≡ false) × (is_story_kind k ≡ true)
+    → (is_raw_kind k ≡ false) × (is_why_kind k ≡ false) × (is_other_kind k ≡ false) × (is_number_kind k ≡ false)
+    × (is_story_kind k ≡ true)
 apart Call h = (refl, refl, refl, refl, refl)
 apart LoginBy h = (refl, refl, refl, refl, refl)
 apart LoginAs h = (refl, refl, refl, refl, refl)

@@ -20,7 +20,7 @@ use Rattle.histar_page.specs.declared.markup.Markup.TheVariants.{EndWho, BeginSe
 use Rattle.histar_page.specs.declared.markup.Markup.TheVariants.{BeginBehind, EndCall, EndBare, EndSession, BeginFiles, EndUsers}
 use Rattle.histar_page.specs.declared.markup.Markup.TheVariants.{EndColumns, BeginRow, EndCell, EndRow, EndFiles, FilesLeftOut}
 use Rattle.histar_page.specs.declared.markup.Markup.TheVariants.{BeginSecrets, NoSecrets, OnSecrets, SecretsLeftOut}
-use Rattle.histar_page.specs.declared.markup.Markup.TheVariants.{BeginSummary, BeginLaw, UnlessTold, UnlessLogin}
+use Rattle.histar_page.specs.declared.markup.Markup.TheVariants.{BeginSummary, BeginLaw, UnlessCalled, UnlessLogin}
 use Rattle.histar_page.specs.declared.markup.Markup.TheVariants.{BeginSecret, EndSecret, EndSecrets, BeginLabels, NotDrawn, BeginDrawing, Arrows}
 use Rattle.histar_page.specs.declared.markup.Markup.TheVariants.{OnTitles, NoTitles, BeginFlows, OnFlows, EndFlows, EndDrawing, End}
 use Rattle.histar_page.specs.Items.{Item}
@@ -163,10 +163,14 @@ closing NodeName = codes "</text></g>\n"
 
 -- a fixed text
 abbrev pub markup_text : Markup → List ℕ
-markup_text Begin = codes "<!DOCTYPE html>\n<html lang=\"en\">\n<head>\n<meta charset=\"utf-8\">\n<meta name=\"viewport\" content=\"width=device-width, initial-scale=1\">\n"
+markup_text Begin =
+    codes "<!DOCTYPE html>\n<html lang=\"en\">\n<head>\n<meta charset=\"utf-8\">\n<meta name=\"viewport\" "
+    ++ codes "content=\"width=device-width, initial-scale=1\">\n"
 markup_text Style = STYLE.now
 markup_text EndStyle = codes "</style>\n</head>\n<body>\n<header>\n"
-markup_text EndHead = codes "</p>\n<nav><a href=\"#who\">Who</a> <a href=\"#session\">Session</a> <a href=\"#files\">Files</a> <a href=\"#secrets\">Secrets</a> <a href=\"#flows\">Flows</a> <a href=\"#drawing\">Drawing</a></nav>\n</header>\n<main>\n"
+markup_text EndHead =
+    codes "</p>\n<nav><a href=\"#who\">Who</a> <a href=\"#session\">Session</a> <a href=\"#files\">Files</a> <a "
+    ++ codes "href=\"#secrets\">Secrets</a> <a href=\"#flows\">Flows</a> <a href=\"#drawing\">Drawing</a></nav>\n</header>\n<main>\n"
 markup_text BeginWho = codes "<section id=\"who\">\n<h2>Who</h2>\n<p class=\"who\">\n"
 markup_text EndWho = codes "</p>\n</section>\n"
 markup_text BeginSession =
@@ -179,8 +183,13 @@ markup_text BeginBehind = codes "</summary>\n<div class=\"behind\">\n"
 markup_text EndCall = codes "</div>\n</details>\n"
 markup_text EndBare = codes "</div>\n"
 markup_text EndSession = codes "</section>\n"
-markup_text BeginFiles = codes "<section id=\"files\">\n<h2>Files</h2>\n<p>Who may do what at the end: s to see it, r to read it, w to write it, d to take it away. Above each process is its user; the tinted columns are of processes in jobs.</p>\n<div class=\"wide\">\n<table>\n<thead>\n<tr class=\"users\"><td colspan=\"4\"></td>"
-markup_text EndUsers = codes "</tr>\n<tr><th scope=\"col\">Path</th><th scope=\"col\">Kind</th><th scope=\"col\">Owner</th><th scope=\"col\">Mode</th>"
+markup_text BeginFiles =
+    codes "<section id=\"files\">\n<h2>Files</h2>\n<p>Who may do what at the end: s to see it, r to read it, w to write it, d to "
+    ++ codes "take it away. Above each process is its user; the tinted columns are of processes in jobs.</p>\n<div "
+    ++ codes "class=\"wide\">\n<table>\n<thead>\n<tr class=\"users\"><td colspan=\"4\"></td>"
+markup_text EndUsers =
+    codes "</tr>\n<tr><th scope=\"col\">Path</th><th scope=\"col\">Kind</th><th scope=\"col\">Owner</th><th "
+    ++ codes "scope=\"col\">Mode</th>"
 markup_text EndColumns = codes "</tr>\n</thead>\n<tbody>\n"
 markup_text BeginRow = codes "<tr>"
 markup_text EndCell = codes "</td>"
@@ -194,22 +203,40 @@ markup_text SecretsLeftOut =
     ++ codes "<code>histar trust</code> prints the one of a file.</p>\n</section>\n"
 markup_text BeginSecrets = codes "<section id=\"secrets\">\n<h2>Secrets</h2>\n"
 markup_text NoSecrets = codes "<p>Each file is for everyone to read at the end.</p>\n"
-markup_text OnSecrets = codes "<p>On whom each file rests at the end that isn't for everyone to read: the trusted could pass it on, the confined can't, and who logs in as one of these users may read it.</p>\n"
+markup_text OnSecrets =
+    codes "<p>On whom each file rests at the end that isn't for everyone to read: the trusted could pass it on, the confined "
+    ++ codes "can't, and who logs in as one of these users may read it.</p>\n"
 markup_text BeginSecret = codes "<p class=\"secret\">\n"
 markup_text BeginLaw = codes "</p>\n<p class=\"sentence\"><span>After the session nobody outside learns what is in "
-markup_text UnlessTold = codes "unless a trusted process makes a call, or they log in as a reader (<code>outsiders_learn_nothing</code>).</span>\n"
+markup_text UnlessCalled = codes "unless a trusted process makes a call, or they log in as a reader (<code>outsiders_learn_nothing</code>).</span>\n"
 markup_text UnlessLogin = codes "unless they log in as a reader (<code>outsiders_learn_nothing</code>).</span>\n"
 markup_text EndSecret = codes "</p>\n"
-markup_text OnTitles = codes "<h3>How each is revealed or changed</h3>\n<p>Below each file: which processes reveal it and to whom, which users read it after a login, and who changes it. These are the titles of what <code>histar leak</code> prints of the file, with the calls.</p>\n"
-markup_text NoTitles = codes "<h3>How each is revealed or changed</h3>\n<p>This is left out, since there are too many files and processes. <code>histar leak</code> prints it of one file.</p>\n"
+markup_text OnTitles =
+    codes "<h3>How each is revealed or changed</h3>\n<p>Below each file: which processes reveal it and to whom, which users read "
+    ++ codes "it after a login, and who changes it. These are the titles of what <code>histar leak</code> prints of the file, with "
+    ++ codes "the calls.</p>\n"
+markup_text NoTitles =
+    codes "<h3>How each is revealed or changed</h3>\n<p>This is left out, since there are too many files and processes. "
+    ++ codes "<code>histar leak</code> prints it of one file.</p>\n"
 markup_text EndSecrets = codes "</section>\n"
 markup_text BeginFlows = codes "<section id=\"flows\">\n<h2>Flows</h2>\n"
-markup_text OnFlows = codes "<p>To whom each process can pass on what it learns, at the end: a process in a job to those alone that know each of its jobs. An exclamation mark is behind one that holds such a job, and may pass on what the job made.</p>\n"
+markup_text OnFlows =
+    codes "<p>To whom each process can pass on what it learns, at the end: a process in a job to those alone that know each of "
+    ++ codes "its jobs. An exclamation mark is behind one that holds such a job, and may pass on what the job made.</p>\n"
 markup_text EndFlows = codes "</section>\n"
 markup_text BeginLabels = codes "<section id=\"drawing\">\n<h2>Drawing</h2>\n"
 markup_text NotDrawn = codes "<p>It has more than 12 processes or 30 files and directories at the end, and is not drawn.</p>\n</section>\n"
-markup_text BeginDrawing = codes "<p>Processes are on the left, files and directories on the right. A line with a head at the process says that it may read the file, one with a head at the file that it may write there: so what one writes another may read. The bands are jobs, and what they may change.</p>\n<div class=\"wide\">\n"
-markup_text Arrows = codes "<defs>\n<marker id=\"read\" viewBox=\"0 0 8 8\" refX=\"7\" refY=\"4\" markerWidth=\"8\" markerHeight=\"8\" orient=\"auto-start-reverse\"><path class=\"reads\" d=\"M0 0 8 4 0 8z\"></path></marker>\n<marker id=\"written\" viewBox=\"0 0 8 8\" refX=\"7\" refY=\"4\" markerWidth=\"8\" markerHeight=\"8\" orient=\"auto-start-reverse\"><path class=\"writes\" d=\"M0 0 8 4 0 8z\"></path></marker>\n<marker id=\"both\" viewBox=\"0 0 8 8\" refX=\"7\" refY=\"4\" markerWidth=\"8\" markerHeight=\"8\" orient=\"auto-start-reverse\"><path class=\"both\" d=\"M0 0 8 4 0 8z\"></path></marker>\n</defs>\n"
+markup_text BeginDrawing =
+    codes "<p>Processes are on the left, files and directories on the right. A line with a head at the process says that it may "
+    ++ codes "read the file, one with a head at the file that it may write there: so what one writes another may read. The bands "
+    ++ codes "are jobs, and what they may change.</p>\n<div class=\"wide\">\n"
+markup_text Arrows =
+    codes "<defs>\n<marker id=\"read\" viewBox=\"0 0 8 8\" refX=\"7\" refY=\"4\" markerWidth=\"8\" markerHeight=\"8\" "
+    ++ codes "orient=\"auto-start-reverse\"><path class=\"reads\" d=\"M0 0 8 4 0 8z\"></path></marker>\n<marker id=\"written\" "
+    ++ codes "viewBox=\"0 0 8 8\" refX=\"7\" refY=\"4\" markerWidth=\"8\" markerHeight=\"8\" orient=\"auto-start-reverse\"><path "
+    ++ codes "class=\"writes\" d=\"M0 0 8 4 0 8z\"></path></marker>\n<marker id=\"both\" viewBox=\"0 0 8 8\" refX=\"7\" refY=\"4\" "
+    ++ codes "markerWidth=\"8\" markerHeight=\"8\" orient=\"auto-start-reverse\"><path class=\"both\" d=\"M0 0 8 4 0 "
+    ++ codes "8z\"></path></marker>\n</defs>\n"
 markup_text EndDrawing = codes "</svg>\n</div>\n</section>\n"
 markup_text End = codes "</main>\n</body>\n</html>\n"
 

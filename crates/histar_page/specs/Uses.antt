@@ -8,7 +8,7 @@ use Rattle.histar_script.specs.Lines.{split_word}
 use Rattle.histar_page.specs.declared.kind.Kind.{Kind}
 use Rattle.histar_page.specs.declared.kind.Kind.TheVariants.{Outsider, ReadBy, UseAddress, UseLine, WrittenBy}
 use Rattle.histar_page.specs.declared.markup.Markup.{Markup}
-use Rattle.histar_page.specs.declared.markup.Markup.TheVariants.{UnlessLogin, UnlessTold}
+use Rattle.histar_page.specs.declared.markup.Markup.TheVariants.{UnlessLogin, UnlessCalled}
 use Rattle.histar_page.specs.declared.uses.TheConstants.{MOST_FOLLOWED_PROCESSES, MOST_FOLLOWED_SECRETS}
 use Rattle.histar_page.specs.Items.{Item}
 use Rattle.histar_page.specs.Items.Item.{Shown}
@@ -39,7 +39,7 @@ outsider_items members runner = if list_any (is_insider (process_of runner)) mem
 
 -- what has to happen before they learn of a file: a call of the trusted, if there are any, or a login
 abbrev pub condition_of : List (List ℕ) → Markup
-condition_of members = if list_any (has_role (codes "trusted")) members then UnlessTold else UnlessLogin
+condition_of members = if list_any (has_role (codes "trusted")) members then UnlessCalled else UnlessLogin
 
 -- ---- what was done
 

@@ -147,7 +147,7 @@ pub enum Markup {
     OnSecrets,
     BeginSecret,
     BeginLaw,
-    UnlessTold,
+    UnlessCalled,
     UnlessLogin,
     EndSecret,
     OnTitles,
@@ -231,7 +231,7 @@ impl Markup {
             Markup::BeginSecret => b"<p class=\"secret\">\n",
             Markup::BeginLaw => b"</p>
 <p class=\"sentence\"><span>After the session nobody outside learns what is in ",
-            Markup::UnlessTold =>
+            Markup::UnlessCalled =>
                 b"unless a trusted process makes a call, or they log in as a reader (<code>outsiders_learn_nothing</code>).</span>\n",
             Markup::UnlessLogin =>
                 b"unless they log in as a reader (<code>outsiders_learn_nothing</code>).</span>\n",

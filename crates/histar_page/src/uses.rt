@@ -112,7 +112,7 @@ pub(crate) fn condition_of(members: &[&[u8]]) -> Markup
     let mut rest = members;
     'members: while let [member, more @ ..] = rest {
         if has_role(TRUSTED, member) {
-            return Markup::UnlessTold;
+            return Markup::UnlessCalled;
         }
         rest = more;
     }
