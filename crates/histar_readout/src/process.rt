@@ -1,5 +1,5 @@
 //! Reading one process.
-ghost use Rattle.std.specs.Prelude.{◌≡◌, ◌&&◌, not, nat_eq, IfOk, OnErr};
+ghost use Rattle.std.specs.Prelude.{◌≡◌, ◌&&◌, ◌∷◌, not, nat_eq, IfOk, OnErr};
 ghost use Rattle.std.specs.Set.{is_member};
 ghost use Rattle.std.specs.Option.{option_copied};
 ghost use Rattle.histar_level.specs.Level.{is_star};
@@ -13,7 +13,7 @@ use histar_heap::Heap;
 use histar_label::{Category, Label, LabelStore, Level};
 use histar_layout::{Chain, UserTable, is_in_job, jobs_in, read_status, user_of};
 use histar_object::ObjId;
-use histar_programs::{Caller, Home, caller_in, joined, owned_by, user_name};
+use histar_programs::{Caller, Home, caller_in, owned_by, user_name};
 use histar_syscall::Kernel;
 use std::alloc::{AllocError, AllocFailed};
 
@@ -136,38 +136,45 @@ fn running_by<H: Heap>(
 {
     let number = user_of(own, users);
     let as_user = owned_by(heap, users, number, !is_in_job(own))?;
-    let known = joined(heap, &[caller.read, caller.write], as_user.as_slice())?;
-    let held = owned_beside(heap, own, known.as_slice())?;
+    let held = held_by(heap, caller, as_user.as_slice(), own)?;
     Ok(Life::Running {
         user: user_name(users, number),
         held: Chain::new(held),
     })
 }
 
-/// Returns the categories that a label owns, without these.
-fn owned_beside<H: Heap>(
+/// Returns the categories that the label of a process's thread owns, without the process's own two and
+/// those that it owns as its user.
+fn held_by<H: Heap>(
     heap: H,
+    caller: &Caller,
+    as_user: &[Category],
     own: &Label,
-    known: &[Category],
 ) -> Result<Vec<Category>, AllocError>
-    ensures ok { IfOk result (λ owned. owned.items ≡ owned_beside known.now own.now) }
+    ensures ok { IfOk result (λ held. held.items
+        ≡ owned_beside (caller.now.read ∷ caller.now.write ∷ as_user.now) own.now) }
     ensures memory { OnErr result H.Refused }
 {
-    let mut owned = Vec::new(heap.alloc());
+    let mut held = Vec::new(heap.alloc());
     let exceptions = own.exceptions();
     for &(category, level) in exceptions {
-        if is_owned_beside(known, category, level) {
-            heap.push(&mut owned, category)?;
+        if is_held(caller, as_user, category, level) {
+            heap.push(&mut held, category)?;
         }
     }
-    Ok(owned)
+    Ok(held)
 }
 
-/// Checks whether a category at this level is owned, and is none of these.
-fn is_owned_beside(known: &[Category], category: Category, level: Level) -> bool
-    ensures { result ≡ (is_star level && not (is_member nat_eq known.now category)) }
+/// Checks whether a category at this level is owned, and is neither one of the process's own two nor
+/// one of these.
+fn is_held(caller: &Caller, as_user: &[Category], category: Category, level: Level) -> bool
+    ensures { result ≡ (is_star level
+        && not (is_member nat_eq (caller.now.read ∷ caller.now.write ∷ as_user.now) category)) }
 {
-    level.is_star() && !is_among(known, category)
+    level.is_star()
+        && category != caller.read
+        && category != caller.write
+        && !is_among(as_user, category)
 }
 
 /// Checks whether a category is one of these.

@@ -21,8 +21,8 @@ pub fn resolve<S: LabelStore + Drop>(
     resolve_names(kernel, roots, path.names())
 }
 
-// Resolves the path of these names, of which the last comes first.
-fn resolve_names<S: LabelStore + Drop>(
+/// Resolves the path of these names, of which the last comes first, as `resolve` does.
+pub fn resolve_names<S: LabelStore + Drop>(
     kernel: &Kernel<S>,
     roots: &Roots,
     names: &[Name],

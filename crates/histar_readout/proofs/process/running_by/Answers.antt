@@ -18,8 +18,7 @@ returns-clause-ok g c =
     kin_is own accounts number c.is_in_job.result c.in_ok-as_user.as_user.items (jobs_in own)
     c.user_of-number.ensures c.is_in_job.ensures c.in_ok-as_user.ensures.ok refl in
     let known_is =
-    c.as_slice-2.ensures.value ∙ c.in_ok-known.ensures.ok
-    ∙ ap (λ (l : List ℕ). c.args.caller.now.read ∷ c.args.caller.now.write ∷ l)
+    ap (λ (l : List ℕ). c.args.caller.now.read ∷ c.args.caller.now.write ∷ l)
     (c.as_slice.ensures.value ∙ ap (λ (k : Kin). k.owned) kin) in
     let held_is = c.new.ensures ∙ c.in_ok-held.ensures.ok ∙ ap (λ (l : List ℕ). owned_beside l own) known_is in
     λ i. Running ((c.user_name.ensures ∙ ap (user_name accounts.users) number_is) i) (held_is i)
