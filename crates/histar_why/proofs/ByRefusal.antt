@@ -1,7 +1,7 @@
 -- What a refusal implies by itself is why its call was refused.
-use Rattle.std.specs.Prelude.{◌≡◌, Bool, true, false, List, [], ◌∷◌, length, Option, None, Some, MatchOption}
+use Rattle.std.specs.Prelude.{◌≡◌, ◌≤◌, ℕ, suc, Bool, true, false, List, [], ◌∷◌, length, Option, None, Some, MatchOption}
 use Rattle.std.specs.Prelude.{if◌then◌else◌, is_some, option_map, refl}
-use Rattle.std.proofs.Common.{ap, sym, ◌∙◌}
+use Rattle.std.proofs.Common.{arith, ap, sym, ◌∙◌}
 use Rattle.std.proofs.lemmas.Bool.{true≢false}
 use Rattle.std.proofs.lemmas.Option.{none-some, same_Some}
 use Rattle.histar_base.specs.Refusals.{◌orelse◌, unless}
@@ -45,31 +45,35 @@ use Rattle.histar_why.specs.declared.asked.Asked.{Asked}
 use Rattle.histar_why.specs.declared.reasons.PathReason.{PathReason}
 use Rattle.histar_why.specs.declared.reasons.PathReason.TheVariants as at_path
 use Rattle.histar_why.specs.declared.implied.Implied.{Implied}
-use Rattle.histar_why.specs.declared.implied.Implied.TheVariants.{OfPath, IsNoChild as SeesNoChild}
+use Rattle.histar_why.specs.declared.implied.Implied.TheVariants.{OfPath, IsMissing as FindsNone, IsNoChild as SeesNoChild}
 use Rattle.histar_why.specs.Asked.{IsAsked, beside_of, other_of, parts_of}
+use Rattle.histar_why.specs.Barriers.{path_at}
 use Rattle.histar_why.specs.Reasons.{path_reason_of}
 use Rattle.histar_why.specs.Implied.{FindsMissing, ImpliesErrno, anybody, are_free_to, asks_child, has_no_job, is_free_at, is_free_in, path_words}
-use Rattle.histar_why.specs.Implied.{taken_path, implied_of as reason_of_implied, implied_words}
+use Rattle.histar_why.specs.Implied.{taken, implied_of as reason_of_implied, implied_words}
+use Rattle.histar_why.proofs.Barriers.{path_at_all, path_at_below}
 use Rattle.histar_why.proofs.Spots.{node_at, nothing_at}
 use Rattle.histar_why.proofs.Implying.{first_missing, taken_by, implied_of}
 
 -- ---- its sentence
 
 -- the sentence of a reason of what is at a path is the same whoever calls
-pub path_alike : (me : ProcName) (p : Process) (reason : PathReason) → why_text me p (path_reason_of reason) ≡ path_words reason
-path_alike me p (at_path.IsMissing q) = refl
-path_alike me p (at_path.HasFile q) = refl
-path_alike me p (at_path.HasDirectory q) = refl
-path_alike me p (at_path.IsTaken q) = refl
-path_alike me p at_path.RootStays = refl
-path_alike me p (at_path.IsFull q n) = refl
-path_alike me p (at_path.IsNotEmpty q n) = refl
-path_alike me p (at_path.IsTooLong q n) = refl
+pub path_alike : (me : ProcName) (p : Process) (q : Path) (reason : PathReason) → why_text me p (path_reason_of q reason) ≡ path_words q reason
+path_alike me p q at_path.IsMissing = refl
+path_alike me p q at_path.HasFile = refl
+path_alike me p q at_path.HasDirectory = refl
+path_alike me p q at_path.IsTaken = refl
+path_alike me p q (at_path.IsTakenBeside name) = refl
+path_alike me p q at_path.RootStays = refl
+path_alike me p q (at_path.IsFull n) = refl
+path_alike me p q (at_path.IsNotEmpty n) = refl
+path_alike me p q (at_path.IsTooLong n) = refl
 
 -- so is that of a reason that a refusal implies, whatever is known of the process
 pub implied_alike : (asked : Asked) (p : Process) (implied : Implied)
     → why_text asked.process p (reason_of_implied asked implied) ≡ implied_words asked implied
-implied_alike asked p (OfPath reason) = path_alike asked.process p reason ∙ sym (path_alike asked.process anybody reason)
+implied_alike asked p (OfPath reason) = path_alike asked.process p asked.path reason ∙ sym (path_alike asked.process anybody asked.path reason)
+implied_alike asked p (FindsNone depth) = refl
 implied_alike asked p SeesNoChild = refl
 
 -- ---- what is read of a state
@@ -92,22 +96,49 @@ module _ (accounts : Accounts) (s : State) (f : Flat) (births : Births) (names :
   below_root [] none = absurd (true≢false (sym (directory_there (get f.files []) tree.root) ∙ none))
   below_root (n ∷ d) none = refl
 
+  -- the path that is missing has no more names than this one
+  one_longer : (n : Name) (d : Path) (depth : ℕ) → (FindsMissing s roots d (Some depth) → depth ≤ length d)
+      → FindsMissing s roots (n ∷ d) (Some depth) → depth ≤ length (n ∷ d)
+  one_longer n d depth above is = by is.0 is.2
+    where
+      more : (m k : ℕ) → m ≤ k → m ≤ suc k
+      more m k le = omega arith
+
+      same : (m k : ℕ) → m ≡ k → m ≤ k
+      same m k e = omega arith
+
+      by : (found : Option Target) → MatchOption found (FindsMissing s roots d (Some depth)) (λ there. Some depth ≡ Some (length (n ∷ d)))
+          → depth ≤ length (n ∷ d)
+      by None finds = more depth (length d) (above finds)
+      by (Some target) finds = same depth (length (n ∷ d)) (same_Some _ _ finds)
+
+  missing_on_way : (q : Path) (depth : ℕ) → FindsMissing s roots q (Some depth) → depth ≤ length q
+  missing_on_way [] depth is = absurd (none-some depth (sym is))
+  missing_on_way (n ∷ d) depth is = one_longer n d depth (missing_on_way d depth) is
+
   -- one name more on the way
-  one_more : (n : Name) (d : Path) (missing : Option Path)
-      → (is_below_root d ≡ true → FindsMissing s roots d missing → missing ≡ Some (first_missing f d))
-      → FindsMissing s roots (n ∷ d) missing → missing ≡ Some (first_missing f (n ∷ d))
+  one_more : (n : Name) (d : Path) (missing : Option ℕ)
+      → (is_below_root d ≡ true → FindsMissing s roots d missing → option_map (λ k. path_at k d) missing ≡ Some (first_missing f d))
+      → FindsMissing s roots (n ∷ d) missing → option_map (λ k. path_at k (n ∷ d)) missing ≡ Some (first_missing f (n ∷ d))
   one_more n d missing above is = by is.0 (resolved_is d is.0 is.1) is.2
     where
+      below : (m : Option ℕ) → FindsMissing s roots d m → option_map (λ k. path_at k (n ∷ d)) m ≡ option_map (λ k. path_at k d) m
+      below None finds = refl
+      below (Some depth) finds = ap Some (path_at_below n d depth (missing_on_way d depth finds))
+
       by : (found : Option Target) → is_some found ≡ is_there f d
-          → MatchOption found (FindsMissing s roots d missing) (λ there. missing ≡ Some (n ∷ d))
-          → missing ≡ Some (first_missing f (n ∷ d))
+          → MatchOption found (FindsMissing s roots d missing) (λ there. missing ≡ Some (length (n ∷ d)))
+          → option_map (λ k. path_at k (n ∷ d)) missing ≡ Some (first_missing f (n ∷ d))
       by None none finds =
-          above (below_root d (sym none)) finds ∙ ap (λ (b : Bool). Some (if b then n ∷ d else first_missing f d)) none
-      by (Some target) there finds = finds ∙ ap (λ (b : Bool). Some (if b then n ∷ d else first_missing f d)) there
+          below missing finds ∙ above (below_root d (sym none)) finds
+          ∙ ap (λ (b : Bool). Some (if b then n ∷ d else first_missing f d)) none
+      by (Some target) there finds =
+          ap (option_map (λ k. path_at k (n ∷ d))) finds ∙ ap Some (path_at_all (n ∷ d))
+          ∙ ap (λ (b : Bool). Some (if b then n ∷ d else first_missing f d)) there
 
   -- the path that was found missing is the first on the way that is
-  missing_is : (q : Path) (missing : Option Path) → is_below_root q ≡ true → FindsMissing s roots q missing
-      → missing ≡ Some (first_missing f q)
+  missing_is : (q : Path) (missing : Option ℕ) → is_below_root q ≡ true → FindsMissing s roots q missing
+      → option_map (λ k. path_at k q) missing ≡ Some (first_missing f q)
   missing_is [] missing below is = absurd (true≢false (sym below))
   missing_is (n ∷ d) missing below is = one_more n d missing (λ b finds. missing_is d missing b finds) is
 
@@ -158,7 +189,11 @@ module _ (accounts : Accounts) (s : State) (f : Flat) (births : Births) (names :
     abbrev call : UnixCall
     call = line.call
 
-    taken_is : (c : UnixCall) → (elim (beside_of c) [ None ↦ path_of c | Some name ↦ name ∷ parent (path_of c) ]) ≡ taken_by c
+    abbrev taken_at : Path → Option Name → Path
+    taken_at q None = q
+    taken_at q (Some name) = name ∷ parent q
+
+    taken_is : (c : UnixCall) → taken_at (path_of c) (beside_of c) ≡ taken_by c
     taken_is (Create q mode) = refl
     taken_is (Mkdir q mode) = refl
     taken_is (Read q) = refl
@@ -178,10 +213,14 @@ module _ (accounts : Accounts) (s : State) (f : Flat) (births : Births) (names :
     taken_is (Login name password) = refl
     taken_is (Wrap q) = refl
 
-    path_taken : taken_path asked ≡ taken_by call
-    path_taken =
-        (λ i. elim (is_asked.beside i) [ None ↦ is_asked.path i | Some name ↦ name ∷ parent (is_asked.path i) ])
-        ∙ taken_is call
+    path_taken : path_reason_of asked.path (taken asked) ≡ IsTaken (taken_by call)
+    path_taken = by asked.beside ∙ ap IsTaken ((λ i. taken_at (is_asked.path i) (is_asked.beside i)) ∙ taken_is call)
+      where
+        by : (o : Option Name)
+            → path_reason_of asked.path (elim o [ None ↦ at_path.IsTaken | Some name ↦ at_path.IsTakenBeside name ])
+            ≡ IsTaken (taken_at asked.path o)
+        by None = refl
+        by (Some name) = refl
 
     -- where a call needs a child, it is a kill
     kill_is : (c : UnixCall) → call ≡ c → asks_child (parts_of c) ≡ true → why_not_found accounts f p (other_of c) ≡ None
@@ -215,20 +254,21 @@ module _ (accounts : Accounts) (s : State) (f : Flat) (births : Births) (names :
     reason = reason_of_implied asked implied
 
     -- the path that a call of ENOENT is about
-    missing_implied : (q : Path) → path_of call ≡ q → (missing : Option Path) → FindsMissing s roots q missing
-        → Some implied ≡ option_map (λ d. OfPath (at_path.IsMissing d)) missing → errno_of r ≡ ENOENT → reason ≡ r
-    missing_implied [] e missing finds is errno =
-        absurd (none-some implied (sym (is ∙ ap (option_map (λ d. OfPath (at_path.IsMissing d))) finds)))
-    missing_implied (n ∷ d) e missing finds is errno =
-        ap (reason_of_implied asked)
-        (same_Some implied _ (is ∙ ap (option_map (λ x. OfPath (at_path.IsMissing x))) (missing_is (n ∷ d) missing refl finds)))
+    missing_implied : (q : Path) → path_of call ≡ q → asked.path ≡ q → (missing : Option ℕ) → FindsMissing s roots q missing
+        → Some implied ≡ option_map FindsNone missing → errno_of r ≡ ENOENT → reason ≡ r
+    missing_implied [] e same missing finds is errno = absurd (none-some implied (sym (is ∙ ap (option_map FindsNone) finds)))
+    missing_implied (n ∷ d) e same None finds is errno = absurd (none-some implied (sym is))
+    missing_implied (n ∷ d) e same (Some depth) finds is errno =
+        ap (reason_of_implied asked) (same_Some implied _ is)
+        ∙ ap (λ (q : Path). IsMissing (path_at depth q)) same
+        ∙ ap IsMissing (same_Some _ _ (missing_is (n ∷ d) (Some depth) refl finds))
         ∙ ap (λ (q : Path). IsMissing (first_missing f q)) (sym e)
         ∙ sym ((implied_of accounts f tree line.process p call r refused).3 errno (λ root. absurd (cc)))
 
     -- the reason that is implied is the rule's
     implied_right : (e : Errno) → errno_of r ≡ e → ImpliesErrno s roots asked e (Some implied) → reason ≡ r
     implied_right EEXIST errno implies =
-        ap (reason_of_implied asked) (same_Some implied _ implies) ∙ ap IsTaken path_taken
+        ap (reason_of_implied asked) (same_Some implied _ implies) ∙ path_taken
         ∙ sym ((implied_of accounts f tree line.process p call r refused).0 errno)
     implied_right EISDIR errno implies =
         ap (reason_of_implied asked) (same_Some implied _ implies) ∙ ap HasDirectory is_asked.path
@@ -236,7 +276,7 @@ module _ (accounts : Accounts) (s : State) (f : Flat) (births : Births) (names :
     implied_right EBUSY errno implies =
         ap (reason_of_implied asked) (same_Some implied _ implies)
         ∙ sym ((implied_of accounts f tree line.process p call r refused).2 errno)
-    implied_right ENOENT errno implies = missing_implied asked.path (sym is_asked.path) implies.0 implies.1 implies.2 errno
+    implied_right ENOENT errno implies = missing_implied asked.path (sym is_asked.path) refl implies.0 implies.1 implies.2 errno
     implied_right EACCES errno implies =
         ap (reason_of_implied asked) implies.0 ∙ ap IsNoChild is_asked.other
         ∙ sym (kill_is call refl (sym (ap asks_child is_asked.parts) ∙ implies.1)

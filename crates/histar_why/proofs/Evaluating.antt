@@ -1,7 +1,7 @@
 -- The first part of a call's needs that is not met, by what was read, is that of the rule.
 use Rattle.std.specs.Prelude.{◌≡◌, ℕ, suc, ◌+◌, ◌==◌, Bool, true, false, cond, not, nat_le, nat_lt, List, [], ◌∷◌, ◌++◌, length}
 use Rattle.std.specs.Prelude.{Option, None, Some, MatchOption}
-use Rattle.std.specs.Prelude.{if◌then◌else◌, is_some, option_map, refl, T}
+use Rattle.std.specs.Prelude.{if◌then◌else◌, is_some, option_and_then, option_map, refl, T}
 use Rattle.std.specs.List.{cons_option, filter_map, position_or_len}
 use Rattle.std.specs.FinMap.{find, is_sorted}
 use Rattle.std.specs.FinMap.Entries.{below_all}
@@ -63,15 +63,17 @@ use Rattle.histar_why.specs.declared.asked.ProcessPart.TheVariants as of_process
 use Rattle.histar_why.specs.declared.names.Caller.{Caller}
 use Rattle.histar_why.specs.declared.views.View.{View}
 use Rattle.histar_why.specs.declared.ways.Spot.{Spot}
-use Rattle.histar_why.specs.Asked.{IsAsked, beside_of, other_of, parts_of}
+use Rattle.histar_why.specs.Asked.{IsAsked, beside_of, mode_of, other_of, parts_of, user_of}
+use Rattle.histar_why.specs.Asked.{bytes_of as call_bytes}
 use Rattle.histar_why.specs.Names.{process_of}
 use Rattle.histar_names.specs.KnownBirths.{NamesBirths}
-use Rattle.histar_why.specs.Reasons.{bytes_then, first_reason, has_directory, has_file, part_reason, reason_of, unread_in, unwritten_in}
+use Rattle.histar_why.specs.Barriers.{IsOnWay, barrier_of}
+use Rattle.histar_why.specs.Reasons.{bytes_then, first_reason, has_directory, has_file, part_reason, unread_in, unwritten_in}
 use Rattle.histar_why.specs.Reasons.{bytes_of as spot_bytes}
 use Rattle.histar_why.specs.Views.{CountsEntries, CountsIn, IsViewOf, asks_empty, asks_room}
 use Rattle.histar_why.specs.Ways.{IsAt, Reveals, Sight, sight_at, sight_of}
 use Rattle.histar_why.proofs.Found.{search_is}
-use Rattle.histar_why.proofs.Spots.{is_directory_is, is_there_is, led_directory, node_at, nothing_at, same_number, unread_is}
+use Rattle.histar_why.proofs.Spots.{is_directory_is, led_directory, node_at, nothing_at, same_number, there_is_some, unread_is}
 
 -- ---- chains of refusals
 
@@ -200,11 +202,7 @@ module _ (accounts : Accounts) (s : State) (f : Flat) (births : Births) (names :
 
   -- whether something is there, a directory, a file
   there_is : (q : Path) (found : Option Spot) → At q found → is_some found ≡ is_there f q
-  there_is q found at = some_is found ∙ is_there_is accounts s f births names p found (get f.files q) at.seen
-    where
-      some_is : (x : Option Spot) → is_some x ≡ is_some_and x (λ y. true)
-      some_is None = refl
-      some_is (Some spot) = refl
+  there_is q found at = there_is_some accounts s f births names p found (get f.files q) at.seen
 
   directory_is : (q : Path) (found : Option Spot) → At q found → has_directory found ≡ is_dir_at f q
   directory_is q found at = is_directory_is accounts s f births names p found (get f.files q) at.seen
@@ -278,39 +276,45 @@ module _ (accounts : Accounts) (s : State) (f : Flat) (births : Births) (names :
     revealed : Reveals users roots births s accounts f
     revealed = record { users_are = refl; roots_are = refl; names = names }
 
-    way_is : (option_map reason_of view.facts.now.way.walk ≡ why_walk accounts f p q)
+    way_is : IsOnWay q view.facts.now.way.walk × (option_map (barrier_of q) view.facts.now.way.walk ≡ why_walk accounts f p q)
         × At (parent q) view.facts.now.way.above × At q view.facts.now.way.here
     way_is =
         let way = is.facts.way accounts f revealed in
-        let walked : option_map reason_of view.facts.now.way.walk ≡ why_walk accounts f (process_of caller) asked.path = way.0 in
-        (subst (λ (x : Process × Path). (option_map reason_of view.facts.now.way.walk ≡ why_walk accounts f x.0 x.1)
+        subst (λ (x : Process × Path). IsOnWay x.1 view.facts.now.way.walk
+        × (option_map (barrier_of x.1) view.facts.now.way.walk ≡ why_walk accounts f x.0 x.1)
         × IsAt users roots births s accounts f x.0 (parent x.1) view.facts.now.way.above
         × IsAt users roots births s accounts f x.0 x.1 view.facts.now.way.here)
-        (λ i. (caller_is i, is_asked.path i)) way)
+        (λ i. (caller_is i, is_asked.path i)) way
+
+    above_is : At (parent q) view.facts.now.way.above
+    above_is = way_is.2
+
+    here_is : At q view.facts.now.way.here
+    here_is = way_is.3
 
     abbrev reason : Part → Option Reason
     reason = part_reason view
 
     walk_met : reason parts.Walk ≡ why_walk accounts f p q
-    walk_met = way_is.0
+    walk_met = ap (λ (x : Path). option_map (barrier_of x) view.facts.now.way.walk) path_is ∙ way_is.1
 
     root_met : (e : Errno) → reason (parts.NotRoot e) ≡ unless (is_below_root q) (root_reason e q)
     root_met e = λ i. unless (is_below_root (path_is i)) (root_reason e (path_is i))
 
     exists_met : reason parts.Exists ≡ unless (is_there f q) (IsMissing q)
-    exists_met = λ i. unless (there_is q view.facts.now.way.here way_is.2 i) (IsMissing (path_is i))
+    exists_met = λ i. unless (there_is q view.facts.now.way.here here_is i) (IsMissing (path_is i))
 
     file_met : reason parts.IsFile ≡ unless (is_file_at f q) (HasDirectory q)
-    file_met = λ i. unless (file_is q view.facts.now.way.here way_is.2 i) (HasDirectory (path_is i))
+    file_met = λ i. unless (file_is q view.facts.now.way.here here_is i) (HasDirectory (path_is i))
 
     directory_met : reason parts.IsDirectory ≡ unless (is_dir_at f q) (HasFile q)
-    directory_met = λ i. unless (directory_is q view.facts.now.way.here way_is.2 i) (HasFile (path_is i))
+    directory_met = λ i. unless (directory_is q view.facts.now.way.here here_is i) (HasFile (path_is i))
 
     absent_met : reason parts.Absent ≡ unless (not (is_there f q)) (IsTaken q)
-    absent_met = λ i. unless (not (there_is q view.facts.now.way.here way_is.2 i)) (IsTaken (path_is i))
+    absent_met = λ i. unless (not (there_is q view.facts.now.way.here here_is i)) (IsTaken (path_is i))
 
     beside_met : (name : Name) → beside_of call ≡ Some name
-        → reason (parts.AbsentBeside name) ≡ unless (not (is_there f (name ∷ parent q))) (IsTaken (name ∷ parent q))
+        → reason parts.AbsentBeside ≡ unless (not (is_there f (name ∷ parent q))) (IsTaken (name ∷ parent q))
     beside_met name given =
         let beside : MatchOption (Some name) (view.facts.now.beside ≡ false)
         (λ n. (found : Option Target) × Resolves s roots (n ∷ parent asked.path) found × (view.facts.now.beside ≡ is_some found)) =
@@ -319,15 +323,17 @@ module _ (accounts : Accounts) (s : State) (f : Flat) (births : Births) (names :
         × (view.facts.now.beside ≡ is_some found))) (is_asked.beside ∙ given) is.facts.beside in
         let there : view.facts.now.beside ≡ is_there f (name ∷ parent q) =
         beside.2 ∙ beside_is q name beside.0 (subst (λ (x : Path). Resolves s roots (name ∷ parent x) beside.0) is_asked.path beside.1) in
-        λ i. unless (not (there i)) (IsTaken (name ∷ parent (path_is i)))
+        ap (option_and_then (λ (n : Name). unless (not view.facts.now.beside) (IsTaken (n ∷ parent view.asked.now.path))))
+        (ap (λ (x : Asked). x.beside) is.asked_is ∙ is_asked.beside ∙ given)
+        ∙ (λ i. unless (not (there i)) (IsTaken (name ∷ parent (path_is i))))
 
     read_met : reason parts.MayRead ≡ not_read accounts f p q
-    read_met = ap (λ (x : Path). option_map (MayNotRead x) (unread_in view.facts.now.way.here)) path_is ∙ read_is q view.facts.now.way.here way_is.2
+    read_met = ap (λ (x : Path). option_map (MayNotRead x) (unread_in view.facts.now.way.here)) path_is ∙ read_is q view.facts.now.way.here here_is
 
     write_met : is_there f q ≡ true → reason parts.MayWrite ≡ not_written accounts f p q
     write_met there =
         ap (λ (x : Path). option_map (MayNotWrite x) (unwritten_in view.facts.now.way.here)) path_is
-        ∙ write_is q view.facts.now.way.here way_is.2 there
+        ∙ write_is q view.facts.now.way.here here_is there
 
     -- where the process can walk to the path, its directory is there
     parent_there : (r : Path) → why_walk accounts f p r ≡ None → is_there f (parent r) ≡ true
@@ -339,20 +345,20 @@ module _ (accounts : Accounts) (s : State) (f : Flat) (births : Births) (names :
     write_above_met : why_walk accounts f p q ≡ None → reason parts.MayWriteAbove ≡ not_written accounts f p (parent q)
     write_above_met walked =
         ap (λ (x : Path). option_map (MayNotWrite (parent x)) (unwritten_in view.facts.now.way.above)) path_is
-        ∙ write_is (parent q) view.facts.now.way.above way_is.1 (parent_there q walked)
+        ∙ write_is (parent q) view.facts.now.way.above above_is (parent_there q walked)
 
     room_met : asks_room (parts_of call) ≡ true → reason parts.HasRoomAbove
         ≡ unless (nat_lt (length (entries_in f (parent q))) most_entries) (IsFull (parent q) (length (entries_in f (parent q))))
     room_met asks =
         let counts = is.facts.above (ap asks_room is_asked.parts ∙ asks) in
-        let n = entries_are (parent q) view.facts.now.way.above way_is.1 view.facts.now.above counts in
+        let n = entries_are (parent q) view.facts.now.way.above above_is view.facts.now.above counts in
         λ i. unless (nat_lt (n i) most_entries) (IsFull (parent (path_is i)) (n i))
 
     empty_met : asks_empty (parts_of call) ≡ true
         → reason parts.IsEmpty ≡ unless (length (entries_in f q) == 0) (IsNotEmpty q (length (entries_in f q)))
     empty_met asks =
         let counts = is.facts.here (ap asks_empty is_asked.parts ∙ asks) in
-        let n = entries_are q view.facts.now.way.here way_is.2 view.facts.now.here counts in
+        let n = entries_are q view.facts.now.way.here here_is view.facts.now.here counts in
         λ i. unless (n i == 0) (IsNotEmpty (path_is i) (n i))
 
     -- how many bytes the file would have
@@ -362,16 +368,22 @@ module _ (accounts : Accounts) (s : State) (f : Flat) (births : Births) (names :
 
     bytes_are : (kept : Kept) (bytes : List ℕ) → bytes_then kept view.facts.now.way.here (length bytes) ≡ length (made_of kept bytes)
     bytes_are kepts.All bytes =
-        ap (λ (n : ℕ). n + length bytes) (bytes_is q view.facts.now.way.here way_is.2) ∙ sym (length-append (bytes_at f q) bytes)
+        ap (λ (n : ℕ). n + length bytes) (bytes_is q view.facts.now.way.here here_is) ∙ sym (length-append (bytes_at f q) bytes)
     bytes_are kepts.Nothing bytes = omega arith
 
-    fits_met : (kept : Kept) (bytes : List ℕ) → reason (parts.Fits kept (length bytes))
+    fits_met : (kept : Kept) (bytes : List ℕ) → call_bytes call ≡ bytes → reason (parts.Fits kept)
         ≡ unless (nat_le (length (made_of kept bytes)) most_bytes) (IsTooLong q (length (made_of kept bytes)))
-    fits_met kept bytes = λ i. unless (nat_le (bytes_are kept bytes i) most_bytes) (IsTooLong (path_is i) (bytes_are kept bytes i))
+    fits_met kept bytes given =
+        let new : view.asked.now.new ≡ length bytes = ap (λ (x : Asked). x.new) is.asked_is ∙ is_asked.new ∙ ap length given in
+        let total : bytes_then kept view.facts.now.way.here view.asked.now.new ≡ length (made_of kept bytes) =
+        ap (bytes_then kept view.facts.now.way.here) new ∙ bytes_are kept bytes in
+        λ i. unless (nat_le (total i) most_bytes) (IsTooLong (path_is i) (total i))
 
-    make_met : (mode : Mode) → reason (parts.OfProcess (of_process.MayMake mode)) ≡ unless (is_some (class_made accounts p mode)) (unmade mode)
-    make_met mode =
-        (λ i. unless (is_some (class_made (is.users_are i) (p_is i) mode)) (unmade mode))
+    make_met : (mode : Mode) → mode_of call ≡ mode
+        → reason (parts.OfProcess of_process.MayMake) ≡ unless (is_some (class_made accounts p mode)) (unmade mode)
+    make_met mode given =
+        let same : view.asked.now.mode ≡ mode = ap (λ (x : Asked). x.mode) is.asked_is ∙ is_asked.mode ∙ given in
+        (λ i. unless (is_some (class_made (is.users_are i) (p_is i) (same i))) (unmade (same i)))
         ∙ ap (λ (c : Option Class). unless (is_some c) (unmade mode)) (made_is accounts p mode)
 
     child_left_met : reason (parts.OfProcess of_process.HasChildLeft) ≡ unless (nat_lt p.born most_children) (HadChildren p.born)
@@ -380,18 +392,28 @@ module _ (accounts : Accounts) (s : State) (f : Flat) (births : Births) (names :
     number_left_met : reason (parts.OfProcess of_process.HasNumberLeft) ≡ unless (nat_lt (length me) most_numbers) (HasNumbers (length me + 1))
     number_left_met = λ i. unless (nat_lt (length (me_is i)) most_numbers) (HasNumbers (length (me_is i) + 1))
 
-    found_met : (name : ProcName) → other_of call ≡ name → reason (parts.OfProcess (of_process.Found name)) ≡ why_not_found accounts f p name
+    found_met : (name : ProcName) → other_of call ≡ name → reason (parts.OfProcess of_process.Found) ≡ why_not_found accounts f p name
     found_met name given =
         is.facts.sought ∙ search_is accounts s f births names (process_of caller) asked.other
         ∙ (λ i. why_not_found accounts f (caller_is i) ((is_asked.other ∙ given) i))
 
-    child_met : (name : ProcName) → reason (parts.OfProcess (of_process.IsChild name)) ≡ unless (is_child me name) (IsNoChild name)
-    child_met name = λ i. unless (is_child (me_is i) name) (IsNoChild name)
+    child_met : (name : ProcName) → other_of call ≡ name
+        → reason (parts.OfProcess of_process.IsChild) ≡ unless (is_child me name) (IsNoChild name)
+    child_met name given =
+        let other : view.asked.now.other ≡ name = ap (λ (x : Asked). x.other) is.asked_is ∙ is_asked.other ∙ given in
+        λ i. unless (is_child (me_is i) (other i)) (IsNoChild (other i))
 
-    user_met : (name : Name) → reason (parts.OfProcess (of_process.IsUser name)) ≡ unless (is_some (user_named accounts.users name)) (NoUser name)
-    user_met name =
-        (λ i. unless (is_some (user_number (is.users_are i) name)) (NoUser name))
+    user_given : (name : Name) → user_of call ≡ Some name → view.asked.now.user ≡ Some name
+    user_given name given = ap (λ (x : Asked). x.user) is.asked_is ∙ is_asked.user ∙ given
+
+    user_met : (name : Name) → user_of call ≡ Some name
+        → reason (parts.OfProcess of_process.IsUser) ≡ unless (is_some (user_named accounts.users name)) (NoUser name)
+    user_met name given =
+        (λ i. option_and_then (λ (n : Name). unless (is_some (user_number (is.users_are i) n)) (NoUser n)) (user_given name given i))
         ∙ ap (λ (b : Bool). unless b (NoUser name)) (user_is name accounts)
+
+    password_met : (name : Name) → user_of call ≡ Some name → reason (parts.OfProcess of_process.HasPassword) ≡ Some (WrongPassword name)
+    password_met name given = ap (option_map WrongPassword) (user_given name given)
 
     job_met : reason (parts.OfProcess of_process.InNoJob) ≡ option_map IsInJob (innermost p)
     job_met = λ i. option_map IsInJob (innermost (p_is i))
@@ -441,16 +463,18 @@ module _ (accounts : Accounts) (s : State) (f : Flat) (births : Births) (names :
     call_met : (c : UnixCall) → call ≡ c → is_some (why_need accounts f me p q (rule c).needs) ≡ true
         → firsts (parts_of c) ≡ why_need accounts f me p q (rule c).needs
     call_met (Create r mode) e refused =
-        room_first (ap (λ c. asks_room (parts_of c)) e) (parts.OfProcess (of_process.MayMake mode)) _ (make_met mode)
+        room_first (ap (λ c. asks_room (parts_of c)) e) (parts.OfProcess of_process.MayMake) _ (make_met mode (ap mode_of e))
     call_met (Mkdir r mode) e refused =
-        room_first (ap (λ c. asks_room (parts_of c)) e) (parts.OfProcess (of_process.MayMake mode)) _ (make_met mode)
+        room_first (ap (λ c. asks_room (parts_of c)) e) (parts.OfProcess of_process.MayMake) _ (make_met mode (ap mode_of e))
     call_met (Read r) e refused = file_first (parts.MayRead ∷ []) _ (λ there. none_last (reason parts.MayRead) ∙ read_met)
     call_met (Write r bytes) e refused =
-        file_first (parts.MayWrite ∷ parts.Fits kepts.Nothing (length bytes) ∷ []) _
-        (λ there. λ i. write_met there i orelse (none_last (reason (parts.Fits kepts.Nothing (length bytes))) ∙ fits_met kepts.Nothing bytes) i)
+        file_first (parts.MayWrite ∷ parts.Fits kepts.Nothing ∷ []) _
+        (λ there. λ i.
+        write_met there i orelse (none_last (reason (parts.Fits kepts.Nothing)) ∙ fits_met kepts.Nothing bytes (ap call_bytes e)) i)
     call_met (Append r bytes) e refused =
-        file_first (parts.MayWrite ∷ parts.Fits kepts.All (length bytes) ∷ []) _
-        (λ there. λ i. write_met there i orelse (none_last (reason (parts.Fits kepts.All (length bytes))) ∙ fits_met kepts.All bytes) i)
+        file_first (parts.MayWrite ∷ parts.Fits kepts.All ∷ []) _
+        (λ there. λ i.
+        write_met there i orelse (none_last (reason (parts.Fits kepts.All)) ∙ fits_met kepts.All bytes (ap call_bytes e)) i)
     call_met (ListCall r) e refused =
         λ i. walk_met i orelse exists_met i orelse directory_met i orelse (none_last (reason parts.MayRead) ∙ read_met) i
     call_met (Stat r) e refused = λ i. walk_met i orelse (none_last (reason parts.Exists) ∙ exists_met) i
@@ -461,16 +485,18 @@ module _ (accounts : Accounts) (s : State) (f : Flat) (births : Births) (names :
         directory_met i orelse read_met i orelse empty_met (ap (λ c. asks_empty (parts_of c)) e) i orelse written_last walked i)
     call_met (Rmtree r) e refused = entry_first (parts.MayWriteAbove ∷ []) _ written_last
     call_met (Rename r name) e refused =
-        entry_first (parts.AbsentBeside name ∷ parts.MayWriteAbove ∷ []) _
+        entry_first (parts.AbsentBeside ∷ parts.MayWriteAbove ∷ []) _
         (λ walked. λ i. beside_met name (ap beside_of e) i orelse written_last walked i)
     call_met Spawn e refused = λ i. child_left_met i orelse (none_last (reason (parts.OfProcess of_process.HasNumberLeft)) ∙ number_left_met) i
     call_met (Exit n) e refused = refl
-    call_met (Status name) e refused = none_last (reason (parts.OfProcess (of_process.Found name))) ∙ found_met name (ap other_of e)
+    call_met (Status name) e refused = none_last (reason (parts.OfProcess of_process.Found)) ∙ found_met name (ap other_of e)
     call_met (Kill name) e refused =
-        λ i. found_met name (ap other_of e) i orelse (none_last (reason (parts.OfProcess (of_process.IsChild name))) ∙ child_met name) i
+        λ i. found_met name (ap other_of e) i
+        orelse (none_last (reason (parts.OfProcess of_process.IsChild)) ∙ child_met name (ap other_of e)) i
     call_met Whoami e refused = refl
     call_met (Login name password) e refused =
-        (λ i. user_met name i orelse job_met i orelse Some (WrongPassword name))
+        (λ i. user_met name (ap user_of e) i orelse job_met i
+        orelse (none_last (reason (parts.OfProcess of_process.HasPassword)) ∙ password_met name (ap user_of e)) i)
         ∙ last_refuses (unless (is_some (user_named accounts.users name)) (NoUser name)) (option_map IsInJob (innermost p)) _
         (WrongPassword name) refused
     call_met (Wrap r) e refused =
@@ -480,5 +506,5 @@ module _ (accounts : Accounts) (s : State) (f : Flat) (births : Births) (names :
         (unless (nat_lt (length me) most_numbers) (HasNumbers (length me + 1))) _)
 
     -- so the reason that is found is the rule's
-    pub reason_is : is_some (why accounts f me p call) ≡ true → first_reason view asked.parts.items ≡ why accounts f me p call
+    pub reason_is : is_some (why accounts f me p call) ≡ true → first_reason view asked.parts.now ≡ why accounts f me p call
     reason_is refused = ap firsts is_asked.parts ∙ call_met call refl refused

@@ -1,6 +1,7 @@
 -- The lemmas of this crate.
 pub mod Lists
 pub mod Naming
+pub mod Barriers
 pub mod Found
 pub mod Spots
 pub mod Evaluating

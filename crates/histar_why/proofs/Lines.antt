@@ -26,9 +26,10 @@ use Rattle.histar_why.specs.Views.{IsViewOf}
 module _ (users : Accounts) (roots : Roots) (births : Births) (s : State) (asked : Asked) where
   -- the sentence of the reason that was found
   pub reason_added : (caller : Caller) (view : View) → IsViewOf users roots births s caller asked view
-      → (parts : List Part) → parts ≡ asked.parts.items
-      → (found : Option Found) → option_map reason_of found ≡ first_reason view parts
-      → SaysReason users roots births s caller asked (words_of asked.process (process_of caller) (option_map reason_of found))
+      → (parts : List Part) → parts ≡ asked.parts.now
+      → (found : Option Found) → option_map (reason_of asked.path) found ≡ first_reason view parts
+      → SaysReason users roots births s caller asked
+      (words_of asked.process (process_of caller) (option_map (reason_of asked.path) found))
   reason_added caller view is parts same found first =
       (view, is, ap (words_of asked.process (process_of caller)) (first ∙ ap (first_reason view) same))
 

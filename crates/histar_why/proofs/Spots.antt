@@ -1,6 +1,6 @@
 -- What is found at a path of a state is what the rules say is there.
 use Rattle.std.specs.Prelude.{◌≡◌, ℕ, ◌+◌, ◌*◌, true, List, [], ◌∷◌, length, map, Option, None, Some, MatchOption}
-use Rattle.std.specs.Prelude.{option_and_then, option_map, refl, IfOk, Result, Ok, Err}
+use Rattle.std.specs.Prelude.{is_some, option_and_then, option_map, refl, IfOk, Result, Ok, Err}
 use Rattle.std.proofs.Common.{ap, inr, sym, ◌∙◌, subst}
 use Rattle.std.proofs.lemmas.Option.{none-some, same_Some}
 use Rattle.std.specs.FinMap as maps
@@ -68,9 +68,11 @@ use Rattle.histar_why.specs.declared.ways.Way.{Way}
 use Rattle.histar_why.specs.Causes.{class_by, class_named, jobs_by}
 use Rattle.histar_why.specs.Views.{CountsIn}
 use Rattle.histar_names.specs.KnownBirths.{NamesBirths}
-use Rattle.histar_why.specs.Reasons.{has_directory, reason_of, unread_in}
+use Rattle.histar_why.specs.Barriers.{IsOnWay, barrier_of}
+use Rattle.histar_why.specs.Reasons.{has_directory, unread_in}
 use Rattle.histar_why.specs.Ways.{FindsBelow, FindsEntry, FindsSpot, HasClass, IsAt, IsSpot, IsWayTo, Lists, Reveals, ShowsClass, Sight}
 use Rattle.histar_why.specs.Ways.{sight_at, sight_by, sight_of, why_into_by}
+use Rattle.histar_why.proofs.Barriers.{barrier_below, on_way_below}
 use Rattle.histar_why.proofs.Found.{jobs_are}
 
 -- ---- users with no passwords have the same classes
@@ -298,13 +300,22 @@ module _ (accounts : Accounts) (s : State) (f : Flat) (births : Births) (names :
     unread_is (Some spot) None e = absurd (none-some _ (sym e))
     unread_is (Some spot) (Some node) e = ap (λ (x : Sight). x.unread) (same_Some _ _ e)
 
+    -- something is found where the flat state has something
+    pub there_is_some : (found : Option Spot) (o : Option Node) → option_map sight_of found ≡ option_map (sight_at accounts p) o
+        → is_some found ≡ is_some_and o (λ n. true)
+    there_is_some found o e = some_is found ∙ is_there_is found o e
+      where
+        some_is : (x : Option Spot) → is_some x ≡ is_some_and x (λ y. true)
+        some_is None = refl
+        some_is (Some spot) = refl
+
     -- why the process can't go into a directory
-    into_is : (d : Path) (way : Way) → option_map reason_of way.walk ≡ why_walk accounts f p d → At d way.here
+    into_is : (d : Path) (way : Way) → option_map (barrier_of d) way.walk ≡ why_walk accounts f p d → At d way.here
         → why_into_by way d ≡ why_into accounts f p d
     into_is [] way walk here =
         let root = root_is_dir accounts s f l in
         (λ i. walk i
-        orelse unless (is_there_is way.here (get f.files []) here.seen i) (IsMissing [])
+        orelse unless (there_is_some way.here (get f.files []) here.seen i) (IsMissing [])
         orelse unless (is_directory_is way.here (get f.files []) here.seen i) (HasFile [])
         orelse option_map (MayNotRead []) (unread_is way.here (get f.files []) here.seen i))
         ∙ ap (λ (o : Option Node).
@@ -312,7 +323,7 @@ module _ (accounts : Accounts) (s : State) (f : Flat) (births : Births) (names :
         orelse option_map (MayNotRead []) (unread accounts p (class_of (get f.files [])))) root.1
     into_is (n ∷ d) way walk here =
         λ i. walk i
-        orelse unless (is_there_is way.here (get f.files (n ∷ d)) here.seen i) (IsMissing (n ∷ d))
+        orelse unless (there_is_some way.here (get f.files (n ∷ d)) here.seen i) (IsMissing (n ∷ d))
         orelse unless (is_directory_is way.here (get f.files (n ∷ d)) here.seen i) (HasFile (n ∷ d))
         orelse option_map (MayNotRead (n ∷ d)) (unread_is way.here (get f.files (n ∷ d)) here.seen i)
 
@@ -338,24 +349,29 @@ module _ (users : Accounts) (roots : Roots) (births : Births) (s : State) (p : P
       let at = as_revealed accounts f r (λ u w. IsAt u w births s accounts f p [] way.here)
       (at_slash accounts s f births r.names p way.here
       (from_revealed accounts f r (λ u w. FindsSpot u births s p (targets.Directory w.slash.container w.slash.listing) way.here) here)) in
-      subst (λ (x : Path). (option_map reason_of way.walk ≡ why_walk accounts f p x) × IsAt users roots births s accounts f p (parent x) way.above
-      × IsAt users roots births s accounts f p x way.here) (sym is)
-      (ap (option_map reason_of) walk, subst (IsAt users roots births s accounts f p []) (sym above) at, at)
+      subst (λ (x : Path). IsOnWay x way.walk × (option_map (barrier_of x) way.walk ≡ why_walk accounts f p x)
+      × IsAt users roots births s accounts f p (parent x) way.above × IsAt users roots births s accounts f p x way.here) (sym is) (
+        subst (IsOnWay []) (sym walk) tt,
+        ap (option_map (barrier_of [])) walk,
+        subst (IsAt users roots births s accounts f p []) (sym above) at,
+        at,
+      )
 
   -- the way to an entry of a directory
   pub way_below : (d : Path) (n : Name) (up : Way) → IsWayTo users roots births s p d up → (q : Path) → q ≡ n ∷ d → (way : Way)
-      → option_map reason_of way.walk ≡ why_into_by up d → way.above ≡ up.here → FindsBelow users births s p up.here n way.here
-      → IsWayTo users roots births s p q way
-  way_below d n up is q parts way walk above here accounts f r =
+      → option_map (barrier_of d) way.walk ≡ why_into_by up d → (IsOnWay d up.walk → IsOnWay d way.walk) → way.above ≡ up.here
+      → FindsBelow users births s p up.here n way.here → IsWayTo users roots births s p q way
+  way_below d n up is q parts way walk near above here accounts f r =
       let upper = is accounts f r in
-      let upper_at = from_revealed accounts f r (λ u w. IsAt u w births s accounts f p d up.here) upper.2 in
+      let upper_at = from_revealed accounts f r (λ u w. IsAt u w births s accounts f p d up.here) upper.3 in
       let at = as_revealed accounts f r (λ u w. IsAt u w births s accounts f p (n ∷ d) way.here)
       (at_entry accounts s f births r.names p d up.here upper_at n way.here
       (from_revealed accounts f r (λ u w. FindsBelow u births s p up.here n way.here) here)) in
-      subst (λ (x : Path). (option_map reason_of way.walk ≡ why_walk accounts f p x) × IsAt users roots births s accounts f p (parent x) way.above
-      × IsAt users roots births s accounts f p x way.here) (sym parts) (
-        walk ∙ into_is accounts s f births r.names p d up upper.0 upper_at,
-        subst (IsAt users roots births s accounts f p d) (sym above) upper.2,
+      subst (λ (x : Path). IsOnWay x way.walk × (option_map (barrier_of x) way.walk ≡ why_walk accounts f p x)
+      × IsAt users roots births s accounts f p (parent x) way.above × IsAt users roots births s accounts f p x way.here) (sym parts) (
+        on_way_below n d way.walk (near upper.0),
+        barrier_below n d way.walk (near upper.0) ∙ walk ∙ into_is accounts s f births r.names p d up upper.1 upper_at,
+        subst (IsAt users roots births s accounts f p d) (sym above) upper.3,
         at,
       )
 

@@ -1,6 +1,7 @@
 -- The definitions of this crate that contracts cite.
 pub mod Names
 pub mod Causes
+pub mod Barriers
 pub mod Asked
 pub mod Reasons
 pub mod Ways

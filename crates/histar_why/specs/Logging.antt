@@ -36,7 +36,7 @@ module _ (users : Accounts) (roots : Roots) (births : Births) (s : State) where
   abbrev pub SaysReason : Caller → Asked → List ℕ → Type 0
   SaysReason caller asked words =
       (view : View) × IsViewOf users roots births s caller asked view
-      × (words ≡ words_of asked.process (process_of caller) (first_reason view asked.parts.items))
+      × (words ≡ words_of asked.process (process_of caller) (first_reason view asked.parts.now))
 
   -- these words say why a call was refused: by its reason, or by the absence of its process
   abbrev pub SaysWords : Asked → List ℕ → Type 0

@@ -1,9 +1,10 @@
 -- Reasons as the code has them, and which part of a call's needs is not met, by what was seen.
-use Rattle.std.specs.Prelude.{ℕ, ◌+◌, ◌==◌, Bool, not, nat_le, nat_lt, List, [], ◌∷◌, length, Option, None, Some}
-use Rattle.std.specs.Prelude.{is_some, option_map}
+use Rattle.std.specs.Prelude.{◌≡◌, ℕ, ◌+◌, ◌==◌, Bool, not, nat_le, nat_lt, List, [], ◌∷◌, length, Option, None, Some}
+use Rattle.std.specs.Prelude.{is_some, option_and_then, option_map}
 use Rattle.histar_base.specs.Paths.{same}
 use Rattle.histar_base.specs.Refusals.{◌orelse◌, unless}
-use Rattle.histar_flat.specs.Words.{most_children, most_numbers}
+use Rattle.histar_flat.specs.declared.replies.Errno.{Errno}
+use Rattle.histar_flat.specs.Words.{Path, most_children, most_numbers}
 use Rattle.histar_flat.specs.Accounts.{user_number}
 use Rattle.histar_flat.specs.Classes.{nobody, class_made}
 use Rattle.histar_flat.specs.FlatState.{is_some_and}
@@ -29,6 +30,7 @@ use Rattle.histar_why.specs.declared.reasons.Reason.{Reason as Found}
 use Rattle.histar_why.specs.declared.reasons.Reason.TheVariants as found
 use Rattle.histar_why.specs.declared.ways.Spot.{Spot}
 use Rattle.histar_why.specs.declared.views.View.{View}
+use Rattle.histar_why.specs.Barriers.{barrier_of}
 use Rattle.histar_why.specs.Causes.{cause_of}
 use Rattle.histar_why.specs.Names.{process_of}
 
@@ -47,22 +49,29 @@ process_reason_of (own.IsInJob job) = IsInJob job
 process_reason_of own.StartsNoJob = StartsNoJob
 
 -- a reason of what is at a path, as the rules have it
-abbrev pub path_reason_of : AtPath → Reason
-path_reason_of (at_path.IsMissing q) = IsMissing q
-path_reason_of (at_path.HasFile q) = HasFile q
-path_reason_of (at_path.HasDirectory q) = HasDirectory q
-path_reason_of (at_path.IsTaken q) = IsTaken q
-path_reason_of at_path.RootStays = RootStays
-path_reason_of (at_path.IsFull q n) = IsFull q n
-path_reason_of (at_path.IsNotEmpty q n) = IsNotEmpty q n
-path_reason_of (at_path.IsTooLong q n) = IsTooLong q n
+abbrev pub path_reason_of : Path → AtPath → Reason
+path_reason_of q at_path.IsMissing = IsMissing q
+path_reason_of q at_path.HasFile = HasFile q
+path_reason_of q at_path.HasDirectory = HasDirectory q
+path_reason_of q at_path.IsTaken = IsTaken q
+path_reason_of q (at_path.IsTakenBeside name) = IsTaken (name ∷ parent q)
+path_reason_of q at_path.RootStays = RootStays
+path_reason_of q (at_path.IsFull n) = IsFull (parent q) n
+path_reason_of q (at_path.IsNotEmpty n) = IsNotEmpty q n
+path_reason_of q (at_path.IsTooLong n) = IsTooLong q n
 
--- a reason, as the rules have it
-abbrev pub reason_of : Found → Reason
-reason_of (found.MayNotRead q cause) = MayNotRead q (cause_of cause)
-reason_of (found.MayNotWrite q cause) = MayNotWrite q (cause_of cause)
-reason_of (found.OfPath reason) = path_reason_of reason
-reason_of (found.OfProcess reason) = process_reason_of reason
+-- it is the reason why a call may not name `/`, by its refusal, of whatever path
+abbrev pub IsRootReason : Errno → AtPath → Type 0
+IsRootReason errno reason = (q : Path) → path_reason_of q reason ≡ root_reason errno q
+
+-- a reason of a call that names this path, as the rules have it
+abbrev pub reason_of : Path → Found → Reason
+reason_of q (found.CannotWalk barrier) = barrier_of q barrier
+reason_of q (found.MayNotRead cause) = MayNotRead q (cause_of cause)
+reason_of q (found.MayNotWrite cause) = MayNotWrite q (cause_of cause)
+reason_of q (found.MayNotWriteAbove cause) = MayNotWrite (parent q) (cause_of cause)
+reason_of q (found.OfPath reason) = path_reason_of q reason
+reason_of q (found.OfProcess reason) = process_reason_of reason
 
 -- ---- what was seen at a path
 
@@ -99,16 +108,19 @@ bytes_then kept spot new = bytes_kept kept spot + new
 module _ (view : View) where
   -- why a part that is of the process alone is not met
   abbrev pub process_reason : ProcessPart → Option Reason
-  process_reason (of_process.MayMake mode) =
-      unless (is_some (class_made view.users.now (process_of view.caller.now) mode)) (unmade mode)
+  process_reason of_process.MayMake =
+      unless (is_some (class_made view.users.now (process_of view.caller.now) view.asked.now.mode))
+      (unmade view.asked.now.mode)
   process_reason of_process.HasChildLeft =
       unless (nat_lt view.caller.now.born most_children) (HadChildren view.caller.now.born)
   process_reason of_process.HasNumberLeft =
       unless (nat_lt (length view.asked.now.process) most_numbers) (HasNumbers (length view.asked.now.process + 1))
-  process_reason (of_process.Found name) = option_map reason_of view.facts.now.sought
-  process_reason (of_process.IsChild name) = unless (is_child view.asked.now.process name) (IsNoChild name)
-  process_reason (of_process.IsUser name) = unless (is_some (user_number view.users.now name)) (NoUser name)
-  process_reason (of_process.HasPassword name) = Some (WrongPassword name)
+  process_reason of_process.Found = option_map process_reason_of view.facts.now.sought
+  process_reason of_process.IsChild =
+      unless (is_child view.asked.now.process view.asked.now.other) (IsNoChild view.asked.now.other)
+  process_reason of_process.IsUser =
+      option_and_then (λ name. unless (is_some (user_number view.users.now name)) (NoUser name)) view.asked.now.user
+  process_reason of_process.HasPassword = option_map WrongPassword view.asked.now.user
   process_reason of_process.InNoJob = option_map IsInJob (innermost (process_of view.caller.now))
   process_reason of_process.IsSomebody = unless (not (same view.caller.now.user nobody)) StartsNoJob
 
@@ -119,19 +131,20 @@ module _ (view : View) where
   path_reason parts.IsFile = unless (has_file view.facts.now.way.here) (HasDirectory view.asked.now.path)
   path_reason parts.IsDirectory = unless (has_directory view.facts.now.way.here) (HasFile view.asked.now.path)
   path_reason parts.Absent = unless (not (is_some view.facts.now.way.here)) (IsTaken view.asked.now.path)
-  path_reason (parts.AbsentBeside name) =
-      unless (not view.facts.now.beside) (IsTaken (name ∷ parent view.asked.now.path))
+  path_reason parts.AbsentBeside =
+      option_and_then (λ name. unless (not view.facts.now.beside) (IsTaken (name ∷ parent view.asked.now.path)))
+      view.asked.now.beside
   path_reason parts.HasRoomAbove =
       unless (nat_lt view.facts.now.above most_entries) (IsFull (parent view.asked.now.path) view.facts.now.above)
   path_reason parts.IsEmpty = unless (view.facts.now.here == 0) (IsNotEmpty view.asked.now.path view.facts.now.here)
-  path_reason (parts.Fits kept new) =
-      unless (nat_le (bytes_then kept view.facts.now.way.here new) most_bytes)
-      (IsTooLong view.asked.now.path (bytes_then kept view.facts.now.way.here new))
+  path_reason (parts.Fits kept) =
+      unless (nat_le (bytes_then kept view.facts.now.way.here view.asked.now.new) most_bytes)
+      (IsTooLong view.asked.now.path (bytes_then kept view.facts.now.way.here view.asked.now.new))
   path_reason part = None
 
   -- why a part is not met
   abbrev pub part_reason : Part → Option Reason
-  part_reason parts.Walk = option_map reason_of view.facts.now.way.walk
+  part_reason parts.Walk = option_map (barrier_of view.asked.now.path) view.facts.now.way.walk
   part_reason parts.MayRead = option_map (MayNotRead view.asked.now.path) (unread_in view.facts.now.way.here)
   part_reason parts.MayWrite = option_map (MayNotWrite view.asked.now.path) (unwritten_in view.facts.now.way.here)
   part_reason parts.MayWriteAbove =

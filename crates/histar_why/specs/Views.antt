@@ -28,7 +28,7 @@ use Rattle.histar_why.specs.declared.views.Facts.{Facts}
 use Rattle.histar_why.specs.declared.views.View.{View}
 use Rattle.histar_why.specs.declared.ways.Spot.{Spot}
 use Rattle.histar_why.specs.Names.{job_named, node_at, process_of}
-use Rattle.histar_why.specs.Reasons.{reason_of}
+use Rattle.histar_why.specs.Reasons.{process_reason_of}
 use Rattle.histar_why.specs.Ways.{IsWayTo}
 
 -- this is how many entries a target has: a file has none, and a directory as many as its segment lists
@@ -77,10 +77,10 @@ asks_empty parts = list_any is_empty_part parts
 pub record AreFactsOf (users : Accounts) (roots : Roots) (births : Births) (s : State) (p : Process) (asked : Asked)
     (facts : Facts) : Type 0 where
   pub way : IsWayTo users roots births s p asked.path facts.way
-  pub above : asks_room asked.parts.items ≡ true → CountsEntries s facts.way.above facts.above
-  pub here : asks_empty asked.parts.items ≡ true → CountsEntries s facts.way.here facts.here
+  pub above : asks_room asked.parts.now ≡ true → CountsEntries s facts.way.above facts.above
+  pub here : asks_empty asked.parts.now ≡ true → CountsEntries s facts.way.here facts.here
   pub beside : IsBeside s roots asked facts.beside
-  pub sought : option_map reason_of facts.sought ≡ search_by users births s roots.home p asked.other
+  pub sought : option_map process_reason_of facts.sought ≡ search_by users births s roots.home p asked.other
 
 -- this is what a call of a process is about
 pub record IsViewOf (users : Accounts) (roots : Roots) (births : Births) (s : State) (caller : Caller) (asked : Asked)

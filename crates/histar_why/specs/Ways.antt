@@ -1,5 +1,5 @@
 -- What is on the way to a path, read off the objects of a state; and what the rules say is there.
-use Rattle.std.specs.Prelude.{◌≡◌, ℕ, Bool, true, length, Option, None, Some, MatchOption, option_map}
+use Rattle.std.specs.Prelude.{◌≡◌, ℕ, Bool, true, length, Option, None, Some, MatchOption, is_some, option_map}
 use Rattle.std.specs.FinMap as map
 use Rattle.histar_base.specs.Refusals.{◌orelse◌, unless}
 use Rattle.histar_flat.specs.Words.{Name, Path}
@@ -32,7 +32,9 @@ use Rattle.histar_why.specs.declared.ways.Spot.{Spot}
 use Rattle.histar_why.specs.declared.ways.Way.{Way}
 use Rattle.histar_why.specs.Causes.{cause_of, class_named}
 use Rattle.histar_names.specs.KnownBirths.{NamesBirths}
-use Rattle.histar_why.specs.Reasons.{reason_of, has_directory, unread_in}
+use Rattle.histar_why.specs.declared.ways.Obstacle.{Obstacle}
+use Rattle.histar_why.specs.Barriers.{IsOnWay, barrier_of, obstacle_of}
+use Rattle.histar_why.specs.Reasons.{has_directory, unread_in}
 
 -- what the rules say of a node: whether it is a directory, how many bytes it has, and why the process may not read or
 -- write it
@@ -109,17 +111,19 @@ abbrev pub FindsBelow : Accounts → Births → State → Process → Option Spo
 FindsBelow users births s p directory name found =
     MatchOption directory (found ≡ None) (λ spot. FindsListed users births s p spot.target name found)
 
--- why the process can't go into what is seen at a path
-abbrev pub why_into_seen : Seen → Path → Option Reason
-why_into_seen seen q = unless seen.is_directory (HasFile q) orelse option_map (MayNotRead q) (option_map cause_of seen.unread)
+-- why the process can't walk into what is at a path
+abbrev pub why_into_spot : Option Spot → Path → Option Reason
+why_into_spot spot q =
+    unless (is_some spot) (IsMissing q) orelse unless (has_directory spot) (HasFile q)
+    orelse option_map (MayNotRead q) (unread_in spot)
 
--- why the process can't go into the directory of a path, by what is on the way to it
+-- it is why, of whatever path the spot is
+abbrev pub StopsAt : Option Spot → Option Obstacle → Type 0
+StopsAt spot obstacle = (q : Path) → option_map (obstacle_of q) obstacle ≡ why_into_spot spot q
+
+-- why the process can't walk into a path, by what is on the way to it
 abbrev pub why_into_by : Way → Path → Option Reason
-why_into_by way q =
-    option_map reason_of way.walk
-    orelse unless (is_some_and way.here (λ spot. true)) (IsMissing q)
-    orelse unless (has_directory way.here) (HasFile q)
-    orelse option_map (MayNotRead q) (unread_in way.here)
+why_into_by way q = option_map (barrier_of q) way.walk orelse why_into_spot way.here q
 
 module _ (users : Accounts) (roots : Roots) (births : Births) (s : State) where
   -- the state represents a flat state with these users and groups, at the places that boot made, and the names of its
@@ -138,5 +142,5 @@ module _ (users : Accounts) (roots : Roots) (births : Births) (s : State) where
   abbrev pub IsWayTo : Process → Path → Way → Type 0
   IsWayTo p q way =
       (accounts : Accounts) (f : Flat) → Reveals accounts f
-      → (option_map reason_of way.walk ≡ why_walk accounts f p q) × IsAt accounts f p (parent q) way.above
-      × IsAt accounts f p q way.here
+      → IsOnWay q way.walk × (option_map (barrier_of q) way.walk ≡ why_walk accounts f p q)
+      × IsAt accounts f p (parent q) way.above × IsAt accounts f p q way.here

@@ -4,11 +4,11 @@ ghost use Rattle.histar_why.specs.Answering.{AnswersWithReason};
 
 use crate::asked::asked_of;
 use crate::logging::log_call;
-use crate::session::{Log, reply_line};
+use crate::session::Log;
 use histar_flat::{CallLine, each_call_is_right};
 use histar_label::LabelStore;
 use histar_script::Fault;
-use histar_shell::Machine;
+use histar_shell::{Machine, set_reply_line};
 use std::alloc::Global;
 
 /// Makes one call on a machine, and returns the line of its reply. If it was refused, the line that
@@ -27,7 +27,7 @@ pub fn answer_with_reason<S: LabelStore + Drop>(
     ensures ok { IfOk result (λ line. AnswersWithReason machine.old machine.new log.old log.new call line.items) }
     ensures faults { IfErr result (λ fault. fault ≡ Fault.OutOfMemory) }
 {
-    let asked = asked_of(alloc, &call)?;
+    let asked = asked_of(&call);
     each_call_is_right(&call.call);
     let CallLine {
         line: number,
@@ -37,7 +37,8 @@ pub fn answer_with_reason<S: LabelStore + Drop>(
     let Ok(reply) = machine.step(alloc, number, &process, call) else {
         return Err(Fault::OutOfMemory);
     };
-    let said = reply_line(alloc, number, &reply)?;
+    let mut said = Vec::new(alloc);
+    set_reply_line(alloc, &mut said, number, &reply)?;
     log_call(alloc, machine, log, &asked, &reply)?;
     Ok(said)
 }

@@ -1,12 +1,10 @@
 //! What a call needs, kept for the time when the machine has taken the call.
-ghost use Rattle.std.specs.Prelude.{◌≡◌, IfOk};
-ghost use Rattle.histar_why.specs.Asked.{IsAsked, beside_of, other_of, parts_of, parts_of_bytes};
-ghost use Rattle.histar_why.specs.Asked.{parts_of_entry, parts_of_look, parts_of_process};
-ghost use Rattle.histar_why.specs.Asked.{parts_of_removal, parts_of_wrap};
+ghost use Rattle.std.specs.Prelude.{◌≡◌, length};
+ghost use Rattle.histar_why.specs.Asked.{IsAsked, beside_of, bytes_of, mode_of, other_of, parts_of};
+ghost use Rattle.histar_why.specs.Asked.{parts_of_bytes, parts_of_entry, parts_of_look};
+ghost use Rattle.histar_why.specs.Asked.{parts_of_process, parts_of_removal, parts_of_wrap, user_of};
 
-use histar_base::Bytes;
 use histar_flat::{CallLine, Errno, Mode, Name, Path, ProcName, UnixCall};
-use std::alloc::{AllocError, Global};
 
 /// A part of what a call needs, of the path that it names and of its process.
 #[derive(Clone, Copy)]
@@ -20,8 +18,8 @@ pub(crate) enum Part {
     IsFile,
     IsDirectory,
     Absent,
-    /// Nothing has this name in the directory of the path.
-    AbsentBeside(Name),
+    /// Nothing has the name in the directory of the path that the call gives.
+    AbsentBeside,
     /// The process may read what is there; may write it; may write the directory of the path.
     MayRead,
     MayWrite,
@@ -30,8 +28,8 @@ pub(crate) enum Part {
     HasRoomAbove,
     /// The directory at the path has no entry.
     IsEmpty,
-    /// The file may have this many bytes, after those that it keeps.
-    Fits(Kept, usize),
+    /// The file may have the bytes of the call, after those that it keeps.
+    Fits(Kept),
     /// It is a part that is of the process.
     OfProcess(ProcessPart),
 }
@@ -39,19 +37,19 @@ pub(crate) enum Part {
 /// A part of what a call needs, of its process alone.
 #[derive(Clone, Copy)]
 pub(crate) enum ProcessPart {
-    /// The process may make something of this mode.
-    MayMake(Mode),
+    /// The process may make something of the call's mode.
+    MayMake,
     /// Fewer than 64 children were born to the process.
     HasChildLeft,
     /// The name of the process has fewer than 8 numbers.
     HasNumberLeft,
-    /// The process finds the one of this name.
-    Found(ProcName),
-    /// The one of this name is a child of it.
-    IsChild(ProcName),
-    /// A user has this name; and the password that was given.
-    IsUser(Name),
-    HasPassword(Name),
+    /// The process finds the one that is named.
+    Found,
+    /// The one that is named is a child of it.
+    IsChild,
+    /// A user has the name; and the password that was given.
+    IsUser,
+    HasPassword,
     /// The process is in no job; it is not nobody's.
     InNoJob,
     IsSomebody,
@@ -73,26 +71,56 @@ pub(crate) struct Asked {
     pub process: ProcName,
     /// The path that the call names, or `/`.
     pub path: Path,
-    /// The name that the call gives to what is at the path.
+    /// The mode of what it makes, or open.
+    pub mode: Mode,
+    /// How many bytes it has.
+    pub new: usize,
+    /// The name that it gives to what is at the path.
     pub beside: Option<Name>,
-    /// The process that the call names, or process 0.
+    /// The user as whom it logs in.
+    pub user: Option<Name>,
+    /// The process that it names, or process 0.
     pub other: ProcName,
     /// What it needs, in the order of its tests.
-    pub parts: Vec<Part>,
+    pub parts: &'static [Part],
 }
 
 /// Returns what a call line asks for.
-pub(crate) fn asked_of(alloc: Global, line: &CallLine) -> Result<Asked, AllocError>
-    ensures { IfOk result (IsAsked line.now) }
+pub(crate) fn asked_of(line: &CallLine) -> Asked
+    ensures { IsAsked line.now result }
 {
-    Ok(Asked {
+    let call = &line.call;
+    Asked {
         line: line.line,
         process: line.process,
-        path: line.call.path(),
-        beside: beside_of(&line.call),
-        other: other_of(&line.call),
-        parts: parts_of(alloc, &line.call)?,
-    })
+        path: call.path(),
+        mode: mode_of(call),
+        new: bytes_of(call),
+        beside: beside_of(call),
+        user: user_of(call),
+        other: other_of(call),
+        parts: parts_of(call),
+    }
+}
+
+/// Returns the mode of what a call makes, or open.
+fn mode_of(call: &UnixCall) -> Mode
+    ensures { result ≡ mode_of call.now }
+{
+    match call {
+        UnixCall::Create(_, mode) | UnixCall::Mkdir(_, mode) => *mode,
+        _ => Mode::Open,
+    }
+}
+
+/// Counts the bytes of a call.
+fn bytes_of(call: &UnixCall) -> usize
+    ensures { result ≡ length (bytes_of call.now) }
+{
+    match call {
+        UnixCall::Write(_, bytes) | UnixCall::Append(_, bytes) => bytes.len(),
+        _ => 0,
+    }
 }
 
 /// Returns the name that a call gives to what is at its path.
@@ -101,6 +129,16 @@ fn beside_of(call: &UnixCall) -> Option<Name>
 {
     match call {
         UnixCall::Rename(_, name) => Some(*name),
+        _ => None,
+    }
+}
+
+/// Returns the user as whom a call logs in.
+fn user_of(call: &UnixCall) -> Option<Name>
+    ensures { result ≡ user_of call.now }
+{
+    match call {
+        UnixCall::Login(name, _) => Some(*name),
         _ => None,
     }
 }
@@ -116,136 +154,140 @@ fn other_of(call: &UnixCall) -> ProcName
 }
 
 /// Returns what a call needs, in the order of its tests.
-fn parts_of(alloc: Global, call: &UnixCall) -> Result<Vec<Part>, AllocError>
-    ensures { IfOk result (λ parts. parts.items ≡ parts_of call.now) }
+fn parts_of(call: &UnixCall) -> &'static [Part]
+    ensures { result.now ≡ parts_of call.now }
 {
     match call {
-        UnixCall::Create(_, mode) | UnixCall::Mkdir(_, mode) => parts_of_entry(alloc, *mode),
-        UnixCall::Write(_, bytes) => parts_of_bytes(alloc, Kept::Nothing, bytes),
-        UnixCall::Append(_, bytes) => parts_of_bytes(alloc, Kept::All, bytes),
-        UnixCall::Read(_) | UnixCall::List(_) | UnixCall::Stat(_) => parts_of_look(alloc, call),
-        UnixCall::Unlink(_) | UnixCall::Rmdir(_) => parts_of_removal(alloc, call),
-        UnixCall::Rmtree(_) | UnixCall::Rename(_, _) => parts_of_removal(alloc, call),
-        _ => parts_of_process(alloc, call),
+        UnixCall::Create(_, _) | UnixCall::Mkdir(_, _) => parts_of_entry(),
+        UnixCall::Write(_, _) | UnixCall::Append(_, _) => parts_of_bytes(call),
+        UnixCall::Read(_) | UnixCall::List(_) | UnixCall::Stat(_) => parts_of_look(call),
+        UnixCall::Unlink(_) | UnixCall::Rmdir(_) => parts_of_removal(call),
+        UnixCall::Rmtree(_) | UnixCall::Rename(_, _) => parts_of_removal(call),
+        _ => parts_of_process(call),
     }
 }
 
-/// Returns what a call needs that makes a file or a directory of a mode.
-fn parts_of_entry(alloc: Global, mode: Mode) -> Result<Vec<Part>, AllocError>
-    ensures { IfOk result (λ parts. parts.items ≡ parts_of_entry mode) }
+/// Returns what a call needs that makes a file or a directory.
+fn parts_of_entry() -> &'static [Part]
+    ensures { result.now ≡ parts_of_entry }
 {
-    let parts = [
+    &[
         Part::NotRoot(Errno::EEXIST),
         Part::Walk,
         Part::Absent,
         Part::HasRoomAbove,
         Part::MayWriteAbove,
-        Part::OfProcess(ProcessPart::MayMake(mode)),
-    ];
-    Vec::from_slice(alloc, parts.as_slice())
+        Part::OfProcess(ProcessPart::MayMake),
+    ]
 }
 
 /// Returns what a call needs that puts bytes into a file.
-fn parts_of_bytes(alloc: Global, kept: Kept, bytes: &Bytes) -> Result<Vec<Part>, AllocError>
-    ensures { IfOk result (λ parts. parts.items ≡ parts_of_bytes kept bytes.now) }
+fn parts_of_bytes(call: &UnixCall) -> &'static [Part]
+    ensures { result.now ≡ parts_of_bytes call.now }
 {
-    let parts = [
-        Part::NotRoot(Errno::EISDIR),
-        Part::Walk,
-        Part::Exists,
-        Part::IsFile,
-        Part::MayWrite,
-        Part::Fits(kept, bytes.len()),
-    ];
-    Vec::from_slice(alloc, parts.as_slice())
+    match call {
+        UnixCall::Append(_, _) => &[
+            Part::NotRoot(Errno::EISDIR),
+            Part::Walk,
+            Part::Exists,
+            Part::IsFile,
+            Part::MayWrite,
+            Part::Fits(Kept::All),
+        ],
+        _ => &[
+            Part::NotRoot(Errno::EISDIR),
+            Part::Walk,
+            Part::Exists,
+            Part::IsFile,
+            Part::MayWrite,
+            Part::Fits(Kept::Nothing),
+        ],
+    }
 }
 
 /// Returns what a call needs that only looks at a path.
-fn parts_of_look(alloc: Global, call: &UnixCall) -> Result<Vec<Part>, AllocError>
-    ensures { IfOk result (λ parts. parts.items ≡ parts_of_look call.now) }
+fn parts_of_look(call: &UnixCall) -> &'static [Part]
+    ensures { result.now ≡ parts_of_look call.now }
 {
     match call {
-        UnixCall::Read(_) => Vec::from_slice(
-            alloc,
-            &[
-                Part::NotRoot(Errno::EISDIR),
-                Part::Walk,
-                Part::Exists,
-                Part::IsFile,
-                Part::MayRead,
-            ],
-        ),
-        UnixCall::List(_) => Vec::from_slice(
-            alloc,
-            &[Part::Walk, Part::Exists, Part::IsDirectory, Part::MayRead],
-        ),
-        _ => Vec::from_slice(alloc, &[Part::Walk, Part::Exists]),
+        UnixCall::Read(_) => &[
+            Part::NotRoot(Errno::EISDIR),
+            Part::Walk,
+            Part::Exists,
+            Part::IsFile,
+            Part::MayRead,
+        ],
+        UnixCall::List(_) => &[Part::Walk, Part::Exists, Part::IsDirectory, Part::MayRead],
+        _ => &[Part::Walk, Part::Exists],
     }
 }
 
 /// Returns what a call needs that removes or renames what is at a path.
-fn parts_of_removal(alloc: Global, call: &UnixCall) -> Result<Vec<Part>, AllocError>
-    ensures { IfOk result (λ parts. parts.items ≡ parts_of_removal call.now) }
+fn parts_of_removal(call: &UnixCall) -> &'static [Part]
+    ensures { result.now ≡ parts_of_removal call.now }
 {
-    let mut parts = Vec::from_slice(
-        alloc,
-        &[Part::NotRoot(Errno::EBUSY), Part::Walk, Part::Exists],
-    )?;
     match call {
-        UnixCall::Unlink(_) => parts.push(Part::IsFile)?,
-        UnixCall::Rmdir(_) => {
-            parts.extend_from_slice(&[Part::IsDirectory, Part::MayRead, Part::IsEmpty])?
-        }
-        UnixCall::Rename(_, name) => parts.push(Part::AbsentBeside(*name))?,
-        _ => {}
+        UnixCall::Unlink(_) => &[
+            Part::NotRoot(Errno::EBUSY),
+            Part::Walk,
+            Part::Exists,
+            Part::IsFile,
+            Part::MayWriteAbove,
+        ],
+        UnixCall::Rmdir(_) => &[
+            Part::NotRoot(Errno::EBUSY),
+            Part::Walk,
+            Part::Exists,
+            Part::IsDirectory,
+            Part::MayRead,
+            Part::IsEmpty,
+            Part::MayWriteAbove,
+        ],
+        UnixCall::Rename(_, _) => &[
+            Part::NotRoot(Errno::EBUSY),
+            Part::Walk,
+            Part::Exists,
+            Part::AbsentBeside,
+            Part::MayWriteAbove,
+        ],
+        _ => &[
+            Part::NotRoot(Errno::EBUSY),
+            Part::Walk,
+            Part::Exists,
+            Part::MayWriteAbove,
+        ],
     }
-    parts.push(Part::MayWriteAbove)?;
-    Ok(parts)
 }
 
 /// Returns what a call on processes needs.
-fn parts_of_process(alloc: Global, call: &UnixCall) -> Result<Vec<Part>, AllocError>
-    ensures { IfOk result (λ parts. parts.items ≡ parts_of_process call.now) }
+fn parts_of_process(call: &UnixCall) -> &'static [Part]
+    ensures { result.now ≡ parts_of_process call.now }
 {
     match call {
-        UnixCall::Spawn => Vec::from_slice(
-            alloc,
-            &[
-                Part::OfProcess(ProcessPart::HasChildLeft),
-                Part::OfProcess(ProcessPart::HasNumberLeft),
-            ],
-        ),
-        UnixCall::Status(name) => Vec::from_slice(
-            alloc,
-            &[Part::OfProcess(ProcessPart::Found(*name))],
-        ),
-        UnixCall::Kill(name) => {
-            Vec::from_slice(
-                alloc,
-                &[
-                    Part::OfProcess(ProcessPart::Found(*name)),
-                    Part::OfProcess(ProcessPart::IsChild(*name)),
-                ],
-            )
-        }
-        UnixCall::Login(name, _) => Vec::from_slice(
-            alloc,
-            &[
-                Part::OfProcess(ProcessPart::IsUser(*name)),
-                Part::OfProcess(ProcessPart::InNoJob),
-                Part::OfProcess(ProcessPart::HasPassword(*name)),
-            ],
-        ),
-        UnixCall::Wrap(_) => parts_of_wrap(alloc),
-        _ => Ok(Vec::new(alloc)),
+        UnixCall::Spawn => &[
+            Part::OfProcess(ProcessPart::HasChildLeft),
+            Part::OfProcess(ProcessPart::HasNumberLeft),
+        ],
+        UnixCall::Status(_) => &[Part::OfProcess(ProcessPart::Found)],
+        UnixCall::Kill(_) => &[
+            Part::OfProcess(ProcessPart::Found),
+            Part::OfProcess(ProcessPart::IsChild),
+        ],
+        UnixCall::Login(_, _) => &[
+            Part::OfProcess(ProcessPart::IsUser),
+            Part::OfProcess(ProcessPart::InNoJob),
+            Part::OfProcess(ProcessPart::HasPassword),
+        ],
+        UnixCall::Wrap(_) => parts_of_wrap(),
+        _ => &[],
     }
 }
 
 /// Returns what a call needs that starts a job.
-fn parts_of_wrap(alloc: Global) -> Result<Vec<Part>, AllocError>
-    ensures { IfOk result (λ parts. parts.items ≡ parts_of_wrap) }
+fn parts_of_wrap() -> &'static [Part]
+    ensures { result.now ≡ parts_of_wrap }
 {
-    let parts = [
+    &[
         Part::OfProcess(ProcessPart::HasChildLeft),
         Part::OfProcess(ProcessPart::HasNumberLeft),
         Part::NotRoot(Errno::EEXIST),
@@ -254,6 +296,5 @@ fn parts_of_wrap(alloc: Global) -> Result<Vec<Part>, AllocError>
         Part::HasRoomAbove,
         Part::MayWriteAbove,
         Part::OfProcess(ProcessPart::IsSomebody),
-    ];
-    Vec::from_slice(alloc, parts.as_slice())
+    ]
 }

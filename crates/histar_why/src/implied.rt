@@ -3,23 +3,24 @@ ghost use Rattle.std.specs.Prelude.{◌≡◌, ◌≤◌, length};
 ghost use Rattle.histar_flat.specs.Words.{most_names};
 ghost use Rattle.histar_syscall.specs.KernelModel.{state};
 ghost use Rattle.histar_why.specs.Implied.{FindsMissing, ImpliesErrno, ImpliesReason, are_free_to, asks_child};
-ghost use Rattle.histar_why.specs.Implied.{is_free_at, taken_path};
+ghost use Rattle.histar_why.specs.Implied.{is_free_at, taken};
 
 use crate::asked::{Asked, Part, ProcessPart};
 use crate::names::Reader;
-use crate::reasons::{PathReason, beside};
-use crate::ways::path_of;
-use histar_flat::{Errno, Name, Path, Reply};
+use crate::reasons::PathReason;
+use histar_flat::{Errno, Name, Reply};
 use histar_label::LabelStore;
 use histar_layout::is_in_job;
 use histar_programs::home_at;
-use histar_readout::resolve::resolve;
+use histar_readout::resolve::resolve_names;
 
 /// A reason that follows from a refusal, with no look at who called.
 #[derive(Clone, Copy)]
 pub(crate) enum Implied {
-    /// It is a reason of what is at a path.
+    /// It is a reason of what is at the path.
     OfPath(PathReason),
+    /// Nothing is at the path on the way that has so many names.
+    IsMissing(usize),
     /// The process that is named is no child of the caller.
     IsNoChild,
 }
@@ -49,11 +50,11 @@ fn implied_by<S: LabelStore + Drop>(
     ensures { ImpliesErrno (state reader.now.kernel.now) reader.now.roots.now asked.now errno result }
 {
     match errno {
-        Errno::EEXIST => Some(Implied::OfPath(PathReason::IsTaken(taken_path(asked)))),
-        Errno::EISDIR => Some(Implied::OfPath(PathReason::HasDirectory(asked.path))),
+        Errno::EEXIST => Some(Implied::OfPath(taken(asked))),
+        Errno::EISDIR => Some(Implied::OfPath(PathReason::HasDirectory)),
         Errno::EBUSY => Some(Implied::OfPath(PathReason::RootStays)),
         Errno::ENOENT => match missing(reader, asked.path.names()) {
-            Some(path) => Some(Implied::OfPath(PathReason::IsMissing(path))),
+            Some(depth) => Some(Implied::IsMissing(depth)),
             None => None,
         },
         Errno::EACCES => no_child(reader, asked),
@@ -61,27 +62,27 @@ fn implied_by<S: LabelStore + Drop>(
     }
 }
 
-/// Returns the path at which something is, where a call is refused since it is there.
-fn taken_path(asked: &Asked) -> Path
-    ensures { result ≡ taken_path asked.now }
+/// Returns that something is at the path, or beside it, which a call is refused for.
+fn taken(asked: &Asked) -> PathReason
+    ensures { result ≡ taken asked.now }
 {
     match asked.beside {
-        Some(name) => beside(&asked.path, name),
-        None => asked.path,
+        Some(name) => PathReason::IsTakenBeside(name),
+        None => PathReason::IsTaken,
     }
 }
 
-/// Returns which path on the way to the path of these names is missing: the one below the last
-/// directory that is there. Where the path is `/` none is.
-fn missing<S: LabelStore + Drop>(reader: &Reader<S>, names: &[Name]) -> Option<Path>
+/// Returns how many names the path on the way to the path of these names has that is missing: the
+/// one below the last directory that is there. Where the path is `/` none is.
+fn missing<S: LabelStore + Drop>(reader: &Reader<S>, names: &[Name]) -> Option<usize>
     requires { length names.now ≤ most_names }
     ensures { FindsMissing (state reader.now.kernel.now) reader.now.roots.now names.now result }
 {
     let [_, directory @ ..] = names else {
         return None;
     };
-    if resolve(reader.kernel, reader.roots, &path_of(directory)).is_some() {
-        Some(path_of(names))
+    if resolve_names(reader.kernel, reader.roots, directory).is_some() {
+        Some(names.len())
     } else {
         missing(reader, directory)
     }
@@ -102,10 +103,9 @@ fn no_child<S: LabelStore + Drop>(reader: &Reader<S>, asked: &Asked) -> Option<I
 
 /// Checks whether a call needs the process that it names to be a child of its own.
 fn asks_child(asked: &Asked) -> bool
-    ensures { result ≡ asks_child asked.now.parts.items }
+    ensures { result ≡ asks_child asked.now.parts.now }
 {
-    let parts = asked.parts.as_slice();
-    parts.iter().any(|part| matches!(part, Part::OfProcess(ProcessPart::IsChild(_))))
+    asked.parts.iter().any(|part| matches!(part, Part::OfProcess(ProcessPart::IsChild)))
 }
 
 /// Checks whether the process of these numbers and all above it but process 0 are there and in no

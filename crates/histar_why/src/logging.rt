@@ -1,5 +1,5 @@
 //! The line of a refused call, read off the machine after the call.
-ghost use Rattle.std.specs.Prelude.{◌≡◌, ◌++◌, codes, option_map, OnOk, IfOk};
+ghost use Rattle.std.specs.Prelude.{◌≡◌, ◌++◌, codes, option_map, true, OnOk, IfOk};
 ghost use Rattle.std.specs.Fmt.{decimal};
 ghost use Rattle.histar_flat.specs.Texts.{reply_text};
 ghost use Rattle.histar_names.specs.Births.{births_after};
@@ -20,7 +20,7 @@ use crate::views::{View, facts_of};
 use histar_flat::{ProcName, Reply};
 use histar_label::LabelStore;
 use histar_names::note_births;
-use histar_shell::{Machine, reply_text};
+use histar_shell::Machine;
 use histar_texts::push_number;
 use std::alloc::{AllocError, Global};
 
@@ -60,6 +60,7 @@ fn push_line<S: LabelStore + Drop>(
     asked: &Asked,
     reply: &Reply,
 ) -> Result<(), AllocError>
+    requires { is_refusal reply.now ≡ true }
     ensures births { log.new.births.items ≡ log.old.births.items }
     ensures text { OnOk result (Adds (SaysLine machine.now log.old.births.items asked.now reply.now)
         log.old.text.items log.new.text.items) }
@@ -70,7 +71,7 @@ fn push_line<S: LabelStore + Drop>(
         users: machine.users(),
         births: log.births.as_slice(),
     };
-    push_head(alloc, &mut log.text, asked.line, reply)?;
+    push_head(&mut log.text, asked.line, reply)?;
     push_words(alloc, &reader, asked, reply, &mut log.text)?;
     log.text.extend_from_slice(b"\n")
 }
@@ -82,21 +83,20 @@ fn is_refusal(reply: &Reply) -> bool
     matches!(reply, Reply::Refused(_) | Reply::Gone)
 }
 
-/// Adds the number of a line and its reply.
-fn push_head(
-    alloc: Global,
-    text: &mut Vec<u8>,
-    number: u32,
-    reply: &Reply,
-) -> Result<(), AllocError>
+/// Adds the number of a line and its reply, which is a refusal.
+fn push_head(text: &mut Vec<u8>, number: u32, reply: &Reply) -> Result<(), AllocError>
+    requires { is_refusal reply.now ≡ true }
     ensures { OnOk result (text.new.items ≡ text.old.items
         ++ (codes "!" ++ decimal number ++ codes " " ++ reply_text reply.now ++ codes ": ")) }
 {
-    let said = reply_text(alloc, reply)?;
+    let refusal = match reply {
+        Reply::Refused(errno) => errno.name(),
+        _ => "gone",
+    };
     text.extend_from_slice(b"!")?;
-    push_number(alloc, text, number)?;
+    push_number(*text.allocator(), text, number)?;
     text.extend_from_slice(b" ")?;
-    text.extend_from_slice(said.as_slice())?;
+    text.extend_from_slice(refusal.as_bytes())?;
     text.extend_from_slice(b": ")
 }
 
@@ -173,8 +173,8 @@ fn push_why<S: LabelStore + Drop>(
         caller,
         facts: &facts,
     };
-    match first_reason(&view, asked.parts.as_slice()) {
-        Some(reason) => push_reason(text, &asked.process, caller, &reason),
+    match first_reason(&view, asked.parts) {
+        Some(reason) => push_reason(text, asked, caller, &reason),
         None => Ok(()),
     }
 }

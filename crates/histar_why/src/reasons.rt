@@ -3,31 +3,30 @@ ghost use Rattle.std.specs.Prelude.{◌≡◌, ◌==◌, ◌<◌, ◌∷◌, len
 ghost use Rattle.std.specs.Prelude.{option_map};
 ghost use Rattle.histar_base.specs.Refusals.{unless};
 ghost use Rattle.histar_flat.specs.Words.{most_names};
-ghost use Rattle.histar_flat.specs.Accounts.{user_number};
 ghost use Rattle.histar_flat.specs.Classes.{class_made};
 ghost use Rattle.histar_flat.specs.Needs.{is_child, most_bytes, most_entries};
 ghost use Rattle.histar_flat.specs.PathOrder.{parent};
 ghost use Rattle.histar_reasons.specs.Causes.{innermost};
-ghost use Rattle.histar_reasons.specs.Reasons.{root_reason, unmade};
-ghost use Rattle.histar_reasons.specs.Reasons.Reason.{IsFull, IsInJob, IsNotEmpty, IsTooLong};
-ghost use Rattle.histar_reasons.specs.Reasons.Reason.{MayNotRead, MayNotWrite};
+ghost use Rattle.histar_reasons.specs.Reasons.{unmade};
+ghost use Rattle.histar_reasons.specs.Reasons.Reason.{IsInJob};
+ghost use Rattle.histar_why.specs.declared.asked.Part.TheVariants.{AbsentBeside, MayRead, MayWrite};
+ghost use Rattle.histar_why.specs.declared.asked.Part.TheVariants.{MayWriteAbove, Walk};
+ghost use Rattle.histar_why.specs.declared.asked.ProcessPart.TheVariants.{HasPassword, IsUser};
+ghost use Rattle.histar_why.specs.declared.reasons.PathReason.TheVariants as PathReason;
 ghost use Rattle.histar_why.specs.Causes.{cause_of};
 ghost use Rattle.histar_why.specs.Names.{process_of};
-ghost use Rattle.histar_why.specs.Reasons.{bytes_of, bytes_then, first_reason, has_directory};
-ghost use Rattle.histar_why.specs.Reasons.{has_file, part_reason, process_reason};
-ghost use Rattle.histar_why.specs.Reasons.{path_reason, path_reason_of, process_reason_of};
+ghost use Rattle.histar_why.specs.Reasons.{IsRootReason, bytes_of, bytes_then, first_reason};
+ghost use Rattle.histar_why.specs.Reasons.{has_directory, has_file, part_reason, path_reason};
+ghost use Rattle.histar_why.specs.Reasons.{path_reason_of, process_reason, process_reason_of};
 ghost use Rattle.histar_why.specs.Reasons.{reason_of, unread_in, unwritten_in};
 
 use crate::asked::{Kept, Part, ProcessPart};
 use crate::causes::{Cause, innermost, is_member, nobody};
 use crate::names::Caller;
 use crate::views::View;
-use crate::ways::{Spot, path_of};
+use crate::ways::{Barrier, Spot, path_of};
 use histar_flat::{Errno, MOST_NUMBERS, Mode, Name, Path, ProcName};
-use histar_layout::UserTable;
-
-/// The most entries of a directory.
-const MOST_ENTRIES: usize = 64;
+use histar_layout::{MOST_ENTRIES, UserTable};
 
 /// The most bytes of a file.
 const MOST_BYTES: u128 = 4_096;
@@ -35,34 +34,40 @@ const MOST_BYTES: u128 = 4_096;
 /// The most children that are born to a process.
 const MOST_CHILDREN: u8 = 64;
 
-/// Why a call of a process that runs is refused.
+/// Why a call of a process that runs is refused. It has no path: what it says of paths is of the
+/// path that the call names, and of those above it.
 #[derive(Clone, Copy)]
 pub(crate) enum Reason {
-    /// The process may not read what is at the path; may not write it.
-    MayNotRead(Path, Cause),
-    MayNotWrite(Path, Cause),
-    /// It is a reason of what is at a path, whoever calls.
+    /// The process can't walk to the path.
+    CannotWalk(Barrier),
+    /// It may not read what is at the path; may not write it; may not write the directory of it.
+    MayNotRead(Cause),
+    MayNotWrite(Cause),
+    MayNotWriteAbove(Cause),
+    /// It is a reason of what is at the path, whoever calls.
     OfPath(PathReason),
     /// It is a reason of the process.
     OfProcess(ProcessReason),
 }
 
-/// Why a call is refused by what is at a path, whoever makes it.
+/// Why a call is refused by what is at its path, whoever makes it.
 #[derive(Clone, Copy)]
 pub(crate) enum PathReason {
     /// Nothing is at the path; a file is; a directory is; something is.
-    IsMissing(Path),
-    HasFile(Path),
-    HasDirectory(Path),
-    IsTaken(Path),
+    IsMissing,
+    HasFile,
+    HasDirectory,
+    IsTaken,
+    /// Something in the directory of the path has this name.
+    IsTakenBeside(Name),
     /// `/` is neither removed nor renamed.
     RootStays,
-    /// The directory has this many entries, and no room.
-    IsFull(Path, usize),
+    /// The directory of the path has this many entries, and no room.
+    IsFull(usize),
     /// The directory has this many entries.
-    IsNotEmpty(Path, usize),
+    IsNotEmpty(usize),
     /// The file would have this many bytes.
-    IsTooLong(Path, u128),
+    IsTooLong(u128),
 }
 
 /// Why a call of a process that runs is refused, whatever is at its path.
@@ -93,7 +98,8 @@ pub(crate) enum ProcessReason {
 
 /// Returns why the first of these parts that is not met isn't.
 pub(crate) fn first_reason(view: &View, parts: &[Part]) -> Option<Reason>
-    ensures { option_map reason_of result ≡ first_reason view.now parts.now }
+    ensures { option_map (reason_of view.now.asked.now.path) result
+        ≡ first_reason view.now parts.now }
 {
     for part in parts {
         let reason = part_reason(view, part);
@@ -106,16 +112,17 @@ pub(crate) fn first_reason(view: &View, parts: &[Part]) -> Option<Reason>
 
 /// Returns why a part is not met, if it isn't.
 fn part_reason(view: &View, part: &Part) -> Option<Reason>
-    ensures { option_map reason_of result ≡ part_reason view.now part.now }
+    ensures { option_map (reason_of view.now.asked.now.path) result ≡ part_reason view.now part.now }
 {
-    let path = &view.asked.path;
-    let way = &view.facts.way;
     match part {
-        Part::Walk => way.walk,
-        Part::MayRead => not_read(path, &way.here),
-        Part::MayWrite => not_written(path, &way.here),
-        Part::MayWriteAbove => not_written(&above(path), &way.above),
-        Part::OfProcess(part) => process_reason(view, part),
+        Part::Walk => not_walked(view),
+        Part::MayRead => not_read(view),
+        Part::MayWrite => not_written(view),
+        Part::MayWriteAbove => not_written_above(view),
+        Part::OfProcess(part) => match process_reason(view, part) {
+            Some(reason) => Some(Reason::OfProcess(reason)),
+            None => None,
+        },
         _ => match path_reason(view, part) {
             Some(reason) => Some(Reason::OfPath(reason)),
             None => None,
@@ -126,36 +133,39 @@ fn part_reason(view: &View, part: &Part) -> Option<Reason>
 /// Returns why a part that is of what is at a path, whoever calls, is not met, if it isn't. Of
 /// other parts it returns none.
 fn path_reason(view: &View, part: &Part) -> Option<PathReason>
-    ensures { option_map path_reason_of result ≡ path_reason view.now part.now }
+    ensures { option_map (path_reason_of view.now.asked.now.path) result
+        ≡ path_reason view.now part.now }
 {
-    let path = &view.asked.path;
     let here = &view.facts.way.here;
     match part {
-        Part::NotRoot(errno) if path.depth() == 0 => Some(root_reason(*errno, *path)),
-        Part::Exists if here.is_none() => Some(PathReason::IsMissing(*path)),
-        Part::IsFile if !has_file(here) => Some(PathReason::HasDirectory(*path)),
-        Part::IsDirectory if !has_directory(here) => Some(PathReason::HasFile(*path)),
-        Part::Absent if here.is_some() => Some(PathReason::IsTaken(*path)),
-        Part::AbsentBeside(name) if view.facts.beside => {
-            Some(PathReason::IsTaken(beside(path, *name)))
-        }
-        Part::HasRoomAbove => no_room(path, view.facts.above),
-        Part::IsEmpty => not_empty(path, view.facts.here),
-        Part::Fits(kept, new) => too_long(path, here, *kept, *new),
+        Part::NotRoot(errno) if view.asked.path.depth() == 0 => Some(root_reason(*errno)),
+        Part::Exists if here.is_none() => Some(PathReason::IsMissing),
+        Part::IsFile if !has_file(here) => Some(PathReason::HasDirectory),
+        Part::IsDirectory if !has_directory(here) => Some(PathReason::HasFile),
+        Part::Absent if here.is_some() => Some(PathReason::IsTaken),
+        Part::AbsentBeside => taken_beside(view),
+        Part::HasRoomAbove => no_room(view.facts.above),
+        Part::IsEmpty => not_empty(view.facts.here),
+        Part::Fits(kept) => too_long(here, *kept, view.asked.new),
         _ => None,
     }
 }
 
 /// Returns why a part that is of the process alone is not met, if it isn't.
-fn process_reason(view: &View, part: &ProcessPart) -> Option<Reason>
-    ensures { option_map reason_of result ≡ process_reason view.now part.now }
+fn process_reason(view: &View, part: &ProcessPart) -> Option<ProcessReason>
+    ensures { option_map process_reason_of result ≡ process_reason view.now part.now }
 {
-    let (caller, me) = (view.caller, &view.asked.process);
-    let numbers = me.numbers().len();
+    let (caller, asked) = (view.caller, view.asked);
+    let numbers = asked.process.numbers().len();
     let (is_met, reason) = match part {
-        ProcessPart::Found(_) => return view.facts.sought,
+        ProcessPart::Found => return view.facts.sought,
         ProcessPart::InNoJob => return in_job(caller),
-        ProcessPart::MayMake(mode) => (may_make(view.users, caller, mode), unmade(mode)),
+        ProcessPart::IsUser => return no_user(view),
+        ProcessPart::HasPassword => return wrong_password(view),
+        ProcessPart::MayMake => (
+            may_make(view.users, caller, &asked.mode),
+            unmade(&asked.mode),
+        ),
         ProcessPart::HasChildLeft => (
             caller.born < MOST_CHILDREN,
             ProcessReason::HadChildren(caller.born),
@@ -164,100 +174,124 @@ fn process_reason(view: &View, part: &ProcessPart) -> Option<Reason>
             numbers < MOST_NUMBERS,
             ProcessReason::HasNumbers(numbers + 1),
         ),
-        ProcessPart::IsChild(name) => (is_child(me, name), ProcessReason::IsNoChild(*name)),
-        ProcessPart::IsUser(name) => (is_user(view.users, *name), ProcessReason::NoUser(*name)),
-        ProcessPart::HasPassword(name) => (false, ProcessReason::WrongPassword(*name)),
+        ProcessPart::IsChild => (
+            is_child(&asked.process, &asked.other),
+            ProcessReason::IsNoChild(asked.other),
+        ),
         ProcessPart::IsSomebody => (caller.user != nobody(), ProcessReason::StartsNoJob),
     };
-    if is_met {
-        None
-    } else {
-        Some(Reason::OfProcess(reason))
-    }
+    if is_met { None } else { Some(reason) }
 }
 
 /// Returns why a call may not name `/`, by its refusal.
-fn root_reason(errno: Errno, path: Path) -> PathReason
-    ensures { path_reason_of result ≡ root_reason errno path }
+fn root_reason(errno: Errno) -> PathReason
+    ensures { IsRootReason errno result }
 {
     match errno {
-        Errno::EEXIST => PathReason::IsTaken(path),
-        Errno::EISDIR => PathReason::HasDirectory(path),
+        Errno::EEXIST => PathReason::IsTaken,
+        Errno::EISDIR => PathReason::HasDirectory,
         _ => PathReason::RootStays,
     }
 }
 
-/// Returns why the process may not read what is at a path.
-fn not_read(path: &Path, spot: &Option<Spot>) -> Option<Reason>
-    ensures { option_map reason_of result ≡ option_map (MayNotRead path.now) (unread_in spot.now) }
+/// Returns why the process can't walk to the path.
+fn not_walked(view: &View) -> Option<Reason>
+    ensures { option_map (reason_of view.now.asked.now.path) result ≡ part_reason view.now Walk }
+{
+    match view.facts.way.walk {
+        Some(barrier) => Some(Reason::CannotWalk(barrier)),
+        None => None,
+    }
+}
+
+/// Returns why the process may not read what is at the path.
+fn not_read(view: &View) -> Option<Reason>
+    ensures { option_map (reason_of view.now.asked.now.path) result ≡ part_reason view.now MayRead }
+{
+    match unread_in(&view.facts.way.here) {
+        Some(cause) => Some(Reason::MayNotRead(cause)),
+        None => None,
+    }
+}
+
+/// Returns why the process may not write what is at the path.
+fn not_written(view: &View) -> Option<Reason>
+    ensures { option_map (reason_of view.now.asked.now.path) result ≡ part_reason view.now MayWrite }
+{
+    match unwritten_in(&view.facts.way.here) {
+        Some(cause) => Some(Reason::MayNotWrite(cause)),
+        None => None,
+    }
+}
+
+/// Returns why the process may not write the directory of the path.
+fn not_written_above(view: &View) -> Option<Reason>
+    ensures { option_map (reason_of view.now.asked.now.path) result
+        ≡ part_reason view.now MayWriteAbove }
+{
+    match unwritten_in(&view.facts.way.above) {
+        Some(cause) => Some(Reason::MayNotWriteAbove(cause)),
+        None => None,
+    }
+}
+
+/// Returns why the process may not read what is there.
+fn unread_in(spot: &Option<Spot>) -> Option<Cause>
+    ensures { option_map cause_of result ≡ unread_in spot.now }
 {
     match spot {
-        Some(spot) => denied_read(path, &spot.seen.unread),
+        Some(spot) => spot.seen.unread,
         None => None,
     }
 }
 
-/// Returns why the process may not write what is at a path.
-fn not_written(path: &Path, spot: &Option<Spot>) -> Option<Reason>
-    ensures { option_map reason_of result ≡ option_map (MayNotWrite path.now) (unwritten_in spot.now) }
+/// Returns why the process may not write what is there.
+fn unwritten_in(spot: &Option<Spot>) -> Option<Cause>
+    ensures { option_map cause_of result ≡ unwritten_in spot.now }
 {
     match spot {
-        Some(spot) => denied_write(path, &spot.seen.unwritten),
+        Some(spot) => spot.seen.unwritten,
         None => None,
     }
 }
 
-/// Returns a cause as why the process may not read what is at a path.
-fn denied_read(path: &Path, cause: &Option<Cause>) -> Option<Reason>
-    ensures { option_map reason_of result
-        ≡ option_map (MayNotRead path.now) (option_map cause_of cause.now) }
+/// Returns that something has the name that a call gives, in the directory of its path, if it has.
+fn taken_beside(view: &View) -> Option<PathReason>
+    ensures { option_map (path_reason_of view.now.asked.now.path) result
+        ≡ path_reason view.now AbsentBeside }
 {
-    match cause {
-        Some(cause) => Some(Reason::MayNotRead(*path, *cause)),
-        None => None,
+    match view.asked.beside {
+        Some(name) if view.facts.beside => Some(PathReason::IsTakenBeside(name)),
+        _ => None,
     }
 }
 
-/// Returns a cause as why the process may not write what is at a path.
-fn denied_write(path: &Path, cause: &Option<Cause>) -> Option<Reason>
-    ensures { option_map reason_of result
-        ≡ option_map (MayNotWrite path.now) (option_map cause_of cause.now) }
-{
-    match cause {
-        Some(cause) => Some(Reason::MayNotWrite(*path, *cause)),
-        None => None,
-    }
-}
-
-/// Returns why the directory of a path has no room for an entry.
-fn no_room(path: &Path, entries: usize) -> Option<PathReason>
-    ensures { option_map path_reason_of result
-        ≡ unless (nat_lt entries most_entries) (IsFull (parent path.now) entries) }
+/// Returns that a directory with so many entries has no room for one more, if it hasn't.
+fn no_room(entries: usize) -> Option<PathReason>
+    ensures { result ≡ unless (nat_lt entries most_entries) (PathReason.IsFull entries) }
 {
     if entries < MOST_ENTRIES {
         None
     } else {
-        Some(PathReason::IsFull(above(path), entries))
+        Some(PathReason::IsFull(entries))
     }
 }
 
-/// Returns why a directory is not empty.
-fn not_empty(path: &Path, entries: usize) -> Option<PathReason>
-    ensures { option_map path_reason_of result
-        ≡ unless (entries == 0) (IsNotEmpty path.now entries) }
+/// Returns that a directory with so many entries is not empty, if it isn't.
+fn not_empty(entries: usize) -> Option<PathReason>
+    ensures { result ≡ unless (entries == 0) (PathReason.IsNotEmpty entries) }
 {
     if entries == 0 {
         None
     } else {
-        Some(PathReason::IsNotEmpty(*path, entries))
+        Some(PathReason::IsNotEmpty(entries))
     }
 }
 
 /// Returns why a file may not have this many new bytes.
-fn too_long(path: &Path, spot: &Option<Spot>, kept: Kept, new: usize) -> Option<PathReason>
-    ensures { option_map path_reason_of result
-        ≡ unless (nat_le (bytes_then kept spot.now new) most_bytes)
-        (IsTooLong path.now (bytes_then kept spot.now new)) }
+fn too_long(spot: &Option<Spot>, kept: Kept, new: usize) -> Option<PathReason>
+    ensures { result ≡ unless (nat_le (bytes_then kept spot.now new) most_bytes)
+        (PathReason.IsTooLong (bytes_then kept spot.now new)) }
 {
     let old = match kept {
         Kept::All => bytes_of(spot),
@@ -267,7 +301,7 @@ fn too_long(path: &Path, spot: &Option<Spot>, kept: Kept, new: usize) -> Option<
     if bytes <= MOST_BYTES {
         None
     } else {
-        Some(PathReason::IsTooLong(*path, bytes))
+        Some(PathReason::IsTooLong(bytes))
     }
 }
 
@@ -296,11 +330,12 @@ fn unmade(mode: &Mode) -> ProcessReason
 }
 
 /// Returns why a process may not log in, which is in a job.
-fn in_job(caller: &Caller) -> Option<Reason>
-    ensures { option_map reason_of result ≡ option_map IsInJob (innermost (process_of caller.now)) }
+fn in_job(caller: &Caller) -> Option<ProcessReason>
+    ensures { option_map process_reason_of result
+        ≡ option_map IsInJob (innermost (process_of caller.now)) }
 {
     match innermost(caller) {
-        Some(job) => Some(Reason::OfProcess(ProcessReason::IsInJob(job))),
+        Some(job) => Some(ProcessReason::IsInJob(job)),
         None => None,
     }
 }
@@ -315,15 +350,28 @@ fn is_child(process: &ProcName, other: &ProcName) -> bool
     }
 }
 
-/// Checks whether a user has this name.
-fn is_user(users: &UserTable, name: Name) -> bool
-    ensures { result ≡ is_some (user_number users.now name) }
+/// Returns that no user has the name as whom a call logs in, if none has.
+fn no_user(view: &View) -> Option<ProcessReason>
+    ensures { option_map process_reason_of result ≡ process_reason view.now IsUser }
 {
-    users.number_of(name).is_some()
+    match view.asked.user {
+        Some(name) if view.users.number_of(name).is_none() => Some(ProcessReason::NoUser(name)),
+        _ => None,
+    }
+}
+
+/// Returns that the user as whom a call logs in has another password.
+fn wrong_password(view: &View) -> Option<ProcessReason>
+    ensures { option_map process_reason_of result ≡ process_reason view.now HasPassword }
+{
+    match view.asked.user {
+        Some(name) => Some(ProcessReason::WrongPassword(name)),
+        None => None,
+    }
 }
 
 /// Returns the path of the directory of a path, which is `/` where the path is.
-fn above(path: &Path) -> Path
+pub(crate) fn above(path: &Path) -> Path
     ensures value { result ≡ parent path.now }
     ensures short { length result < most_names }
 {

@@ -8,6 +8,8 @@ ghost use Rattle.histar_reasons.specs.Sentences.{unknown_text, who_text, why_tex
 ghost use Rattle.histar_why.specs.Absences.{absence_of};
 ghost use Rattle.histar_why.specs.Causes.{cause_of};
 ghost use Rattle.histar_why.specs.Names.{process_of};
+ghost use Rattle.histar_reasons.specs.Reasons.Reason.{MayNotRead, MayNotWrite};
+ghost use Rattle.histar_why.specs.Barriers.{barrier_of};
 ghost use Rattle.histar_why.specs.Reasons.{process_reason_of, reason_of};
 ghost use Rattle.histar_why.specs.Implied.{path_words, implied_words};
 
@@ -16,7 +18,8 @@ use crate::asked::Asked;
 use crate::causes::{Cause, innermost};
 use crate::implied::Implied;
 use crate::names::Caller;
-use crate::reasons::{PathReason, ProcessReason, Reason};
+use crate::reasons::{PathReason, ProcessReason, Reason, above, beside};
+use crate::ways::{Barrier, Obstacle, path_at};
 use histar_flat::{Name, Path, ProcName};
 use histar_texts::{push_path, push_process};
 use itoa::Buffer;
@@ -38,30 +41,77 @@ pub(crate) fn push_absence(
     }
 }
 
-/// Adds the sentence of a reason.
+/// Adds the sentence of why a call of this process was refused.
 pub(crate) fn push_reason(
     text: &mut Vec<u8>,
-    me: &ProcName,
+    asked: &Asked,
     caller: &Caller,
     reason: &Reason,
 ) -> Result<(), AllocError>
-    ensures { OnOk result (text.new.items
-        ≡ text.old.items ++ why_text me.now (process_of caller.now) (reason_of reason.now)) }
+    ensures { OnOk result (text.new.items ≡ text.old.items
+        ++ why_text asked.now.process (process_of caller.now) (reason_of asked.now.path reason.now)) }
 {
+    let me = &asked.process;
+    let path = &asked.path;
     match reason {
-        Reason::MayNotRead(path, cause) => {
-            push_who(text, me, caller)?;
-            push_about_path(text, " may not read ", path, ": ")?;
-            push_cause(text, me, caller, cause)
-        }
-        Reason::MayNotWrite(path, cause) => {
-            push_who(text, me, caller)?;
-            push_about_path(text, " may not write ", path, ": ")?;
-            push_cause(text, me, caller, cause)
-        }
-        Reason::OfPath(reason) => push_path_reason(text, reason),
+        Reason::CannotWalk(barrier) => push_barrier(text, asked, caller, barrier),
+        Reason::MayNotRead(cause) => push_unread(text, me, caller, path, cause),
+        Reason::MayNotWrite(cause) => push_unwritten(text, me, caller, path, cause),
+        Reason::MayNotWriteAbove(cause) => push_unwritten(text, me, caller, &above(path), cause),
+        Reason::OfPath(reason) => push_path_reason(text, path, reason),
         Reason::OfProcess(reason) => push_process_reason(text, me, caller, reason),
     }
+}
+
+/// Adds the sentence of what stops a walk.
+fn push_barrier(
+    text: &mut Vec<u8>,
+    asked: &Asked,
+    caller: &Caller,
+    barrier: &Barrier,
+) -> Result<(), AllocError>
+    ensures { OnOk result (text.new.items ≡ text.old.items
+        ++ why_text asked.now.process (process_of caller.now)
+        (barrier_of asked.now.path barrier.now)) }
+{
+    let path = path_at(asked.path.names(), barrier.depth);
+    match &barrier.what {
+        Obstacle::IsMissing => push_about_path(text, "there is no ", &path, ""),
+        Obstacle::HasFile => push_about_path(text, "", &path, " is a file"),
+        Obstacle::MayNotRead(cause) => push_unread(text, &asked.process, caller, &path, cause),
+    }
+}
+
+/// Adds that a process may not read what is at a path.
+fn push_unread(
+    text: &mut Vec<u8>,
+    me: &ProcName,
+    caller: &Caller,
+    path: &Path,
+    cause: &Cause,
+) -> Result<(), AllocError>
+    ensures { OnOk result (text.new.items ≡ text.old.items
+        ++ why_text me.now (process_of caller.now) (MayNotRead path.now (cause_of cause.now))) }
+{
+    push_who(text, me, caller)?;
+    push_about_path(text, " may not read ", path, ": ")?;
+    push_cause(text, me, caller, cause)
+}
+
+/// Adds that a process may not write what is at a path.
+fn push_unwritten(
+    text: &mut Vec<u8>,
+    me: &ProcName,
+    caller: &Caller,
+    path: &Path,
+    cause: &Cause,
+) -> Result<(), AllocError>
+    ensures { OnOk result (text.new.items ≡ text.old.items
+        ++ why_text me.now (process_of caller.now) (MayNotWrite path.now (cause_of cause.now))) }
+{
+    push_who(text, me, caller)?;
+    push_about_path(text, " may not write ", path, ": ")?;
+    push_cause(text, me, caller, cause)
 }
 
 /// Adds the sentence of a reason that a refusal implies by itself.
@@ -73,26 +123,50 @@ pub(crate) fn push_implied(
     ensures { OnOk result (text.new.items ≡ text.old.items ++ implied_words asked.now implied.now) }
 {
     match implied {
-        Implied::OfPath(reason) => push_path_reason(text, reason),
+        Implied::OfPath(reason) => push_path_reason(text, &asked.path, reason),
+        Implied::IsMissing(depth) if *depth == asked.path.depth() => push_missing(
+            text,
+            &asked.path,
+        ),
+        Implied::IsMissing(depth) => push_missing(text, &path_at(asked.path.names(), *depth)),
         Implied::IsNoChild => push_no_child(text, &asked.process, &asked.other),
     }
 }
 
+/// Adds that nothing is at a path.
+fn push_missing(text: &mut Vec<u8>, path: &Path) -> Result<(), AllocError>
+    ensures { OnOk result (text.new.items ≡ text.old.items
+        ++ (codes "there is no " ++ path_text path.now)) }
+{
+    push_about_path(text, "there is no ", path, "")
+}
+
 /// Adds the sentence of a reason that is of what is at a path, whoever calls.
-fn push_path_reason(text: &mut Vec<u8>, reason: &PathReason) -> Result<(), AllocError>
+fn push_path_reason(text: &mut Vec<u8>, path: &Path, reason: &PathReason) -> Result<(), AllocError>
     ensures { OnOk result (text.new.items
-        ≡ text.old.items ++ path_words reason.now) }
+        ≡ text.old.items ++ path_words path.now reason.now) }
 {
     match reason {
-        PathReason::IsMissing(path) => push_about_path(text, "there is no ", path, ""),
-        PathReason::HasFile(path) => push_about_path(text, "", path, " is a file"),
-        PathReason::HasDirectory(path) => push_about_path(text, "", path, " is a directory"),
-        PathReason::IsTaken(path) => push_about_path(text, "", path, " is there already"),
+        PathReason::IsMissing => push_missing(text, path),
+        PathReason::HasFile => push_about_path(text, "", path, " is a file"),
+        PathReason::HasDirectory => push_about_path(text, "", path, " is a directory"),
+        PathReason::IsTaken => push_taken(text, path),
+        PathReason::IsTakenBeside(name) => push_taken(text, &beside(path, *name)),
         PathReason::RootStays => push_str(text, "/ can be neither removed nor renamed"),
-        PathReason::IsFull(path, count) => push_entries(text, path, *count, ", and 64 is the most"),
-        PathReason::IsNotEmpty(path, count) => push_entries(text, path, *count, ""),
-        PathReason::IsTooLong(path, bytes) => push_too_long(text, path, *bytes),
+        PathReason::IsFull(count) => {
+            push_entries(text, &above(path), *count, ", and 64 is the most")
+        }
+        PathReason::IsNotEmpty(count) => push_entries(text, path, *count, ""),
+        PathReason::IsTooLong(bytes) => push_too_long(text, path, *bytes),
     }
+}
+
+/// Adds that something is at a path.
+fn push_taken(text: &mut Vec<u8>, path: &Path) -> Result<(), AllocError>
+    ensures { OnOk result (text.new.items ≡ text.old.items
+        ++ (path_text path.now ++ codes " is there already")) }
+{
+    push_about_path(text, "", path, " is there already")
 }
 
 /// Adds the sentence of a reason that is of no path.
@@ -234,8 +308,9 @@ fn push_who(text: &mut Vec<u8>, me: &ProcName, caller: &Caller) -> Result<(), Al
     ensures { OnOk result (text.new.items
         ≡ text.old.items ++ who_text me.now (process_of caller.now)) }
 {
-    push_about_process(text, "", me, " (")?;
-    push_about_name(text, "", &caller.user, "")?;
+    push_process(*text.allocator(), text, me)?;
+    push_str(text, " (")?;
+    text.extend_from_slice(caller.user.as_bytes())?;
     push_job(text, caller)?;
     push_str(text, ")")
 }

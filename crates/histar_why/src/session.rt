@@ -21,9 +21,8 @@ use histar_io::{Sink, Source, write_bytes};
 use histar_label::{InternStore, LabelStore};
 use histar_names::Purpose;
 use histar_script::{Fault, read_script};
-use histar_shell::{Machine, Options, reply_text, write_ending};
-use histar_texts::push_number;
-use std::alloc::{AllocError, Global};
+use histar_shell::{Machine, Options, set_reply_line, write_ending};
+use std::alloc::Global;
 
 /// How many answers of label comparisons the kernel remembers.
 const REMEMBERED_ANSWERS: usize = 256;
@@ -35,6 +34,8 @@ pub struct Log {
     pub births: Vec<Option<Purpose>>,
     /// The lines so far.
     pub text: Vec<u8>,
+    /// The line of the last reply.
+    line: Vec<u8>,
 }
 
 impl Log {
@@ -46,6 +47,7 @@ impl Log {
         Log {
             births: Vec::new(alloc),
             text: Vec::new(alloc),
+            line: Vec::new(alloc),
         }
     }
 }
@@ -182,8 +184,9 @@ fn log_calls<S: LabelStore + Drop, W: Sink>(
 fn with_text(outcome: Result<(), Fault>, log: Log) -> Result<Vec<u8>, Fault>
     ensures { IsWithText outcome log.text result }
 {
-    let Log { births, text } = log;
+    let Log { births, text, line } = log;
     drop(births);
+    drop(line);
     match outcome {
         Ok(()) => Ok(text),
         Err(fault) => Err(fault),
@@ -265,15 +268,17 @@ fn answer_and_log<S: LabelStore + Drop, W: Sink>(
     ensures count { CountsFailure (W.failures writer.old) (W.failures writer.new)
         (is_write_failed result) }
 {
-    let asked = asked_of(alloc, &call)?;
-    let reply = answer(alloc, machine, call, writer)?;
+    let asked = asked_of(&call);
+    let reply = answer(alloc, machine, &mut log.line, call, writer)?;
     Ok(log_call(alloc, machine, log, &asked, &reply)?)
 }
 
-/// Makes one call on the machine, writes its line, and returns its reply.
+/// Makes one call on the machine, writes its line, for which there is a buffer, and returns its
+/// reply.
 fn answer<S: LabelStore + Drop, W: Sink>(
     alloc: Global,
     machine: &mut Machine<S>,
+    buffer: &mut Vec<u8>,
     call: CallLine,
     writer: &mut W,
 ) -> Result<Reply, Fault>
@@ -294,7 +299,7 @@ fn answer<S: LabelStore + Drop, W: Sink>(
     let Ok(reply) = machine.step(alloc, line, &process, call) else {
         return Err(Fault::OutOfMemory);
     };
-    match write_reply(alloc, line, &reply, writer) {
+    match write_reply(alloc, buffer, line, &reply, writer) {
         Ok(()) => Ok(reply),
         Err(fault) => {
             drop(reply);
@@ -303,9 +308,10 @@ fn answer<S: LabelStore + Drop, W: Sink>(
     }
 }
 
-/// Writes the line of a reply.
+/// Writes the line of a reply, for which there is a buffer.
 fn write_reply<W: Sink>(
     alloc: Global,
+    buffer: &mut Vec<u8>,
     line: u32,
     reply: &Reply,
     writer: &mut W,
@@ -318,20 +324,7 @@ fn write_reply<W: Sink>(
     ensures count { CountsFailure (W.failures writer.old) (W.failures writer.new)
         (is_write_failed result) }
 {
-    let text = reply_line(alloc, line, reply)?;
-    write_bytes(writer, text.as_slice())?;
+    set_reply_line(alloc, buffer, line, reply)?;
+    write_bytes(writer, buffer.as_slice())?;
     Ok(())
-}
-
-/// Returns the line of a reply.
-pub(crate) fn reply_line(alloc: Global, line: u32, reply: &Reply) -> Result<Vec<u8>, AllocError>
-    ensures { IfOk result (λ text. text.items ≡ line_text line reply.now) }
-{
-    let said = reply_text(alloc, reply)?;
-    let mut text = Vec::new(alloc);
-    push_number(alloc, &mut text, line)?;
-    text.extend_from_slice(b" ")?;
-    text.extend_from_slice(said.as_slice())?;
-    text.extend_from_slice(b"\n")?;
-    Ok(text)
 }

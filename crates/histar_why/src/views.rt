@@ -3,14 +3,14 @@ ghost use Rattle.std.specs.Prelude.{◌≡◌, ◌≤◌, length, option_map, tr
 ghost use Rattle.histar_flat.specs.Words.{most_numbers};
 ghost use Rattle.histar_syscall.specs.KernelModel.{state};
 ghost use Rattle.histar_why.specs.Names.{node_at, process_of};
-ghost use Rattle.histar_why.specs.Reasons.{reason_of};
+ghost use Rattle.histar_why.specs.Reasons.{process_reason_of};
 ghost use Rattle.histar_why.specs.Views.{AreFactsOf, CountsEntries, CountsIn, IsBeside, asks_empty};
 ghost use Rattle.histar_why.specs.Views.{asks_room, search_by, unfound_by};
 
 use crate::asked::{Asked, Part};
 use crate::causes::unknown;
 use crate::names::{Caller, Reader, names_of, node_at};
-use crate::reasons::{ProcessReason, Reason, beside};
+use crate::reasons::{ProcessReason, beside};
 use crate::ways::{Spot, Way, way_to};
 use histar_flat::ProcName;
 use histar_label::LabelStore;
@@ -31,7 +31,7 @@ pub(crate) struct Facts {
     /// Whether something in that directory has the name that the call gives.
     pub beside: bool,
     /// Why the process doesn't find the one that is named.
-    pub sought: Option<Reason>,
+    pub sought: Option<ProcessReason>,
 }
 
 /// What a call is about.
@@ -67,18 +67,19 @@ pub(crate) fn facts_of<S: LabelStore + Drop>(
 
 /// Checks whether a call needs room in the directory of its path.
 fn asks_room(asked: &Asked) -> bool
-    ensures { result ≡ asks_room asked.now.parts.items }
+    ensures { result ≡ asks_room asked.now.parts.now }
 {
-    let parts = asked.parts.as_slice();
-    parts.iter().any(|part| matches!(part, Part::HasRoomAbove))
+    asked
+        .parts
+        .iter()
+        .any(|part| matches!(part, Part::HasRoomAbove))
 }
 
 /// Checks whether a call needs the directory at its path to be empty.
 fn asks_empty(asked: &Asked) -> bool
-    ensures { result ≡ asks_empty asked.now.parts.items }
+    ensures { result ≡ asks_empty asked.now.parts.now }
 {
-    let parts = asked.parts.as_slice();
-    parts.iter().any(|part| matches!(part, Part::IsEmpty))
+    asked.parts.iter().any(|part| matches!(part, Part::IsEmpty))
 }
 
 /// Counts the entries of the directory that is there, if they are asked for.
@@ -145,9 +146,9 @@ fn search<S: LabelStore + Drop>(
     reader: &Reader<S>,
     caller: &Caller,
     numbers: &[u8],
-) -> Result<Option<Reason>, AllocError>
+) -> Result<Option<ProcessReason>, AllocError>
     requires { length numbers.now ≤ most_numbers }
-    ensures { IfOk result (λ found. option_map reason_of found
+    ensures { IfOk result (λ found. option_map process_reason_of found
         ≡ search_by reader.now.users.now reader.now.births.now (state reader.now.kernel.now)
         reader.now.roots.now.home (process_of caller.now) numbers.now) }
 {
@@ -166,18 +167,18 @@ fn unfound<S: LabelStore + Drop>(
     reader: &Reader<S>,
     caller: &Caller,
     name: &ProcName,
-) -> Result<Option<Reason>, AllocError>
-    ensures { IfOk result (λ found. option_map reason_of found
+) -> Result<Option<ProcessReason>, AllocError>
+    ensures { IfOk result (λ found. option_map process_reason_of found
         ≡ unfound_by reader.now.births.now (process_of caller.now) name.now
         (node_at reader.now.users.now (state reader.now.kernel.now) reader.now.roots.now.home
         name.now)) }
 {
     let Some(node) = node_at(alloc, reader, name)? else {
-        return Ok(Some(Reason::OfProcess(ProcessReason::NoProcess(*name))));
+        return Ok(Some(ProcessReason::NoProcess(*name)));
     };
     let jobs = names_of(alloc, reader.births, node.chain.as_slice())?;
     match unknown(caller, jobs.as_slice()) {
-        Some(job) => Ok(Some(Reason::OfProcess(ProcessReason::IsUnseen(*name, job)))),
+        Some(job) => Ok(Some(ProcessReason::IsUnseen(*name, job))),
         None => Ok(None),
     }
 }

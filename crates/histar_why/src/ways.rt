@@ -5,13 +5,12 @@ ghost use Rattle.histar_readout.specs.TreeEntries.{file_bytes_at};
 ghost use Rattle.histar_syscall.specs.KernelModel.{state};
 ghost use Rattle.histar_why.specs.Causes.{jobs_by};
 ghost use Rattle.histar_why.specs.Names.{process_of};
-ghost use Rattle.histar_why.specs.Reasons.{reason_of};
+ghost use Rattle.histar_why.specs.Barriers.{IsOnWay, barrier_of, path_at};
 ghost use Rattle.histar_why.specs.Ways.{FindsBelow, FindsEntry, FindsListed, FindsSpot, IsWayTo};
-ghost use Rattle.histar_why.specs.Ways.{ShowsClass, why_into_by, why_into_seen};
+ghost use Rattle.histar_why.specs.Ways.{ShowsClass, StopsAt, why_into_by};
 
 use crate::causes::{Cause, unread, unwritten};
 use crate::names::{Caller, Reader, names_of};
-use crate::reasons::{PathReason, Reason};
 use histar_flat::{Name, Path, ProcName};
 use histar_label::{Label, LabelStore};
 use histar_layout::{Class, ShownClass, Target, UserTable, class_of, look_up_checked, shown_class};
@@ -37,11 +36,29 @@ pub(crate) struct Spot {
     pub seen: Seen,
 }
 
+/// What stops a process on its way to a path.
+#[derive(Clone, Copy)]
+pub(crate) struct Barrier {
+    /// How many names the path has that it can't walk into.
+    pub depth: usize,
+    pub what: Obstacle,
+}
+
+/// Why a process can't walk into a path.
+#[derive(Clone, Copy)]
+pub(crate) enum Obstacle {
+    /// Nothing is there; a file is.
+    IsMissing,
+    HasFile,
+    /// The process may not read the directory that is there.
+    MayNotRead(Cause),
+}
+
 /// The way to a path.
 #[derive(Clone, Copy)]
 pub(crate) struct Way {
-    /// Why the process can't walk to the path.
-    pub walk: Option<Reason>,
+    /// What stops the process before the path.
+    pub walk: Option<Barrier>,
     /// What is at the directory of the path.
     pub above: Option<Spot>,
     /// What is at the path.
@@ -72,37 +89,40 @@ pub(crate) fn way_to<S: LabelStore + Drop>(
     };
     let way = way_to(alloc, reader, caller, directory)?;
     Ok(Way {
-        walk: why_into(&way, directory),
+        walk: barrier_into(&way, directory),
         above: way.here,
         here: spot_below(alloc, reader, caller, &way.here, name)?,
     })
 }
 
-/// Returns why the process can't go into the directory of these names, by the way to it.
-fn why_into(way: &Way, names: &[Name]) -> Option<Reason>
-    requires { length names.now ≤ most_names }
-    ensures { option_map reason_of result ≡ why_into_by way.now names.now }
+/// Returns what stops the process before it is in the directory of these names, by the way to it.
+fn barrier_into(way: &Way, names: &[Name]) -> Option<Barrier>
+    ensures into { option_map (barrier_of names.now) result ≡ why_into_by way.now names.now }
+    ensures near { IsOnWay names.now way.now.walk → IsOnWay names.now result }
 {
-    if let Some(reason) = way.walk {
-        return Some(reason);
+    if let Some(barrier) = way.walk {
+        return Some(barrier);
     }
-    match way.here {
-        None => Some(Reason::OfPath(PathReason::IsMissing(path_of(names)))),
-        Some(spot) => why_into_spot(&spot.seen, names),
+    match obstacle_at(&way.here) {
+        Some(what) => Some(Barrier {
+            depth: names.len(),
+            what,
+        }),
+        None => None,
     }
 }
 
-/// Returns why the process can't go into what is there, by what is seen of it.
-fn why_into_spot(seen: &Seen, names: &[Name]) -> Option<Reason>
-    requires { length names.now ≤ most_names }
-    ensures { option_map reason_of result ≡ why_into_seen seen.now names.now }
+/// Returns why the process can't walk into what is there.
+fn obstacle_at(spot: &Option<Spot>) -> Option<Obstacle>
+    ensures { StopsAt spot.now result }
 {
-    if !seen.is_directory {
-        return Some(Reason::OfPath(PathReason::HasFile(path_of(names))));
-    }
-    match seen.unread {
-        Some(cause) => Some(Reason::MayNotRead(path_of(names), cause)),
-        None => None,
+    match spot {
+        None => Some(Obstacle::IsMissing),
+        Some(spot) if !spot.seen.is_directory => Some(Obstacle::HasFile),
+        Some(spot) => match spot.seen.unread {
+            Some(cause) => Some(Obstacle::MayNotRead(cause)),
+            None => None,
+        },
     }
 }
 
@@ -229,5 +249,21 @@ pub(crate) fn path_of(names: &[Name]) -> Path
     match names {
         [] => Path::root(),
         [name, above @ ..] => path_of(above).entry(*name),
+    }
+}
+
+/// Returns the path on the way to the one of these names, of which the last comes first, that has so
+/// many names.
+pub(crate) fn path_at(names: &[Name], depth: usize) -> Path
+    requires { length names.now ≤ most_names }
+    ensures { result ≡ path_at depth names.now }
+{
+    let [_, above @ ..] = names else {
+        return Path::root();
+    };
+    if above.len() < depth {
+        path_of(names)
+    } else {
+        path_at(above, depth)
     }
 }

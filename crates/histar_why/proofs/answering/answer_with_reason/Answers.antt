@@ -15,9 +15,10 @@ returns-clause-ok g c =
       births =
           c.in_ok-log_call.ensures.births
           ∙ ap (λ (me : ProcName). births_after (state c.step.new.self.kernel) c.step.new.self.roots me c.args.log.now.births.items)
-          c.in_ok-asked.ensures.by;
-      asked = c.in_ok-asked.asked;
-      is_asked = c.in_ok-asked.ensures;
+          c.asked_of-asked.ensures.by;
+      asked = c.asked_of-asked.result;
+      is_asked = c.asked_of-asked.ensures;
       text = c.in_ok-log_call.ensures.text;
     } in
-    answers_so c.args.machine.now c.step.new.self c.args.call c.args.log.now c.log_call.new.log one c.in_ok-said.said.items c.in_ok-said.ensures
+    answers_so c.args.machine.now c.step.new.self c.args.call c.args.log.now c.log_call.new.log one c.set_reply_line.new.line.items
+    c.in_ok-set_reply_line.ensures.ok

@@ -17,7 +17,7 @@ returns-in-Some g c =
     added c.push_reason.result _ c.args.text.now.items c.push_reason.new.text.items _
     (reason_added c.args.reader.now.users.now c.args.reader.now.roots.now c.args.reader.now.births.now (state c.args.reader.now.kernel.now)
     c.args.asked.now c.args.caller.now view (record { asked_is = refl; users_are = refl; caller_is = refl; facts = c.in_ok-facts.ensures })
-    c.as_slice.result.now c.as_slice.ensures.value (Some c.in-Some.reason) c.in-Some.ensures) c.push_reason.ensures
+    c.args.asked.now.parts.now refl (Some c.in-Some.reason) c.in-Some.ensures) c.push_reason.ensures
 
 pub returns-in-None : goal.returns-in-None
 returns-in-None g c =
@@ -31,5 +31,5 @@ returns-in-None g c =
       sym (append-nil _),
       reason_added c.args.reader.now.users.now c.args.reader.now.roots.now c.args.reader.now.births.now (state c.args.reader.now.kernel.now)
           c.args.asked.now c.args.caller.now view (record { asked_is = refl; users_are = refl; caller_is = refl; facts = c.in_ok-facts.ensures })
-          c.as_slice.result.now c.as_slice.ensures.value None c.in-None.ensures,
+          c.args.asked.now.parts.now refl None c.in-None.ensures,
     )

@@ -17,8 +17,8 @@ returns-clause-ok g c = record {
   births =
       c.in_ok-log_call.ensures.births
       ∙ ap (λ (me : ProcName). births_after (state c.answer.new.machine.kernel) c.answer.new.machine.roots me c.args.log.now.births.items)
-      c.in_ok-asked.ensures.by;
-  asked = c.in_ok-asked.asked;
-  is_asked = c.in_ok-asked.ensures;
+      c.asked_of-asked.ensures.by;
+  asked = c.asked_of-asked.result;
+  is_asked = c.asked_of-asked.ensures;
   text = c.in_ok-log_call.ensures.text;
 }

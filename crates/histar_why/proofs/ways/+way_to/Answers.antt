@@ -15,4 +15,6 @@ pub returns : goal.returns
 returns g t c =
     way_below c.args.reader.now.users.now c.args.reader.now.roots.now c.args.reader.now.births.now (state c.args.reader.now.kernel.now)
     (process_of c.args.caller.now) _ c.name-item.result c.in_ok-way.way c.in_ok-way.ensures c.args.names.now
-    (sym (parts c.args.names.now c.name-item.result c.in-len1-up.len_at_least c.name-item.is)) _ c.why_into.ensures refl c.in_ok-spot_below.ensures
+    (sym (parts c.args.names.now c.name-item.result c.in-len1-up.len_at_least c.name-item.is)) _
+    c.barrier_into.ensures.into c.barrier_into.ensures.near refl
+    c.in_ok-spot_below.ensures
