@@ -1,16 +1,15 @@
 -- Testing files: their checks, numbered through all of them.
 use Rattle.std.specs.Prelude.{◌≡◌, ℕ, ◌+◌, ◌⊎◌, Bool, true, false, List, [], ◌∷◌, ◌++◌, length, codes, decimal, Option, Result, Ok, Err}
-use Rattle.std.specs.List.{AllZip, flat_map, list_all, sum_by}
-use Rattle.std.specs.Global.{Vec}
+use Rattle.std.specs.Prelude.{All, IsOk, map}
+use Rattle.std.specs.List.{AllZip, flat_map, list_all}
 use Rattle.std.specs.Io.KnownBytes.{Appends, Keeps}
 use Rattle.histar_io.specs.Writing.{AppendsFront}
 use Rattle.histar_script.specs.declared.fault.Fault.{Fault}
 use Rattle.histar_script.specs.declared.fault.Fault.TheVariants.{BadScript, TooLong, OutOfMemory, ReadFailed, WriteFailed}
 use Rattle.histar_test.specs.declared.checks.Check.{Check}
 use Rattle.histar_test.specs.declared.running.Tally.{Tally}
-use Rattle.histar_test.specs.declared.session.NamedTest.{NamedTest}
 use Rattle.histar_test.specs.declared.session.TestFile.{TestFile}
-use Rattle.histar_test.specs.Steps.{Test, expectation_count, test_of}
+use Rattle.histar_test.specs.Steps.{Test, test_of}
 use Rattle.histar_test.specs.Checks.{is_met, checks_of, checks_text}
 
 -- a file with its name, and the checks of its test
@@ -74,33 +73,34 @@ TestsFiles strict files old new (Err ReadFailed) = ⊥
 
 -- ---- the parts
 
--- a test with the name of its file, and its checks
-abbrev pub checked_of : Bool → NamedTest → Checked
-checked_of strict named = record { name = named.name; checks = checks_of strict named.test }
+-- the checks of what was read: those of a test, and else none
+abbrev pub checks_read : Bool → Result Test Fault → List Check
+checks_read strict (Ok test) = checks_of strict test
+checks_read strict (Err fault) = []
+
+-- a file with its name, and the checks of the test in it
+abbrev pub checked_of : Bool → TestFile → Checked
+checked_of strict file = record { name = file.name.items; checks = checks_read strict (test_of file.text.items) }
+
+-- the file is a test
+abbrev pub IsTest : TestFile → Type 0
+IsTest file = IsOk (test_of file.text.items)
+
+-- The files are tests, and have so many checks.
+pub record AreTests (files : List TestFile) (total : ℕ) : Type 0 where
+  pub each : All IsTest files
+  pub count : total ≡ check_count (map (checked_of false) files)
 
 -- these are counted: all checks of files, and whether all are met
 pub record CountsAll (tally : Tally) (files : List Checked) : Type 0 where
   pub count : tally.count ≡ check_count files
   pub met : tally.are_met ≡ are_met files
 
--- the file is this test
-pub record IsTestOf (file : TestFile) (named : NamedTest) : Type 0 where
-  pub name : named.name ≡ file.name.items
-  pub test : test_of file.text.items ≡ Ok named.test
-
--- these are the tests of some files
-abbrev pub AreTests : List NamedTest → Type 0
-AreTests tests = (files : List TestFile) × AllZip IsTestOf files tests
-
--- the files were read as tests, or the first that is none has this fault, unless memory ran out
-abbrev pub ReadsFiles : List TestFile → Result (Vec NamedTest) Fault → Type 0
-ReadsFiles files (Ok tests) = AllZip IsTestOf files tests.items
-ReadsFiles files (Err (BadScript n)) = IsFirstFault files (BadScript n)
-ReadsFiles files (Err TooLong) = IsFirstFault files TooLong
-ReadsFiles files (Err OutOfMemory) = Unit {0}
-ReadsFiles files (Err ReadFailed) = ⊥
-ReadsFiles files (Err WriteFailed) = ⊥
-
--- the number of expectations of tests
-abbrev pub expectations_in : List NamedTest → ℕ
-expectations_in tests = sum_by (λ named. expectation_count named.test.steps) tests
+-- the files are tests, and so many checks were counted, or the first that is no test has this fault, unless memory ran out
+abbrev pub CountsFiles : List TestFile → Result ℕ Fault → Type 0
+CountsFiles files (Ok total) = AreTests files total
+CountsFiles files (Err (BadScript n)) = IsFirstFault files (BadScript n)
+CountsFiles files (Err TooLong) = IsFirstFault files TooLong
+CountsFiles files (Err OutOfMemory) = Unit {0}
+CountsFiles files (Err ReadFailed) = ⊥
+CountsFiles files (Err WriteFailed) = ⊥

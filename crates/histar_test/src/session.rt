@@ -1,20 +1,19 @@
 //! Testing files, from bytes to bytes.
-ghost use Rattle.std.specs.Prelude.{◌≡◌, ◌+◌, IfErr, IfOk, IfSome, OnErr, OnOk, false, map, true};
+ghost use Rattle.std.specs.Prelude.{◌≡◌, ◌+◌, All, IfErr, IfOk, OnErr, OnOk, false, map, true};
 ghost use Rattle.std.specs.Io.KnownBytes.{Appends};
 ghost use Rattle.histar_io.specs.Device.{CountsFailure};
 ghost use Rattle.histar_io.specs.Writing.{AppendsFront};
 ghost use Rattle.histar_script.specs.Runs.{IsOutputFault, LeavesSink, is_write_failed};
-ghost use Rattle.histar_test.specs.Checks.{checks_of, checks_text};
-ghost use Rattle.histar_test.specs.Running.{tally_with};
-ghost use Rattle.histar_test.specs.Session.{AreTests, CountsAll, ReadsFiles, TestsFiles, are_met, checked_of};
-ghost use Rattle.histar_test.specs.Session.{expectations_in, files_text, plan_text, report_text};
-ghost use Rattle.histar_test.specs.Steps.{expectation_count};
+ghost use Rattle.histar_test.specs.Checks.{checks_text};
+ghost use Rattle.histar_test.specs.Running.{IsMemory, tally_with};
+ghost use Rattle.histar_test.specs.Session.{AreTests, CountsAll, CountsFiles, IsTest, TestsFiles};
+ghost use Rattle.histar_test.specs.Session.{are_met, checked_of, files_text, plan_text, report_text};
+ghost use Rattle.histar_test.specs.Steps.{expectation_count, test_of};
 
 use crate::checks::push_number;
 use crate::running::{Run, Tally};
 use crate::steps::{Step, TestScript, read_test};
 use crate::watching::split_steps;
-use histar_base::Bytes;
 use histar_io::{Sink, write_bytes};
 use histar_script::Fault;
 use std::alloc::{AllocError, Global};
@@ -24,13 +23,6 @@ use std::alloc::{AllocError, Global};
 pub struct TestFile {
     pub name: Vec<u8>,
     pub text: Vec<u8>,
-}
-
-/// A file that is a test, with its name.
-#[derive(Drop)]
-struct NamedTest {
-    name: Bytes,
-    test: TestScript,
 }
 
 /// Checks the replies, the rights and the trust that files expect, and writes for each expectation whether it is met, in
@@ -45,6 +37,9 @@ struct NamedTest {
 ///
 /// All files are read before the first call of any is made. The lines of a check are written as soon as the
 /// call is done. Each file is run on a machine of its own. It doesn't flush the sink.
+///
+/// It keeps one parsed file and one machine at a time, so beside the texts its memory is that of the
+/// largest file.
 pub fn test<W: Sink>(
     alloc: Global,
     files: &[TestFile],
@@ -62,63 +57,70 @@ pub fn test<W: Sink>(
     // written, and the result is whether all are met.
     ensures tests { TestsFiles strict files.now (W.written writer.old) (W.written writer.new) result }
 {
-    let tests = read_tests(alloc, files)?;
+    let total = count_checks(alloc, files)?;
     if strict {
-        return report_strictly(alloc, tests, writer);
+        return report_strictly(alloc, files, writer);
     }
-    report(alloc, tests, writer)
+    report(alloc, files, total, writer)
 }
 
-/// Reads files that have to be tests, in their order.
-fn read_tests(alloc: Global, files: &[TestFile]) -> Result<Vec<NamedTest>, Fault>
-    ensures { ReadsFiles files.now result }
+/// Reads files that have to be tests, in their order, and returns how many checks they have. It keeps
+/// none of them.
+fn count_checks(alloc: Global, files: &[TestFile]) -> Result<usize, Fault>
+    ensures { CountsFiles files.now result }
 {
-    let mut tests = Vec::new(alloc);
+    let mut total = 0usize;
     'files: for file in files {
         let test = read_test(alloc, file.text.as_slice())?;
-        let name = Bytes::copy_of(alloc, file.name.as_slice())?;
-        tests.push(NamedTest { name, test })?;
+        let Some(sum) = total.checked_add(count_expectations(test.steps())) else {
+            return Err(Fault::OutOfMemory);
+        };
+        total = sum;
     }
-    Ok(tests)
+    Ok(total)
 }
 
-/// Writes how many checks tests have, and the lines of each, and returns whether all are met.
-fn report<W: Sink>(alloc: Global, tests: Vec<NamedTest>, writer: &mut W) -> Result<bool, Fault>
-    requires { AreTests tests.items }
+/// Writes how many checks these files have, which are tests, and the lines of each, and returns whether
+/// all are met.
+fn report<W: Sink>(
+    alloc: Global,
+    files: &[TestFile],
+    total: usize,
+    writer: &mut W,
+) -> Result<bool, Fault>
+    requires { AreTests files.now total }
     ensures ok { OnOk result (Appends (W.written writer.old) (W.written writer.new)
-        (report_text false (map (checked_of false) tests.items))) }
-    ensures met { IfOk result (λ met. met ≡ are_met (map (checked_of false) tests.items)) }
+        (report_text false (map (checked_of false) files.now))) }
+    ensures met { IfOk result (λ met. met ≡ are_met (map (checked_of false) files.now)) }
     ensures err { OnErr result (AppendsFront (W.written writer.old) (W.written writer.new)
-        (report_text false (map (checked_of false) tests.items))) }
+        (report_text false (map (checked_of false) files.now))) }
     ensures faults { IfErr result IsOutputFault }
     ensures count { CountsFailure (W.failures writer.old) (W.failures writer.new)
         (is_write_failed result) }
 {
-    let Some(total) = count_checks(tests.as_slice()) else {
-        return Err(Fault::OutOfMemory);
-    };
     write_plan(alloc, total, writer)?;
-    let tally = test_files(alloc, tests, false, writer)?;
+    let tally = test_files(alloc, files, false, writer)?;
     Ok(tally.are_met)
 }
 
-/// Writes the lines of the checks of strict tests, and how many checks there were, and returns whether all are
-/// met.
+/// Writes the lines of the checks of files that are strict tests, and how many checks there were, and
+/// returns whether all are met.
 fn report_strictly<W: Sink>(
     alloc: Global,
-    tests: Vec<NamedTest>,
+    files: &[TestFile],
     writer: &mut W,
 ) -> Result<bool, Fault>
+    requires { All IsTest files.now }
     ensures ok { OnOk result (Appends (W.written writer.old) (W.written writer.new)
-        (report_text true (map (checked_of true) tests.items))) }
-    ensures met { IfOk result (λ met. met ≡ are_met (map (checked_of true) tests.items)) }
+        (report_text true (map (checked_of true) files.now))) }
+    ensures met { IfOk result (λ met. met ≡ are_met (map (checked_of true) files.now)) }
     ensures err { OnErr result (AppendsFront (W.written writer.old) (W.written writer.new)
-        (report_text true (map (checked_of true) tests.items))) }
+        (report_text true (map (checked_of true) files.now))) }
     ensures faults { IfErr result IsOutputFault }
     ensures count { CountsFailure (W.failures writer.old) (W.failures writer.new)
         (is_write_failed result) }
 {
-    let tally = test_files(alloc, tests, true, writer)?;
+    let tally = test_files(alloc, files, true, writer)?;
     write_plan(alloc, tally.count, writer)?;
     Ok(tally.are_met)
 }
@@ -135,17 +137,6 @@ fn write_plan<W: Sink>(alloc: Global, total: usize, writer: &mut W) -> Result<()
     let plan = plan_text(alloc, total)?;
     write_bytes(writer, plan.as_slice())?;
     Ok(())
-}
-
-/// Counts the expectations of tests, or returns `None` if they are too many for the type.
-fn count_checks(tests: &[NamedTest]) -> Option<usize>
-    ensures { IfSome result (λ total. total ≡ expectations_in tests.now) }
-{
-    let mut total = 0usize;
-    'tests: for named in tests {
-        total = total.checked_add(count_expectations(named.test.steps()))?;
-    }
-    Some(total)
 }
 
 /// Counts the steps that have a check of their own: all but the calls.
@@ -171,18 +162,19 @@ fn plan_text(alloc: Global, total: usize) -> Result<Vec<u8>, AllocError>
     Ok(text)
 }
 
-/// Writes the lines of the checks of tests, and counts these.
+/// Writes the lines of the checks of files that are tests, and counts these.
 fn test_files<W: Sink>(
     alloc: Global,
-    tests: Vec<NamedTest>,
+    files: &[TestFile],
     strict: bool,
     writer: &mut W,
 ) -> Result<Tally, Fault>
+    requires { All IsTest files.now }
     ensures ok { OnOk result (Appends (W.written writer.old) (W.written writer.new)
-        (files_text 1 (map (checked_of strict) tests.items))) }
-    ensures tally { IfOk result (λ tally. CountsAll tally (map (checked_of strict) tests.items)) }
+        (files_text 1 (map (checked_of strict) files.now))) }
+    ensures tally { IfOk result (λ tally. CountsAll tally (map (checked_of strict) files.now)) }
     ensures err { OnErr result (AppendsFront (W.written writer.old) (W.written writer.new)
-        (files_text 1 (map (checked_of strict) tests.items))) }
+        (files_text 1 (map (checked_of strict) files.now))) }
     ensures faults { IfErr result IsOutputFault }
     ensures count { CountsFailure (W.failures writer.old) (W.failures writer.new)
         (is_write_failed result) }
@@ -191,35 +183,47 @@ fn test_files<W: Sink>(
         count: 0,
         are_met: true,
     };
-    'tests: for test in tests {
-        tally = test_file(alloc, test, strict, tally, writer)?;
+    'files: for file in files {
+        tally = test_file(alloc, file, strict, tally, writer)?;
     }
     Ok(tally)
 }
 
-/// Writes the lines of the checks of a test on a machine of its own, numbered on from the tally.
+/// Writes the lines of the checks of a file that is a test, on a machine of its own, numbered on from
+/// the tally.
 fn test_file<W: Sink>(
     alloc: Global,
-    named: NamedTest,
+    file: &TestFile,
     strict: bool,
     tally: Tally,
     writer: &mut W,
 ) -> Result<Tally, Fault>
+    requires { IsTest file.now }
     ensures ok { OnOk result (Appends (W.written writer.old) (W.written writer.new)
-        (checks_text named.name (tally.count + 1) (checks_of strict named.test))) }
-    ensures tally { IfOk result (λ after. after ≡ tally_with tally (checks_of strict named.test)) }
+        (checks_text file.now.name.items (tally.count + 1) (checked_of strict file.now).checks)) }
+    ensures tally { IfOk result (λ after.
+        after ≡ tally_with tally (checked_of strict file.now).checks) }
     ensures err { OnErr result (AppendsFront (W.written writer.old) (W.written writer.new)
-        (checks_text named.name (tally.count + 1) (checks_of strict named.test))) }
+        (checks_text file.now.name.items (tally.count + 1) (checked_of strict file.now).checks)) }
     ensures faults { IfErr result IsOutputFault }
     ensures count { CountsFailure (W.failures writer.old) (W.failures writer.new)
         (is_write_failed result) }
 {
-    let NamedTest { name, test } = named;
+    let test = read_again(alloc, file)?;
     let (accounts, steps) = test.into_parts();
     let (steps, watches) = split_steps(alloc, steps)?;
     let mut run = Run::start(alloc, accounts, strict, tally, watches)?;
-    let outcome = run.run_test(alloc, name.as_slice(), steps, writer);
+    let outcome = run.run_test(alloc, file.name.as_slice(), steps, writer);
     let after = run.finish();
     outcome?;
     Ok(after)
+}
+
+/// Reads the test in a file that was read as one before. So it fails only if memory runs out.
+fn read_again(alloc: Global, file: &TestFile) -> Result<TestScript, Fault>
+    requires { IsTest file.now }
+    ensures ok { IfOk result (λ test. test_of file.now.text.items ≡ Ok test) }
+    ensures faults { IfErr result IsMemory }
+{
+    read_test(alloc, file.text.as_slice())
 }

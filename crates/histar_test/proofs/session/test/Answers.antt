@@ -10,7 +10,7 @@ returns-then-strict-clause-tests g c =
     let old = g.W.Sink.written c.args.writer.now in
     let new = g.W.Sink.written r.new.writer in
     subst (λ (strict : Bool). TestsFiles strict c.args.files.now old new r.result) (sym c.if-strict.true)
-    (files_tested true r.result c.args.files.now c.in_ok-tests.tests.items c.in_ok-tests.ensures
+    (files_tested true r.result c.args.files.now c.in_ok-total.ensures.each
     (record { written = r.ensures.ok; met = r.ensures.met; begun = r.ensures.err; faults = r.ensures.faults }))
 
 pub returns-clause-tests : goal.returns-clause-tests
@@ -19,5 +19,5 @@ returns-clause-tests g c =
     let old = g.W.Sink.written c.args.writer.now in
     let new = g.W.Sink.written r.new.writer in
     subst (λ (strict : Bool). TestsFiles strict c.args.files.now old new r.result) (sym c.if-strict.false)
-    (files_tested false r.result c.args.files.now c.in_ok-tests.tests.items c.in_ok-tests.ensures
+    (files_tested false r.result c.args.files.now c.in_ok-total.ensures.each
     (record { written = r.ensures.ok; met = r.ensures.met; begun = r.ensures.err; faults = r.ensures.faults }))
