@@ -6,10 +6,9 @@ use Rattle.std.specs.Str.{bytes_eq}
 use Rattle.std.proofs.lemmas.Bool.{and_parts}
 use Rattle.std.proofs.lemmas.List.Concat.{flat_map-append}
 use Rattle.histar_flat.specs.Words.{split_at_first}
-use Rattle.histar_html.specs.Escape.{escaped}
-use Rattle.histar_html.specs.Reading.{is_markup_byte}
-use Rattle.histar_html.specs.Laws.{IsText}
-use Rattle.histar_html.proofs.EscapeLemmas.{text_bytes}
+use Rattle.histar_page.specs.Escape.{escaped}
+use Rattle.histar_page.specs.Reading.{IsText, is_markup_byte}
+use Rattle.histar_page.proofs.EscapeLemmas.{text_bytes}
 use Rattle.histar_script.specs.Lines.{lines_of, split_word}
 use Rattle.histar_page.specs.declared.kind.Kind.{Kind}
 use Rattle.histar_page.specs.declared.kind.Kind.TheVariants.{BothEdge, Call, Calls, ClaimMet, ClaimMissed, Column, Confined, DeniedCall, Denials}

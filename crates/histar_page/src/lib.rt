@@ -8,6 +8,7 @@ mod bands;
 mod callers;
 mod drawing;
 mod edges;
+mod escape;
 mod files;
 mod flows;
 mod head;
@@ -27,6 +28,7 @@ mod views;
 mod who;
 
 pub use callers::MOST_ALONE;
+pub use escape::{bytes_are_read, escaped_is_text, push_escaped};
 pub use kind::Kind;
 pub use markup::Markup;
 pub use page::{Texts, page_text, pages_nest};
