@@ -31,7 +31,7 @@ pub use callers::MOST_ALONE;
 pub use escape::{bytes_are_read, escaped_is_text, push_escaped};
 pub use kind::Kind;
 pub use markup::Markup;
-pub use page::{Texts, page_text, pages_nest};
+pub use page::{Texts, is_long, page_text, pages_nest};
 pub use piece::Piece;
 pub use places::{MOST_DRAWN_FILES, MOST_DRAWN_PROCESSES, nodes_are_apart};
 pub use session::sessions_are_shown;
