@@ -1,4 +1,5 @@
 -- The lemmas of this crate.
+pub mod EscapeLemmas
 pub mod WordLemmas
 pub mod OwnLemmas
 pub mod StoryLemmas

@@ -6,10 +6,9 @@ use Rattle.std.specs.Str.{bytes_eq}
 use Rattle.std.proofs.lemmas.Bool.{and_parts}
 use Rattle.std.proofs.lemmas.List.Concat.{flat_map-append}
 use Rattle.histar_flat.specs.Words.{split_at_first}
-use Rattle.histar_html.specs.Escape.{escaped}
-use Rattle.histar_html.specs.Reading.{is_markup_byte}
-use Rattle.histar_html.specs.Laws.{IsText}
-use Rattle.histar_html.proofs.EscapeLemmas.{text_bytes}
+use Rattle.histar_page.specs.Escape.{escaped}
+use Rattle.histar_page.specs.Reading.{IsText, is_markup_byte}
+use Rattle.histar_page.proofs.EscapeLemmas.{text_bytes}
 use Rattle.histar_script.specs.Lines.{lines_of, split_word}
 use Rattle.histar_page.specs.declared.kind.Kind.{Kind}
 use Rattle.histar_page.specs.declared.kind.Kind.TheVariants.{BothEdge, Call, Calls, ClaimMet, ClaimMissed, Column, Confined, DeniedCall, Denials}
@@ -50,7 +49,7 @@ use Rattle.histar_page.specs.Flows.{flow_item, flows_items}
 use Rattle.histar_page.specs.Places.{drawn_height, file_top, half_height, process_top}
 use Rattle.histar_page.specs.Drawing.{bands_of, changes_by, drawing_items, drawn_items, edge, edge_kind, file_bands, file_nodes, first_cells}
 use Rattle.histar_page.specs.Drawing.{has_letter, is_drawn, is_within, jobs_of, line_cells, line_path, process_bands, process_nodes, process_of}
-use Rattle.histar_page.specs.Drawing.{row_edges, table_edges}
+use Rattle.histar_page.specs.Drawing.{row_edges, table_edges, undrawn_items}
 use Rattle.histar_page.specs.Laws.{PagesNest}
 use Rattle.histar_page.specs.Nesting.{Reader, after_byte, after_text, within}
 use Rattle.histar_page.specs.Nesting.Place.{InTag}
@@ -552,11 +551,13 @@ drawn_nests jobs lines =
     step (fixed BeginLabels refl) (step (fixed BeginDrawing refl)
     (step (shown_at DrawnHeight (decimal (drawn_height (length cells) (length lines))) refl refl) (step (fixed Arrows refl) (joined bands graph))))
 
+undrawn_nests : Leads undrawn_items (within main) (within [])
+undrawn_nests = step (fixed BeginLabels refl) (step (fixed NotDrawn refl) (step (fixed End refl) nothing))
+
 drawing_nests : (script output lines : List (List ℕ)) → Leads (drawing_items script output lines) (within main) (within [])
 drawing_nests script output lines =
     by_if (is_drawn lines) (λ (items : List Item). Leads items (within main) (within []))
-    (drawn_nests (jobs_of script output) lines)
-    (step (fixed BeginLabels refl) (step (fixed NotDrawn refl) (step (fixed End refl) nothing)))
+    (drawn_nests (jobs_of script output) lines) undrawn_nests
 
 -- ---- the page
 
@@ -579,6 +580,7 @@ pages_nest sources =
     (files_nest main (jobs_of script output) (runners_of (lines_of sources.secrets)) (lines_of sources.table)) in
     let secrets = by_if (is_long sources.secrets) kept (step (fixed SecretsLeftOut refl) nothing)
     (secrets_nest main script (filter is_reply output) (lines_of sources.secrets) (lines_of sources.titles)) in
-    let rights = joined (joined (joined files secrets) (flows_nest main (lines_of sources.flows)))
+    let drawing = by_if (is_long sources.table) (λ (items : List Item). Leads items (within main) (within [])) undrawn_nests
     (drawing_nests script output (lines_of sources.table)) in
+    let rights = joined (joined (joined files secrets) (flows_nest main (lines_of sources.flows))) drawing in
     (joined (joined head session) rights).leads

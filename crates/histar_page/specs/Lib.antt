@@ -1,4 +1,6 @@
 -- The definitions of this crate that contracts cite.
+pub mod Escape
+pub mod Reading
 pub mod Texts
 pub mod Items
 pub mod Rendering

@@ -15,7 +15,7 @@ use Rattle.histar_page.specs.Session.{session_items}
 use Rattle.histar_page.specs.Files.{files_items, runners_of}
 use Rattle.histar_page.specs.Secrets.{secrets_items}
 use Rattle.histar_page.specs.Flows.{flows_items}
-use Rattle.histar_page.specs.Drawing.{drawing_items, jobs_of}
+use Rattle.histar_page.specs.Drawing.{drawing_items, jobs_of, undrawn_items}
 
 -- the texts that a page is made of
 pub record Sources : Type 0 where
@@ -70,11 +70,16 @@ secrets_shown sources =
     if is_long sources.secrets then Fixed SecretsLeftOut ∷ []
     else secrets_items (lines_of sources.script) (filter is_reply (lines_of sources.output)) (lines_of sources.secrets) (lines_of sources.titles)
 
+-- the drawing, which is left out where the table is too long to be shown
+abbrev pub drawing_shown : Sources → List Item
+drawing_shown sources =
+    if is_long sources.table then undrawn_items
+    else drawing_items (lines_of sources.script) (lines_of sources.output) (lines_of sources.table)
+
 -- the files, the secrets with their titles, the flows and the drawing
 abbrev pub rights_shown : Sources → List Item
 rights_shown sources =
-    files_shown sources ++ secrets_shown sources ++ flows_items (lines_of sources.flows)
-    ++ drawing_items (lines_of sources.script) (lines_of sources.output) (lines_of sources.table)
+    files_shown sources ++ secrets_shown sources ++ flows_items (lines_of sources.flows) ++ drawing_shown sources
 
 -- what stands on a page: its head, the users and groups, the session, the files, the secrets with their titles, the flows and the drawing
 abbrev pub page_items : Sources → List Item

@@ -1,7 +1,7 @@
 -- The HTML of the items of a page.
 use Rattle.std.specs.Prelude.{ℕ, List, ◌++◌, codes}
 use Rattle.std.specs.List.{flat_map}
-use Rattle.histar_html.specs.Escape.{escaped}
+use Rattle.histar_page.specs.Escape.{escaped}
 use Rattle.histar_page.specs.declared.markup.TheConstants.{STYLE}
 use Rattle.histar_page.specs.declared.kind.Kind.{Kind}
 use Rattle.histar_page.specs.declared.kind.Kind.TheVariants.{Title, MainTitle, FileName, Calls, Refusals}

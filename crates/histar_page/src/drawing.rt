@@ -45,7 +45,7 @@ pub(crate) fn drawing_pieces<'a>(
 }
 
 /// Returns the pieces of a session that is too large to be drawn.
-fn undrawn_pieces<'a>(alloc: Global) -> Result<Vec<Piece<'a>>, AllocError>
+pub(crate) fn undrawn_pieces<'a>(alloc: Global) -> Result<Vec<Piece<'a>>, AllocError>
     ensures { IfOk result (λ pieces. items_of pieces.items ≡ undrawn_items) }
 {
     let mut pieces = begun(alloc, Markup::BeginLabels, Markup::NotDrawn)?;

@@ -4,10 +4,10 @@ ghost use Rattle.histar_page.specs.Items.{items_of};
 ghost use Rattle.histar_page.specs.Items.Item.{Fixed};
 ghost use Rattle.histar_page.specs.Rendering.{rendered};
 ghost use Rattle.histar_page.specs.Laws.{PagesNest};
-ghost use Rattle.histar_page.specs.Page.{files_shown, head_shown, is_long, page_of, rights_shown, secrets_shown};
-ghost use Rattle.histar_page.specs.Page.{sources_of};
+ghost use Rattle.histar_page.specs.Page.{drawing_shown, files_shown, head_shown, is_long, page_of, rights_shown};
+ghost use Rattle.histar_page.specs.Page.{secrets_shown, sources_of};
 
-use crate::drawing::drawing_pieces;
+use crate::drawing::{drawing_pieces, undrawn_pieces};
 use crate::files::files_pieces;
 use crate::flows::flows_pieces;
 use crate::head::{head_pieces, style_pieces, title_of};
@@ -49,8 +49,8 @@ pub struct Texts<'a> {
 
 /// Returns the page of a session.
 ///
-/// A part is freed as soon as it is written. The files are left out where their table has more than 1,000,000 bytes, and
-/// the secrets where their lines do: so a page grows as its session, and not as its square.
+/// A part is freed as soon as it is written. The files and the drawing are left out where the table has more than 1,000,000
+/// bytes, and the secrets where their lines do: so a page grows as its session, and not as its square.
 pub fn page_text(alloc: Global, texts: &Texts) -> Result<Vec<u8>, AllocError>
     ensures { IfOk result (λ page. page.items ≡ page_of (sources_of texts.now)) }
 {
@@ -86,10 +86,7 @@ fn render_rights(alloc: Global, page: &mut Vec<u8>, texts: &Texts) -> Result<(),
     render_part(page, files_of(alloc, texts))?;
     render_part(page, secrets_of(alloc, texts))?;
     render_part(page, flows_pieces(alloc, texts.flows))?;
-    render_part(
-        page,
-        drawing_pieces(alloc, texts.script, texts.output, texts.table),
-    )
+    render_part(page, drawing_of(alloc, texts))
 }
 
 /// Adds the HTML of a part, if there was memory for its pieces.
@@ -128,6 +125,16 @@ fn secrets_of<'a>(alloc: Global, texts: &Texts<'a>) -> Result<Vec<Piece<'a>>, Al
     )
 }
 
+/// Returns the pieces of the part that shows the drawing.
+fn drawing_of<'a>(alloc: Global, texts: &Texts<'a>) -> Result<Vec<Piece<'a>>, AllocError>
+    ensures { IfOk result (λ pieces. items_of pieces.items ≡ drawing_shown (sources_of texts.now)) }
+{
+    if is_long(texts.table) {
+        return undrawn_pieces(alloc);
+    }
+    drawing_pieces(alloc, texts.script, texts.output, texts.table)
+}
+
 /// Returns the piece of a part that is left out, which says so.
 fn left_out<'a>(alloc: Global, said: Markup) -> Result<Vec<Piece<'a>>, AllocError>
     ensures { IfOk result (λ pieces. items_of pieces.items ≡ Fixed said ∷ []) }
@@ -138,7 +145,7 @@ fn left_out<'a>(alloc: Global, said: Markup) -> Result<Vec<Piece<'a>>, AllocErro
 }
 
 /// Checks whether a text on rights is too long to be shown.
-fn is_long(text: &[u8]) -> bool
+pub fn is_long(text: &[u8]) -> bool
     ensures { result ≡ is_long text.now }
 {
     text.len() > MOST_SHOWN_BYTES

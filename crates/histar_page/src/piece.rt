@@ -4,9 +4,9 @@ ghost use Rattle.histar_page.specs.Items.{item_of, items_of};
 ghost use Rattle.histar_page.specs.Items.Item.{Fixed, Shown};
 ghost use Rattle.histar_page.specs.Rendering.{item_text, rendered, shown_text};
 
+use crate::escape::push_escaped;
 use crate::kind::Kind;
 use crate::markup::Markup;
-use histar_html::push_escaped;
 use itoa::Buffer;
 use std::alloc::{AllocError, Global};
 

@@ -12,3 +12,4 @@ pub mod WordTexts
 pub mod LinesInOrder
 pub mod ScriptsInOrder
 pub mod OutputsInOrder
+pub mod TableFronts

@@ -1,5 +1,6 @@
 -- Writing a session as a page, from bytes to bytes.
-use Rattle.std.specs.Prelude.{◌≡◌, ℕ, true, false, List, [], Option, None, Some, Result, Ok, Err}
+use Rattle.std.specs.Prelude.{◌≡◌, ◌⊎◌, ℕ, true, false, List, [], Option, None, Some, Result, Ok, Err}
+use Rattle.std.specs.Global.{Vec}
 use Rattle.std.specs.Io.KnownBytes.{Appends, Keeps}
 use Rattle.histar_io.specs.Writing.{AppendsFront}
 use Rattle.histar_script.specs.declared.fault.Fault.{Fault}
@@ -11,7 +12,7 @@ use Rattle.histar_access.specs.Session.{AccessText}
 use Rattle.histar_trust.specs.Session.{FlowsText, SecretsText}
 use Rattle.histar_leak.specs.Titles.{TitlesText}
 use Rattle.histar_why.specs.Run.{RunsWithReasons}
-use Rattle.histar_page.specs.Page.{page_of}
+use Rattle.histar_page.specs.Page.{is_long, page_of}
 
 -- the options of the run: it prints its raw calls
 abbrev pub with_trace : Options
@@ -28,6 +29,19 @@ AreReasons text reasons = RunsWithReasons of_replies text (Some []) (Some reason
 -- this is the table of rights after the script in a text
 abbrev pub IsTable : List ℕ → List ℕ → Type 0
 IsTable text table = AccessText None text (Some []) (Some table) (Ok tt)
+
+-- A page shows the one text on rights as it shows the other: they are the same, or both are too long to be shown.
+abbrev pub IsShownAs : List ℕ → List ℕ → Type 0
+IsShownAs kept table = (kept ≡ table) ⊎ ((is_long kept ≡ true) × (is_long table ≡ true))
+
+-- the text is shown as the table of rights after the script in a text
+abbrev pub ShowsTable : List ℕ → List ℕ → Type 0
+ShowsTable text kept = (table : List ℕ) × IsTable text table × IsShownAs kept table
+
+-- a text that was kept is returned if it is too long to be shown, or else that memory ran out
+abbrev pub IsLongFront : List ℕ → Result (Vec ℕ) Fault → Type 0
+IsLongFront kept (Ok found) = (found.items ≡ kept) × (is_long kept ≡ true)
+IsLongFront kept (Err fault) = fault ≡ OutOfMemory
 
 -- these are the lines on the secret files after the script in a text
 abbrev pub AreSecrets : List ℕ → List ℕ → Type 0

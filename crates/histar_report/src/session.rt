@@ -2,14 +2,16 @@
 ghost use Rattle.std.specs.Prelude.{◌≡◌, false, None, IfErr, IfSome};
 ghost use Rattle.histar_io.specs.Device.{CountsFailure};
 ghost use Rattle.histar_script.specs.Runs.{LeavesSink, RunsInput, is_read_failed, is_write_failed};
-ghost use Rattle.histar_report.specs.Session.{AreFlows, AreReasons, AreSecrets, AreTitles, IsTable, WritesPage};
+ghost use Rattle.histar_report.specs.Session.{AreFlows, AreReasons, AreSecrets, AreTitles, IsLongFront, ShowsTable};
+ghost use Rattle.histar_report.specs.Session.{WritesPage};
 ghost use Rattle.histar_run_explain.specs.Output.{GivesText};
 
+use crate::front::Front;
 use histar_access::access;
 use histar_command::{Command, run_command};
 use histar_io::{Sink, Source, write_bytes};
 use histar_leak::secret_titles;
-use histar_page::{Texts, page_text};
+use histar_page::{Texts, is_long, page_text};
 use histar_run_explain::{explained_output, in_memory};
 use histar_script::Fault;
 use histar_shell::{Counted, Options};
@@ -135,15 +137,28 @@ fn reasons_of(alloc: Global, text: &[u8]) -> Result<Vec<u8>, Fault>
     }
 }
 
-/// Returns what `access` writes for the script in a text.
+/// Returns what `access` writes for the script in a text. Of a table that is too long to be shown, which can be a thousand
+/// times as long as the page, it returns as much as shows that.
 fn table_of(alloc: Global, text: &[u8]) -> Result<Vec<u8>, Fault>
-    ensures { GivesText IsTable text.now result }
+    ensures { GivesText ShowsTable text.now result }
 {
     let mut reader = Counted::new(text);
-    let mut writer = Counted::new(Vec::new(alloc));
+    let mut writer = Counted::new(Front::new(alloc));
     match access(alloc, &mut reader, &mut writer, None) {
-        Ok(()) => Ok(writer.into_inner()),
+        Ok(()) => Ok(writer.into_inner().into_kept()),
+        Err(Fault::WriteFailed) => long_front(writer.into_inner().into_kept()),
         Err(fault) => Err(in_memory(fault)),
+    }
+}
+
+/// Returns what was kept of a table that was not written whole. Memory ran out unless it is too long to be shown.
+fn long_front(kept: Vec<u8>) -> Result<Vec<u8>, Fault>
+    ensures { IsLongFront kept.items result }
+{
+    if is_long(kept.as_slice()) {
+        Ok(kept)
+    } else {
+        Err(Fault::OutOfMemory)
     }
 }
 

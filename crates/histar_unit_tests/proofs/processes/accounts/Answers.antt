@@ -1,7 +1,7 @@
 -- Proves the goals of `accounts` of src/processes.rt that the search leaves open.
 use Rattle.std.proofs.Common.{length, ap, ◌∙◌, arith}
 use Rattle.histar_flat.specs.Accounts.{Accounts, with_user}
-use Rattle.histar_tests.proofs.processes.accounts.Goals as goal
+use Rattle.histar_unit_tests.proofs.processes.accounts.Goals as goal
 
 -- a single user has a name of its own
 pub returns : goal.returns

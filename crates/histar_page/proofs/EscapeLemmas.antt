@@ -2,9 +2,8 @@
 use Rattle.std.proofs.Common.{◌≡◌, ℕ, List, [], ◌∷◌, ◌++◌, refl, ap, ◌∙◌, false, inl, inr}
 use Rattle.std.specs.Prelude.{◌==◌, ◌-◌, length, Option, None, Some}
 use Rattle.std.proofs.lemmas.Bool.Decides.{eqb_tells}
-use Rattle.histar_html.specs.Escape.{escaped, escaped_byte}
-use Rattle.histar_html.specs.Reading.{read_past, reference_at, unescaped}
-use Rattle.histar_html.specs.Laws.{IsText}
+use Rattle.histar_page.specs.Escape.{escaped, escaped_byte}
+use Rattle.histar_page.specs.Reading.{IsText, read_past, reference_at, unescaped}
 
 -- a property of each of the five bytes of markup and of all others holds of each byte
 by_byte : (P : ℕ → Type 0) → P 60 → P 62 → P 38 → P 34 → P 39

@@ -1,6 +1,7 @@
 -- How a reader reads the text of a page.
-use Rattle.std.specs.Prelude.{ℕ, zero, suc, ◌-◌, Bool, true, false, not, ◌&&◌, ◌||◌, List, [], ◌∷◌, ◌==◌, codes, length, find, Option, None, Some}
+use Rattle.std.specs.Prelude.{◌≡◌, ℕ, zero, suc, ◌-◌, Bool, true, false, not, ◌&&◌, ◌||◌, List, [], ◌∷◌, ◌==◌, codes, length, find, Option, None, Some}
 use Rattle.std.specs.Prelude.{is_some}
+use Rattle.histar_page.specs.Escape.{escaped}
 
 -- the text begins with these bytes
 abbrev pub begins_with : List ℕ → List ℕ → Bool
@@ -35,3 +36,16 @@ is_markup_byte b = b == 60 || b == 62 || b == 34 || b == 39
 abbrev pub begins_as_text : List ℕ → Bool
 begins_as_text [] = true
 begins_as_text (b ∷ bs) = not (is_markup_byte b) && (not (b == 38) || is_some (reference_at (b ∷ bs)))
+
+-- no byte of a text is `<`, `>`, `"` or `'`, and each `&` begins one of five references
+abbrev pub IsText : List ℕ → Type 0
+IsText [] = Unit {0}
+IsText (b ∷ bs) = (begins_as_text (b ∷ bs) ≡ true) × IsText bs
+
+-- escaped bytes are read as the bytes
+abbrev pub BytesAreRead : Type 0
+BytesAreRead = (bytes : List ℕ) → unescaped (escaped bytes) ≡ bytes
+
+-- escaped bytes are such a text
+abbrev pub EscapedIsText : Type 0
+EscapedIsText = (bytes : List ℕ) → IsText (escaped bytes)

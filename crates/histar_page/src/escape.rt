@@ -1,6 +1,7 @@
-//! Escaping of bytes as text of a page.
+//! Bytes as text of a page: escaped bytes are never markup, and a reader gets the bytes back.
 ghost use Rattle.std.specs.Prelude.{◌≡◌, ◌++◌, OnOk};
-ghost use Rattle.histar_html.specs.Escape.{escaped, escaped_byte};
+ghost use Rattle.histar_page.specs.Escape.{escaped, escaped_byte};
+ghost use Rattle.histar_page.specs.Reading.{BytesAreRead, EscapedIsText};
 
 use std::alloc::AllocError;
 
@@ -29,3 +30,14 @@ fn push_byte(page: &mut Vec<u8>, byte: u8) -> Result<(), AllocError>
         _ => page.extend_from_slice(&[byte]),
     }
 }
+
+/// Shows that a reader of the page gets exactly the bytes back. The law is the contract of a function that does nothing.
+pub fn bytes_are_read()
+    ensures { BytesAreRead }
+{}
+
+/// Shows that escaped bytes have no byte that begins or ends markup or an attribute: each `&` among them begins one of
+/// five references. The law is the contract of a function that does nothing.
+pub fn escaped_is_text()
+    ensures { EscapedIsText }
+{}
