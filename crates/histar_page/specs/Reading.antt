@@ -1,6 +1,6 @@
 -- How a reader reads the text of a page.
-use Rattle.std.specs.Prelude.{◌≡◌, ℕ, zero, suc, ◌-◌, Bool, true, false, not, ◌&&◌, ◌||◌, List, [], ◌∷◌, ◌==◌, codes, length, find, Option, None, Some}
-use Rattle.std.specs.Prelude.{is_some}
+use Rattle.std.specs.Prelude.{◌≡◌, ℕ, zero, suc, ◌-◌, Bool, true, false, not, ◌&&◌, ◌||◌, List, [], ◌∷◌, ◌==◌}
+use Rattle.std.specs.Prelude.{codes, length, find, Option, None, Some, is_some}
 use Rattle.histar_page.specs.Escape.{escaped}
 
 -- the text begins with these bytes
