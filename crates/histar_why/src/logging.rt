@@ -93,9 +93,9 @@ fn push_head(text: &mut Vec<u8>, number: u32, reply: &Reply) -> Result<(), Alloc
         Reply::Refused(errno) => errno.name(),
         _ => "gone",
     };
-    text.extend_from_slice(b"!")?;
+    text.push(b'!')?;
     push_number(*text.allocator(), text, number)?;
-    text.extend_from_slice(b" ")?;
+    text.push(b' ')?;
     text.extend_from_slice(refusal.as_bytes())?;
     text.extend_from_slice(b": ")
 }

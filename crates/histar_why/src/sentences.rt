@@ -138,7 +138,8 @@ fn push_missing(text: &mut Vec<u8>, path: &Path) -> Result<(), AllocError>
     ensures { OnOk result (text.new.items ≡ text.old.items
         ++ (codes "there is no " ++ path_text path.now)) }
 {
-    push_about_path(text, "there is no ", path, "")
+    push_str(text, "there is no ")?;
+    push_path(*text.allocator(), text, path)
 }
 
 /// Adds the sentence of a reason that is of what is at a path, whoever calls.
@@ -166,7 +167,8 @@ fn push_taken(text: &mut Vec<u8>, path: &Path) -> Result<(), AllocError>
     ensures { OnOk result (text.new.items ≡ text.old.items
         ++ (path_text path.now ++ codes " is there already")) }
 {
-    push_about_path(text, "", path, " is there already")
+    push_path(*text.allocator(), text, path)?;
+    push_str(text, " is there already")
 }
 
 /// Adds the sentence of a reason that is of no path.
@@ -312,7 +314,8 @@ fn push_who(text: &mut Vec<u8>, me: &ProcName, caller: &Caller) -> Result<(), Al
     push_str(text, " (")?;
     text.extend_from_slice(caller.user.as_bytes())?;
     push_job(text, caller)?;
-    push_str(text, ")")
+    text.push(b')')?;
+    Ok(())
 }
 
 /// Adds the innermost job of a process, if it is in one.
