@@ -280,11 +280,11 @@ fn push_cause(
         ≡ text.old.items ++ cause_text me.now (process_of caller.now) (cause_of cause.now)) }
 {
     match cause {
-        Cause::IsPrivate(owner) => push_about_name(text, "it is private, of ", owner, ""),
+        Cause::IsPrivate(owner) => push_named(text, "it is private, of ", owner),
         Cause::IsReadable(owner) => {
             push_about_name(text, "it is readable, and ", owner, " alone writes it")
         }
-        Cause::IsScratch(owner) => push_about_name(text, "it is scratch, of ", owner, ""),
+        Cause::IsScratch(owner) => push_named(text, "it is scratch, of ", owner),
         Cause::IsGrouped(group) => {
             push_about_name(text, "it is of group ", group, ", which user ")?;
             push_about_name(text, "", &caller.user, " is not in")
@@ -402,6 +402,14 @@ fn push_about_name(
     push_str(text, before)?;
     text.extend_from_slice(name.as_bytes())?;
     push_str(text, after)
+}
+
+/// Adds a name after a text.
+fn push_named(text: &mut Vec<u8>, before: &str, name: &Name) -> Result<(), AllocError>
+    ensures { OnOk result (text.new.items ≡ text.old.items ++ (before.now ++ name.now)) }
+{
+    push_str(text, before)?;
+    text.extend_from_slice(name.as_bytes())
 }
 
 /// Adds a number before a text.
