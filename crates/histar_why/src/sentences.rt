@@ -255,7 +255,8 @@ fn push_no_child(text: &mut Vec<u8>, me: &ProcName, name: &ProcName) -> Result<(
     ensures { OnOk result (text.new.items ≡ text.old.items
         ++ (process_text name.now ++ codes " is no child of " ++ process_text me.now)) }
 {
-    push_about_process(text, "", name, " is no child of ")?;
+    push_process(*text.allocator(), text, name)?;
+    push_str(text, " is no child of ")?;
     push_process(*text.allocator(), text, me)
 }
 
