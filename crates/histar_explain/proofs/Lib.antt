@@ -13,3 +13,5 @@ pub mod Needs
 pub mod Blame
 pub mod RangeGrounds
 pub mod Grounds
+pub mod NamedTests
+pub mod NamedDenial
