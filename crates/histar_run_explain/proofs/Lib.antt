@@ -7,3 +7,5 @@ pub mod TextRuns
 pub mod Outputs
 pub mod OneTrace
 pub mod NamedLines
+pub mod NewCategory
+pub mod DeniedRequests
