@@ -9,3 +9,5 @@ pub mod OneTrace
 pub mod NamedLines
 pub mod NewCategory
 pub mod DeniedRequests
+pub mod ReasonsOfLines
+pub mod DeniedObjects
