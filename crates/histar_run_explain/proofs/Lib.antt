@@ -11,3 +11,4 @@ pub mod NewCategory
 pub mod DeniedRequests
 pub mod ReasonsOfLines
 pub mod DeniedObjects
+pub mod UsedLabels
