@@ -23,10 +23,9 @@ use Rattle.histar_rules.specs.declared.raw.RawCall.{RawCall}
 use Rattle.histar_rules.specs.declared.raw.RawCall.TheVariants as raw
 use Rattle.histar_rules.specs.Rights.{with_category}
 use Rattle.histar_rules.specs.Rules.{check, Leaves}
-use Rattle.histar_container.specs.Tree.{Address}
 use Rattle.histar_programs.specs.Kin.{Kin, kin_of}
 use Rattle.histar_programs.specs.Users.{place_of}
-use Rattle.histar_refinement.specs.Addresses.{Step, address_of, home_address}
+use Rattle.histar_refinement.specs.Addresses.{address_of, home_address}
 use Rattle.histar_refinement.specs.Processes.{or_zero}
 use Rattle.histar_refinement.specs.Represents.{ObjectsMatch}
 use Rattle.histar_refinement.proofs.Agreeing.{some_of}
@@ -165,9 +164,25 @@ module _ (accounts : Accounts) (s : State) (f : Flat) (l : ObjectsMatch accounts
         (made : (mode : Mode) → Holds (label_of_made accounts l me p mode)) where
       births_handed : (kin : Kin) (category container : ℕ) → s.next_object ≤ container
           → AllByRecursion IsHanded (births accounts l me p kin category container)
-      births_handed kin category container new =
-          (tt, (tt, (λ dir. absurd (not_of_process me p here dir), (λ dir. absurd (not_next container new dir), (tt, (
-          λ dir. absurd (not_next container new dir), (tt, tt)))))))
+      births_handed kin category container new = (
+        tt,
+        (
+          tt,
+          (
+            λ dir. absurd (not_of_process me p here dir),
+            (
+              λ dir. absurd (not_next container new dir),
+              (
+                tt,
+                (
+                  λ dir. absurd (not_next container new dir),
+                  (tt, tt),
+                ),
+              ),
+            ),
+          ),
+        ),
+      )
 
       removed_handed : (d : Path) (name : Name) → AllByRecursion IsHanded (removes accounts l d name)
       removed_handed d name = (tt, (tt, tt))

@@ -12,3 +12,5 @@ pub mod DeniedRequests
 pub mod ReasonsOfLines
 pub mod DeniedObjects
 pub mod UsedLabels
+pub mod RefusedLines
+pub mod CompleteLines

@@ -1,5 +1,5 @@
 -- The labels of a state in which a thread has made the next category, by those of the state before; and that only an entry is denied by a gate.
-use Rattle.std.proofs.Common.{◌≡◌, ◌≢◌, ℕ, ◌+◌, ◌==◌, ◌⊎◌, inl, inr, Bool, true, false, Option, None, Some, refl, sym, ap, ◌∙◌, if◌then◌else◌}
+use Rattle.std.proofs.Common.{◌≡◌, ◌≢◌, ℕ, ◌==◌, ◌⊎◌, inl, inr, Bool, true, false, Option, None, Some, refl, sym, ap, ◌∙◌, if◌then◌else◌}
 use Rattle.std.specs.Prelude.{option_map, unwrap_or}
 use Rattle.std.proofs.lemmas.Bool.Decides.{eqb_tells}
 use mathlib.Core.Bool.{true≢false}
@@ -11,11 +11,10 @@ use Rattle.histar_label.specs.Levels.{constant, with_level}
 use Rattle.histar_label.proofs.Readers.{default_of-with_level, level_of-with_level}
 use Rattle.histar_object.specs.declared.objects.Kind.{Kind}
 use Rattle.histar_object.specs.declared.objects.Kind.TheVariants as kinds
-use Rattle.histar_object.specs.declared.objects.Object.{Object}
 use Rattle.histar_object.specs.Objects.{clearance_there, is_thread, label_there}
 use Rattle.histar_object.specs.State.{Found, State}
 use Rattle.histar_rules.specs.declared.raw.Denied.{Denied}
-use Rattle.histar_rules.specs.declared.raw.Denied.TheVariants.{Gate, Range, NoThread, TooBig}
+use Rattle.histar_rules.specs.declared.raw.Denied.TheVariants.{Gate, NoThread}
 use Rattle.histar_rules.specs.declared.raw.RawCall.{RawCall}
 use Rattle.histar_rules.specs.declared.raw.RawCall.TheVariants as raw
 use Rattle.histar_rules.specs.Rights.{with_category, with_star_at}

@@ -27,6 +27,7 @@ use Rattle.histar_object.specs.Objects.{label_there, clearance_there, kind_clear
 use Rattle.histar_object.specs.State.{State, Found}
 use Rattle.histar_syscall.specs.Tree.{Address, wanted, objects_at}
 use Rattle.histar_explain.specs.Named.{label_in, clearance_in}
+use Rattle.histar_explain.proofs.NamedTests.{ListsOnly}
 use Rattle.histar_layout.specs.Jobs.{is_empty, jobs_in}
 use Rattle.histar_layout.specs.Labelling.{each_at, guarded_by, owner_label, cleared_at, secret_of, written_by}
 use Rattle.histar_layout.specs.Categories.{read_category, write_category, group_owner, owner_of_group, user_of, file_label, scratch_label, label_made}
@@ -62,10 +63,6 @@ use Rattle.histar_sim.proofs.Walks.{all_joined}
 -- the number of a category that is used
 abbrev pub IsUsedNumber : Accounts → Flat → Categories → ℕ → Type 0
 IsUsedNumber accounts f category c = (name : CategoryName) × (category name ≡ c) × IsUsed accounts f name
-
--- a label has its default but at such categories
-abbrev pub ListsOnly : (ℕ → Type 0) → Levels → Type 0
-ListsOnly Holds L = (c : ℕ) → (level_of L c ≢ default_of L) → Holds c
 
 -- ---- the three kinds of labels
 
