@@ -1,5 +1,6 @@
 -- Along the lines of a script each explanation of a denied raw call is complete.
-use Rattle.std.proofs.Common.{◌≡◌, ℕ, Bool, true, false, List, [], ◌∷◌, ◌+◌, inl, inr, Option, None, Some, refl, sym, ap, ◌∙◌, subst}
+use Rattle.std.proofs.Common.{◌≡◌, ℕ, ◌+◌, Bool, true, false, List, [], ◌∷◌, inl, inr, Option, None, Some}
+use Rattle.std.proofs.Common.{refl, sym, ap, ◌∙◌, subst}
 use Rattle.std.specs.Prelude.{length, map, min, not, option_map}
 use Rattle.std.specs.FinSet as set
 use Rattle.std.specs.List.{AllByRecursion}
@@ -66,6 +67,7 @@ use Rattle.histar_run_explain.proofs.UsedLabels.{made_lists, own_lists}
 
 -- ---- only a raw call that enters a gate is denied by one
 
+-- a denial is that of a gate
 abbrev of_gate : Option Denied → Bool
 of_gate (Some Gate) = true
 of_gate o = false
@@ -97,6 +99,7 @@ of_new true true true false e = refl
 of_new true true true true e = by_test e TooBig refl
 
 module _ (x : State) (t d : ℕ) where
+  -- the first tests of a call that names a container, an object in it, or a segment in it
   container_first : of_gate (no_container x t d) ≡ false
   container_first =
       of_container (is_thread (x.objects t)) (is_present (x.objects d)) (is_container (x.objects d)) (observes (x.objects t) (x.objects d))
@@ -111,6 +114,7 @@ module _ (x : State) (t d : ℕ) where
       let segment = is_segment (x.objects o) in
       neither (no_link x t d o) (unless segment BadKind) (link_first o) (by_test segment BadKind refl)
 
+  -- the tests of a call that makes an object
   making_first : of_gate (no_making x t d) ≡ false
   making_first =
       let may = modifies (x.objects t) (x.objects d) in
@@ -148,6 +152,7 @@ abbrev of_denial : Reply → Bool
 of_denial (Refused errno) = is_of_denial errno
 of_denial reply = false
 
+-- no answer of `stat` is one, nor one of `status`
 stat_answer : (o : Option Node) → of_denial (stat_reply o) ≡ false
 stat_answer None = refl
 stat_answer (Some n) = refl
@@ -168,8 +173,8 @@ no_answer f me p (Status name) = life_answer (f.processes name)
 no_answer f me p _ = refl
 
 -- a refusal that was answered for a denial is the first need that is not met
-refused_so : (o : Option Errno) (a : Reply) (errno : Errno) → of_denial a ≡ false → is_of_denial errno ≡ true → reply_or o a ≡ Refused errno
-    → o ≡ Some errno
+refused_so : (o : Option Errno) (a : Reply) (errno : Errno) → of_denial a ≡ false → is_of_denial errno ≡ true
+    → reply_or o a ≡ Refused errno → o ≡ Some errno
 refused_so None a errno plain kind said = absurd (true≢false (sym kind ∙ sym (ap of_denial said) ∙ plain))
 refused_so (Some e) a errno plain kind said = cc
 
@@ -190,6 +195,7 @@ value_so : {A : Type 0} (o : Option A) (P : A → Type 0) → IsSomeAnd o P → 
 value_so None P so = absurd so
 value_so (Some a) P so = (a, refl, so)
 
+-- a raw call that makes something in a container makes a segment or a container
 making_makes : (container : ℕ) (call : RawCall) → IsMaking container call → Makes call
 making_makes container (raw.MakeSegment c label bytes) is = tt
 making_makes container (raw.MakeContainer c label) is = tt
@@ -211,6 +217,7 @@ granted_outcome : (P : Explanation → Type 0) (words : Words) (x : State) (e : 
 granted_outcome P words x e o lines explained none =
     of_outcome P words x e o lines explained (λ denied is. absurd (none-some denied (sym none ∙ is)))
 
+-- nor have those that only give labels
 granted_entries : (P : Explanation → Type 0) (words : Words) (x : State) (entries : List TraceEntry) (text : List ℕ) (last : State)
     (explained : ExplainsEntries words x entries text last) → AllByRecursion IsRestoring entries → OfEntries P words x entries text last explained
 granted_entries P words x [] text last explained granted = tt
@@ -228,7 +235,8 @@ ends_there words x (e ∷ entries) text last explained none = absurd cc
 -- ---- a line
 
 module _ (accounts : Accounts) (s : State) (f : Flat) (asked : CallLine) (births : Births) (mid : State) where
-  -- A line of a process that runs, from a state that represents a flat state to one that represents the one after its call, with the births known then.
+  -- A line of a process that runs, from a state that represents a flat state to one that represents the one after its call, with the births
+  -- known then.
   record IsKnownLine : Type 0 where
     old : Represents accounts s f
     still : RepresentsStill old mid (flat_after accounts f asked.process asked.call)
@@ -247,6 +255,7 @@ module _ (accounts : Accounts) (s : State) (f : Flat) (asked : CallLine) (births
 
 module _ {accounts : Accounts} {s : State} {f : Flat} {asked : CallLine} {births : Births} {mid : State}
     (line : IsKnownLine accounts s f asked births mid) where
+  -- the process of the line, its name, and the objects before the line
   abbrev me : ProcName
   me = asked.process
 
@@ -274,6 +283,7 @@ module _ {accounts : Accounts} {s : State} {f : Flat} {asked : CallLine} {births
         ap (λ (r : Option Process). flat_by accounts f me r asked.call) line.runs
         ∙ ap (λ (o : Option Errno). flat_or o f (changed accounts f me p asked.call)) refused_by
 
+    -- and the state represents the flat state still
     refused_line : IsRefusedLine accounts s f asked births mid line.old p
     refused_line =
         subst (λ (g : Flat). (still : RepresentsStill line.old mid g) (known : NamesBirths births accounts mid g)
@@ -301,6 +311,7 @@ module _ {accounts : Accounts} {s : State} {f : Flat} {asked : CallLine} {births
   abbrev Whole : Explanation → Type 0
   Whole = IsComplete accounts mid asked births
 
+  -- each of some requests may be denied so, or one
   abbrev Each : State → List Request → Type 0
   Each = MayEachBeDenied accounts s f l me p line.thread (IsOfUsed l)
 
@@ -308,23 +319,27 @@ module _ {accounts : Accounts} {s : State} {f : Flat} {asked : CallLine} {births
   May = MayBeDenied accounts s f l me p line.thread (IsOfUsed l)
 
   -- how the raw call of an entry was denied
-  module _ (x : State) (e : TraceEntry) (entry : IsEntryOf accounts s f asked births mid line.thread p e) (denied : Denied) (is : e.denied ≡ Some denied)
-      (checked : check x e.thread e.call ≡ e.denied) where
+  module _ (x : State) (e : TraceEntry) (entry : IsEntryOf accounts s f asked births mid line.thread p e) (denied : Denied)
+      (is : e.denied ≡ Some denied) (checked : check x e.thread e.call ≡ e.denied) where
+    -- the errno that is answered for it, which is the refusal of the line
     shown : (errno : Errno) × (errno_by_rule denied ≡ Some errno) × (refused accounts f me p asked.call ≡ Some errno)
     shown = refusal denied (subst (IsReplyOfDenial (reply_to accounts f me asked.call)) is entry.reply)
 
+    -- its reason, which it is about
     reason : (r : Reason) × (why accounts f me p asked.call ≡ Some r) × IsAbout accounts s asked.call r e.call
     reason =
         value_so (why accounts f me p asked.call) (λ (r : Reason). IsAbout accounts s asked.call r e.call)
         (subst (IsNamedDenial accounts s f me p asked.call e.call) is entry.named)
 
+    -- the line that is refused
     the_line : IsRefusedLine accounts s f asked births mid line.old p
     the_line = refused_line shown.0 shown.2
 
+    -- what it makes is in a directory
     placed : IsPlaced l e.call
     placed = about_place l asked.call reason.0 e.call reason.2
 
-    -- for the labels of its call
+    -- it was denied so, by the labels of its call
     denied_so : (New : ℕ → Type 0) (y : State) → IsNamedCall (HasPurpose accounts births) New y line.thread e.call
         → IsDeniedSo accounts mid asked births New y line.thread e.call denied
     denied_so New y called = record {
@@ -356,8 +371,9 @@ module _ {accounts : Accounts} {s : State} {f : Flat} {asked : CallLine} {births
           let y = with_category s line.thread in
           let at : MakesJob accounts s f l me p line.thread (IsOfUsed l) y e.call =
           record { granted = job.granted; state = refl; container = job.container; is = job.is } in
-          complete_by accounts mid asked births (λ c. c ≡ s.next_category) y line.thread (labels_job the_line line.thread job.granted) e.call denied
-          (denied_so (λ c. c ≡ s.next_category) y (called_job the_line line.thread job.granted e.call at)) ex (explained_at y job.state)
+          complete_by accounts mid asked births (λ c. c ≡ s.next_category) y line.thread (labels_job the_line line.thread job.granted)
+          e.call denied (denied_so (λ c. c ≡ s.next_category) y (called_job the_line line.thread job.granted e.call at)) ex
+          (explained_at y job.state)
 
       -- whichever request it is of
       whole_by : (r : Request) → e.call ≡ r.call → (r.if_denied ≡ [] → x ≡ mid) → May x r → Whole ex
@@ -368,6 +384,7 @@ module _ {accounts : Accounts} {s : State} {f : Flat} {asked : CallLine} {births
 
   -- ---- the entries of the line, one after another
 
+  -- each explanation of a denied one is complete
   all_whole : (words : Words) (requests : List Request) (x : State) (entries : List TraceEntry) (text : List ℕ) → Each x requests
       → AreMade requests entries → (explained : ExplainsEntries words x entries text mid)
       → AllByRecursion (IsEntryOf accounts s f asked births mid line.thread p) entries × IsRefusedOnce entries
@@ -386,7 +403,9 @@ module _ {accounts : Accounts} {s : State} {f : Flat} {asked : CallLine} {births
 
       last : (denied : Denied) → e.denied ≡ Some denied → r.if_denied ≡ [] → x ≡ mid
       last denied is none =
-          let after = subst (λ (o : Option Denied). ByOutcome o (AreMade rs entries) (map (λ (e : TraceEntry). e.call) entries ≡ r.if_denied)) is made.1 in
+          let after =
+          subst (λ (o : Option Denied). ByOutcome o (AreMade rs entries) (map (λ (e : TraceEntry). e.call) entries ≡ r.if_denied)) is
+          made.1 in
           let stays = subst (λ (o : Option Denied). Leaves o x e.thread e.call y) is explained.3.leaves in
           sym (ends_there words y entries explained.2 mid explained.5 (after ∙ none) ∙ stays)
 
@@ -410,11 +429,13 @@ module _ {accounts : Accounts} {s : State} {f : Flat} {asked : CallLine} {births
 
 module _ (accounts : Accounts) (s : State) (f : Flat) (asked : CallLine) (births : Births) (mid : State) where
   -- the entries of a line are of one thread, the process's
-  one_thread : (old : Represents accounts s f) (t : ℕ) → IsThreadOf accounts s asked.process t → (u : ℕ) → IsThreadOf accounts s asked.process u
-      → u ≡ t
+  one_thread : (old : Represents accounts s f) (t : ℕ) → IsThreadOf accounts s asked.process t → (u : ℕ)
+      → IsThreadOf accounts s asked.process u → u ≡ t
   one_thread old t at u other =
-      same_Some u t (sym (thread_back accounts s f old.matched asked.process u other).3 ∙ (thread_back accounts s f old.matched asked.process t at).3)
+      same_Some u t
+      (sym (thread_back accounts s f old.matched asked.process u other).3 ∙ (thread_back accounts s f old.matched asked.process t at).3)
 
+  -- each entry of a line is so
   of_line : (old : Represents accounts s f) (t : ℕ) (p : Process) → IsThreadOf accounts s asked.process t → (entries : List TraceEntry)
       → AllByRecursion (λ (e : TraceEntry). (e.line ≡ asked.line) × IsThreadOf accounts s asked.process e.thread) entries
       → DenialsAreNamed accounts s f asked.process (Some p) asked.call entries
@@ -439,11 +460,13 @@ module _ {accounts : Accounts} {s : State} {f : Flat} {asked : CallLine} {own : 
     (line : SimulatesLine accounts s f asked own mid) (births : Births) (old : Represents accounts s f)
     (known : NamesBirths births accounts mid (flat_after accounts f asked.process asked.call))
     (same : known.represents ≡ (line.keeps old).represents) (words : Words) where
+  -- whether the process of the line runs or not
   by_running : (o : Option Process) → running f asked.process ≡ o → (entries : List TraceEntry) (text : List ℕ)
       → AreItsRequests accounts old.matched asked.process o asked.call entries → DenialsAreNamed accounts s f asked.process o asked.call entries
       → AllByRecursion (λ (e : TraceEntry). (e.line ≡ asked.line) × IsThreadOf accounts s asked.process e.thread) entries
-      × AllByRecursion (λ (e : TraceEntry). IsReplyOfDenial (reply_to accounts f asked.process asked.call) e.denied) entries × IsRefusedOnce entries
-      → (explained : ExplainsEntries words s entries text mid) → OfEntries (IsComplete accounts mid asked births) words s entries text mid explained
+      × AllByRecursion (λ (e : TraceEntry). IsReplyOfDenial (reply_to accounts f asked.process asked.call) e.denied) entries
+      × IsRefusedOnce entries → (explained : ExplainsEntries words s entries text mid)
+      → OfEntries (IsComplete accounts mid asked births) words s entries text mid explained
   by_running o is [] text requests named facts explained = tt
   by_running None is (e ∷ entries) text requests named facts explained = absurd cc
   by_running (Some p) is (e ∷ entries) text requests named facts explained =
@@ -458,12 +481,14 @@ module _ {accounts : Accounts} {s : State} {f : Flat} {asked : CallLine} {own : 
       (of_line accounts s f asked births mid old e.thread p facts.0.0.1 (e ∷ entries) facts.0 named facts.1, facts.2)
 
   -- Each explanation of the line is complete.
-  line_complete : (text : List ℕ) (explained : ExplainsEntries words s own text mid) → OfEntries (IsComplete accounts mid asked births) words s own text mid explained
+  line_complete : (text : List ℕ) (explained : ExplainsEntries words s own text mid)
+      → OfEntries (IsComplete accounts mid asked births) words s own text mid explained
   line_complete text explained =
       by_running (running f asked.process) refl own text (line.requests old) line.named (line.line.own, line.line.denials, line.line.once) explained
 
 -- ---- all lines
 
+-- along the lines each explanation is complete
 complete_along : (accounts : Accounts) (s : State) (f : Flat) (births : Births) (calls : List CallLine) (entries : List TraceEntry)
     (text : List ℕ) (end : State) (lines : ExplainsCallLines accounts s f births calls entries text end) → IsTree f
     → (known : NamesBirths births accounts s f) → CompleteAlong accounts s f births calls entries text end lines
@@ -479,6 +504,7 @@ complete_along accounts s f births (asked ∷ more) entries text end lines tree 
           (tree_after f tree accounts asked.process asked.call) kept.0,
     )
 
+-- Each explanation of a script is complete.
 pub explanations_are_complete : ExplanationsAreComplete
 explanations_are_complete script trace text explains =
     let recorded = explains.recorded in

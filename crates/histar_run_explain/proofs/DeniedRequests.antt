@@ -1,6 +1,7 @@
--- What a request of a Unix call gives its labels to where it may be denied, and in which state: most in the one in which the line ends, and the
--- directory of a new job in the one that has its category.
-use Rattle.std.proofs.Common.{◌≡◌, ℕ, ◌+◌, ◌≤◌, ◌⊎◌, inl, inr, Bool, true, false, List, [], ◌∷◌, ◌++◌, Option, None, Some, refl, sym, ap}
+-- How the requests of a Unix call may be denied: one of them in the state in which the thread has made the category of a new job, and each
+-- other one with nothing made after it, so in the last state.
+use Rattle.std.proofs.Common.{◌≡◌, ℕ, ◌+◌, ◌≤◌, ◌⊎◌, inl, inr, Bool, true, false, List, [], ◌∷◌, ◌++◌, Option}
+use Rattle.std.proofs.Common.{None, Some, refl, sym, ap}
 use Rattle.std.proofs.Common.{◌∙◌, subst, arith, if◌then◌else◌}
 use Rattle.std.specs.Prelude.{is_some, map, nat_lt, length}
 use Rattle.std.specs.List.{AllByRecursion}
@@ -31,7 +32,8 @@ use Rattle.histar_refinement.specs.Represents.{ObjectsMatch}
 use Rattle.histar_refinement.proofs.Agreeing.{some_of}
 use Rattle.histar_refinement.proofs.ListedFiles.{not_home}
 use Rattle.histar_refinement.proofs.StatusFound.{numbered_home}
-use Rattle.histar_sim.specs.RawCalls.{Request, births, in_directory, is_of_denial, label_of_made, logs_in, number_at, own_clearance, own_label, plain, takes_own}
+use Rattle.histar_sim.specs.RawCalls.{Request, births, in_directory, is_of_denial, label_of_made, logs_in, number_at, own_clearance}
+use Rattle.histar_sim.specs.RawCalls.{own_label, plain, takes_own}
 use Rattle.histar_sim.specs.RawCalls.{reads_entries, reads_status, removes, requests_by, requests_of, starts_job, unless_refused, with_room}
 use Rattle.histar_sim.specs.Reads.{looked_at, tested}
 use Rattle.histar_wrap.specs.Scratch.{directory_label, kin_in}
@@ -55,6 +57,7 @@ all_mapped : {A : Type 0} (P : RawCall → Type 0) (g : A → RawCall) → ((a :
 all_mapped P g each [] = tt
 all_mapped P g each (a ∷ xs) = (each a, all_mapped P g each xs)
 
+-- and so are two lists of such calls, one after the other
 all_joined : (P : RawCall → Type 0) (xs ys : List RawCall) → AllByRecursion P xs → AllByRecursion P ys → AllByRecursion P (xs ++ ys)
 all_joined P [] ys first later = later
 all_joined P (x ∷ xs) ys first later = (first.0, all_joined P xs ys first.1 later)
@@ -110,16 +113,19 @@ module _ (accounts : Accounts) (s : State) (f : Flat) (l : ObjectsMatch accounts
 
     -- ---- lists of requests
 
+    -- raw calls whose labels are so
     all_plain : (x : State) (calls : List RawCall) → AllByRecursion IsHanded calls → MayEachBeDenied x (plain calls)
     all_plain x [] handed = tt
     all_plain x (call ∷ calls) handed = (inl (refl, handed.0), λ y passed leaves. all_plain y calls handed.1)
 
+    -- one that only reads has none
     looks_handed : (call : RawCall) → Looks call → IsHanded call
     looks_handed raw.OwnLabel looks = tt
     looks_handed (raw.Read d o) looks = tt
     looks_handed (raw.LabelOf d o) looks = tt
     looks_handed call looks = absurd looks
 
+    -- after raw calls that only read the state is the same
     after_looks : (x : State) (calls : List RawCall) (rest : List Request) → AllByRecursion Looks calls → MayEachBeDenied x rest
         → MayEachBeDenied x (plain calls ++ rest)
     after_looks x [] rest looks later = later
@@ -130,6 +136,7 @@ module _ (accounts : Accounts) (s : State) (f : Flat) (l : ObjectsMatch accounts
           (after_looks x calls rest looks.1 later),
     )
 
+    -- requests that are left out where the call is refused before them
     unless_denied : (x : State) (refusal : Option Errno) (rest : List Request) → MayEachBeDenied x rest
         → MayEachBeDenied x (unless_refused refusal rest)
     unless_denied x None rest later = later
@@ -139,6 +146,7 @@ module _ (accounts : Accounts) (s : State) (f : Flat) (l : ObjectsMatch accounts
         by true = later
         by false = tt
 
+    -- requests after the walk to a directory
     in_directory_denied : (x : State) (refusal : Option Errno) (q : Path) (after : Path → Name → List Request)
         → ((d : Path) (name : Name) → MayEachBeDenied x (after d name))
         → MayEachBeDenied x (in_directory accounts l me p refusal q after)
@@ -148,6 +156,7 @@ module _ (accounts : Accounts) (s : State) (f : Flat) (l : ObjectsMatch accounts
         (all_mapped Looks (reads_entries accounts l) (λ q. tt) (tested accounts f p d))
         (unless_denied x refusal (after d name) (each d name))
 
+    -- requests of a process whose name has room for a child
     with_room_denied : (x : State) (requests : List Request) → MayEachBeDenied x requests → MayEachBeDenied x (with_room accounts l me p requests)
     with_room_denied x requests each = by (nat_lt (length me) most_numbers)
       where
@@ -156,12 +165,14 @@ module _ (accounts : Accounts) (s : State) (f : Flat) (l : ObjectsMatch accounts
         left false = tt
 
         by : (b : Bool)
-            → MayEachBeDenied x (if b then plain (reads_status accounts l me ∷ []) ++ (if nat_lt p.born most_children then requests else []) else [])
+            → MayEachBeDenied x
+            (if b then plain (reads_status accounts l me ∷ []) ++ (if nat_lt p.born most_children then requests else []) else [])
         by true = after_looks x (reads_status accounts l me ∷ []) _ (tt, tt) (left (nat_lt p.born most_children))
         by false = tt
 
     module _ (here : f.processes me ≡ Some p) (own : Holds (own_label accounts l me p))
         (made : (mode : Mode) → Holds (label_of_made accounts l me p mode)) where
+      -- the birth of a child makes nothing in a directory
       births_handed : (kin : Kin) (category container : ℕ) → s.next_object ≤ container
           → AllByRecursion IsHanded (births accounts l me p kin category container)
       births_handed kin category container new = (
@@ -184,6 +195,7 @@ module _ (accounts : Accounts) (s : State) (f : Flat) (l : ObjectsMatch accounts
         ),
       )
 
+      -- a removal gives no label
       removed_handed : (d : Path) (name : Name) → AllByRecursion IsHanded (removes accounts l d name)
       removed_handed d name = (tt, (tt, tt))
 
@@ -197,6 +209,7 @@ module _ (accounts : Accounts) (s : State) (f : Flat) (l : ObjectsMatch accounts
           raw.SetLabel (with_level (own_label accounts l me p) s.next_category Star)
           ∷ raw.SetClearance (with_level (own_clearance accounts l me p) s.next_category L3) ∷ []
 
+      -- the raw calls of a wrap after its directory
       after_job : (x : State) → MayEachBeDenied x (plain (job_births ++ job_holds))
       after_job x =
           all_plain x (job_births ++ job_holds) (all_joined IsHanded job_births job_holds
@@ -216,6 +229,7 @@ module _ (accounts : Accounts) (s : State) (f : Flat) (l : ObjectsMatch accounts
         ),
       )
 
+      -- the birth of a child of a spawn, and the labels that the thread takes again
       abbrev child_births : List RawCall
       child_births = births accounts l me p (kin_of accounts (own_label accounts l me p)) s.next_category s.next_object
 
@@ -224,16 +238,29 @@ module _ (accounts : Accounts) (s : State) (f : Flat) (l : ObjectsMatch accounts
           all_plain x (child_births ++ takes_own accounts l me p) (all_joined IsHanded child_births (takes_own accounts l me p)
           (births_handed (kin_of accounts (own_label accounts l me p)) s.next_category s.next_object (omega arith)) (tt, (tt, tt)))
 
+      -- the raw calls of a login
       logged_denied : (x : State) (name : Name) (password : Password) (o : Option ℕ)
           → MayEachBeDenied x (plain (logs_in accounts l me p name password o))
       logged_denied x name password None = tt
       logged_denied x name password (Some place) = all_plain x (logs_in accounts l me p name password (Some place)) (tt, (own, (tt, (tt, (tt, tt)))))
 
+      -- those of each call
       by_call : (refusal : Option Errno) (call : UnixCall) → MayEachBeDenied s (requests_by accounts l me p refusal call)
       by_call refusal (Create q mode) =
-          in_directory_denied s refusal q _ (λ d name. (inl (refl, tt), λ y passed leaves. (inl (refl, λ dir. made mode), λ y passed leaves. (inl (refl, tt), λ y passed leaves. tt))))
+          in_directory_denied s refusal q _ (λ d name. (
+            inl (refl, tt),
+            λ y passed leaves.
+                (inl (refl, λ dir. made mode), λ y passed leaves. (inl (refl, tt), λ y passed leaves. tt)),
+          ))
       by_call refusal (Mkdir q mode) =
-          in_directory_denied s refusal q _ (λ d name. (inl (refl, tt), λ y passed leaves. (inl (refl, λ dir. made mode), λ y passed leaves. (inl (refl, λ dir. made mode), λ y passed leaves. (inl (refl, tt), λ y passed leaves. tt)))))
+          in_directory_denied s refusal q _ (λ d name. (
+            inl (refl, tt),
+            λ y passed leaves. (
+              inl (refl, λ dir. made mode),
+              λ y passed leaves.
+                  (inl (refl, λ dir. made mode), λ y passed leaves. (inl (refl, tt), λ y passed leaves. tt)),
+            ),
+          ))
       by_call refusal (Read q) = in_directory_denied s refusal q _ (λ d name. (inl (refl, tt), λ y passed leaves. tt))
       by_call refusal (Write q bytes) = in_directory_denied s refusal q _ (λ d name. (inl (refl, tt), λ y passed leaves. tt))
       by_call refusal (Append q bytes) = in_directory_denied s refusal q _ (λ d name. (inl (refl, tt), λ y passed leaves. tt))
@@ -259,7 +286,8 @@ module _ (accounts : Accounts) (s : State) (f : Flat) (l : ObjectsMatch accounts
           after_looks s (map (reads_status accounts l) (looked_at accounts f p (n ∷ above))) _
           (all_mapped Looks (reads_status accounts l) (λ q. tt) (looked_at accounts f p (n ∷ above)))
           (unless_denied s refusal _ (inl (refl, tt), λ y passed leaves. (inl (refl, tt), λ y passed leaves. tt)))
-      by_call refusal (Exit number) = (inl (refl, tt), λ y passed leaves. (inl (refl, tt), λ y passed leaves. (inl (refl, tt), λ y passed leaves. tt)))
+      by_call refusal (Exit number) =
+          (inl (refl, tt), λ y passed leaves. (inl (refl, tt), λ y passed leaves. (inl (refl, tt), λ y passed leaves. tt)))
       by_call refusal Spawn =
           with_room_denied s (plain (raw.OwnLabel ∷ child_births ++ takes_own accounts l me p))
           (inl (refl, tt), λ y passed leaves. spawn_denied y)

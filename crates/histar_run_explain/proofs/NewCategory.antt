@@ -1,5 +1,6 @@
--- The labels of a state in which a thread has made the next category, by those of the state before; and that only an entry is denied by a gate.
-use Rattle.std.proofs.Common.{◌≡◌, ◌≢◌, ℕ, ◌==◌, ◌⊎◌, inl, inr, Bool, true, false, Option, None, Some, refl, sym, ap, ◌∙◌, if◌then◌else◌}
+-- The labels of a state in which a thread has made the next category, by those of the state before.
+use Rattle.std.proofs.Common.{◌≡◌, ◌≢◌, ℕ, ◌==◌, ◌⊎◌, inl, inr, Bool, true, false, Option, None, Some}
+use Rattle.std.proofs.Common.{refl, sym, ap, ◌∙◌, if◌then◌else◌}
 use Rattle.std.specs.Prelude.{option_map, unwrap_or}
 use Rattle.std.proofs.lemmas.Bool.Decides.{eqb_tells}
 use mathlib.Core.Bool.{true≢false}
@@ -14,8 +15,7 @@ use Rattle.histar_object.specs.declared.objects.Kind.TheVariants as kinds
 use Rattle.histar_object.specs.Objects.{clearance_there, is_thread, label_there}
 use Rattle.histar_object.specs.State.{Found, State}
 use Rattle.histar_rules.specs.declared.raw.Denied.{Denied}
-use Rattle.histar_rules.specs.declared.raw.Denied.TheVariants.{Gate, NoThread}
-use Rattle.histar_rules.specs.declared.raw.RawCall.{RawCall}
+use Rattle.histar_rules.specs.declared.raw.Denied.TheVariants.{NoThread}
 use Rattle.histar_rules.specs.declared.raw.RawCall.TheVariants as raw
 use Rattle.histar_rules.specs.Rights.{with_category, with_star_at}
 use Rattle.histar_rules.specs.Rules.{check}
@@ -25,7 +25,8 @@ use Rattle.histar_explain.proofs.NamedTests.{ListsOnly}
 -- ---- one label
 
 -- a label with another level at a category lists this category, and what it listed
-with_level_lists : (Holds : ℕ → Type 0) (L : Levels) (n : ℕ) (l : Level) → ListsOnly Holds L → ListsOnly (λ c. Holds c ⊎ (c ≡ n)) (with_level L n l)
+with_level_lists : (Holds : ℕ → Type 0) (L : Levels) (n : ℕ) (l : Level) → ListsOnly Holds L
+    → ListsOnly (λ c. Holds c ⊎ (c ≡ n)) (with_level L n l)
 with_level_lists Holds L n l lists c differs = by (eqb_tells c n)
   where
     by : (((c == n) ≡ true) × (c ≡ n)) ⊎ (((c == n) ≡ false) × (c ≢ n)) → Holds c ⊎ (c ≡ n)
@@ -54,7 +55,9 @@ widened_so : (Holds : ℕ → Type 0) (n : ℕ) (L : Levels) (l : Level) → IsW
 widened_so Holds n L l = (with_level_lists Holds L n l, default_of-with_level L n l)
 
 module _ (Holds : ℕ → Type 0) (n : ℕ) where
-  changed_label : (o : Found) → IsWidened Holds n (unwrap_or (label_there o) (constant L1)) (unwrap_or (label_there (option_map (with_star_at n) o)) (constant L1))
+  -- an object whose thread owns one category more
+  changed_label : (o : Found)
+      → IsWidened Holds n (unwrap_or (label_there o) (constant L1)) (unwrap_or (label_there (option_map (with_star_at n) o)) (constant L1))
   changed_label None = stays_so Holds n (constant L1)
   changed_label (Some o) = widened_so Holds n o.label Star
 
@@ -87,6 +90,7 @@ module _ (Holds : ℕ → Type 0) (n : ℕ) where
 -- ---- the state
 
 module _ (s : State) (t : ℕ) where
+  -- the new category
   abbrev n : ℕ
   n = s.next_category
 
@@ -107,12 +111,14 @@ module _ (s : State) (t : ℕ) where
   cleared_if (Some o) thread = by o.kind thread
     where
       by : (k : Kind Levels) → is_thread (Some (record { label = o.label; kind = k })) ≡ true
-          → level_of (unwrap_or (clearance_there (option_map (with_star_at n) (Some (record { label = o.label; kind = k })))) (constant L1)) n ≡ L3
+          → level_of (unwrap_or (clearance_there (option_map (with_star_at n) (Some (record { label = o.label; kind = k })))) (constant L1)) n
+          ≡ L3
       by (kinds.Thread clearance) thread = level_there clearance n L3
       by (kinds.Segment bytes) thread = absurd (true≢false (sym thread))
       by (kinds.Container links) thread = absurd (true≢false (sym thread))
       by (kinds.Gate clearance entry) thread = absurd (true≢false (sym thread))
 
+  -- the thread is itself, and is there
   itself : (t == t) ≡ true
   itself = by (eqb_tells t t)
     where
@@ -135,17 +141,6 @@ module _ (s : State) (t : ℕ) where
 
     pub cleared_for_new : level_of (clearance_in (with_category s t) t) n ≡ L3
     cleared_for_new =
-        ap (λ b. level_of (unwrap_or (clearance_there (if b then option_map (with_star_at n) (s.objects t) else s.objects t)) (constant L1)) n) itself
+        ap (λ b. level_of (unwrap_or (clearance_there (if b then option_map (with_star_at n) (s.objects t) else s.objects t)) (constant L1)) n)
+        itself
         ∙ cleared_if (s.objects t) thread
-
--- ---- gates
-
--- a denial is that of a gate
-of_gate : Option Denied → Bool
-of_gate (Some Gate) = true
-of_gate o = false
-
--- a raw call enters a gate
-abbrev pub IsEntry : RawCall → Type 0
-IsEntry (raw.Enter d o wanted clearance verify) = Unit {0}
-IsEntry call = ⊥

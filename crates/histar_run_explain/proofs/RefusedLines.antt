@@ -84,6 +84,7 @@ module _ {accounts : Accounts} {s : State} {f : Flat} {asked : CallLine} {births
   abbrev Named : ℕ → Type 0
   Named = HasPurpose accounts births
 
+  -- the objects before the line and after it
   abbrev old : ObjectsMatch accounts s f
   old = was.matched
 
@@ -101,17 +102,21 @@ module _ {accounts : Accounts} {s : State} {f : Flat} {asked : CallLine} {births
   still_used : (c : ℕ) → IsUsedNumber accounts f old.category c → IsUsedNumber accounts f new.category c
   still_used c used = (used.0, line.still.names.categories used.0 used.2 used.2 ∙ used.1, used.2)
 
+  -- it was made by the end
   made_now : (c : ℕ) → IsUsedNumber accounts f new.category c → was_made mid.next_category c ≡ true
   made_now c used = was_made_so mid.next_category c (subst (IsMade mid.next_category) used.1 (new.made used.0 used.2))
 
   -- ---- in the last state
 
+  -- no category is new
   abbrev None_new : ℕ → Type 0
   None_new c = ⊥
 
+  -- so it is named
   now : (c : ℕ) → IsUsedNumber accounts f new.category c → IsNamedOrNew Named None_new mid.next_category c
   now c used = (made_now c used, inl (used_named c used))
 
+  -- the labels of the last state list named categories alone
   pub labels_now : (t : ℕ) → HasNamedLabels Named None_new mid t
   labels_now t = record {
     label = λ q. let lists = state_label accounts mid f new q in (λ c differs. now c (lists.0 c differs), lists.1);
@@ -135,6 +140,7 @@ module _ {accounts : Accounts} {s : State} {f : Flat} {asked : CallLine} {births
 
   -- ---- in the state in which the category of a new job was made
 
+  -- the category of the job is new
   abbrev New : ℕ → Type 0
   New c = c ≡ s.next_category
 
@@ -146,6 +152,7 @@ module _ {accounts : Accounts} {s : State} {f : Flat} {asked : CallLine} {births
       let high = made.1 in
       (was_made_so (s.next_category + 1) c (low, omega (arith, high)), inl (used_named c (still_used c used)))
 
+  -- so was the category of the job
   of_job : IsNamedOrNew Named New (s.next_category + 1) s.next_category
   of_job =
       let made = old.made OfBoot tt in
@@ -153,6 +160,7 @@ module _ {accounts : Accounts} {s : State} {f : Flat} {asked : CallLine} {births
       let high = made.1 in
       (was_made_so (s.next_category + 1) s.next_category (omega (arith, low, high), omega arith), inr refl)
 
+  -- a label that lists these alone
   job_lists : (L : Levels) → ListsOnly (λ c. IsUsedNumber accounts f old.category c ⊎ (c ≡ s.next_category)) L
       → ListsOnly (IsNamedOrNew Named New (s.next_category + 1)) L
   job_lists L lists c differs = elim (lists c differs) [
@@ -161,6 +169,7 @@ module _ {accounts : Accounts} {s : State} {f : Flat} {asked : CallLine} {births
   ]
 
   module _ (t : ℕ) (granted : check s t raw.MakeCategory ≡ None) where
+    -- the labels of that state list named categories and the job's alone
     pub labels_job : HasNamedLabels Named New (with_category s t) t
     labels_job = record {
       label = λ q.
@@ -192,7 +201,8 @@ IsAnswered denied = (errno : Errno) × (errno_by_rule denied ≡ Some errno)
 
 module _ (accounts : Accounts) (mid : State) (asked : CallLine) where
   -- the object that a denied raw call would observe has a location
-  observed_located : (x : State) (t : ℕ) (call : RawCall) → HasLocatedObjects accounts mid asked call → IsLocated accounts mid asked (observed_by x t call)
+  observed_located : (x : State) (t : ℕ) (call : RawCall) → HasLocatedObjects accounts mid asked call
+      → IsLocated accounts mid asked (observed_by x t call)
   observed_located x t (raw.Read d o) found = by (observes (x.objects t) (x.objects d))
     where
       by : (b : Bool) → IsLocated accounts mid asked (if b then o else d)
@@ -200,15 +210,19 @@ module _ (accounts : Accounts) (mid : State) (asked : CallLine) where
       by false = found.container
   observed_located x t call found = found.container
 
+  -- the one that it would modify, and the gate that it would enter
   modified_located : (call : RawCall) → HasLocatedObjects accounts mid asked call → IsLocated accounts mid asked (modified_by call)
   modified_located (raw.Write d o keep bytes) found = found.object tt
   modified_located call found = found.container
 
-  entered_located : (call : RawCall) → IsEntry call → HasLocatedObjects accounts mid asked call → IsLocated accounts mid asked (object_named call)
+  entered_located : (call : RawCall) → IsEntry call → HasLocatedObjects accounts mid asked call
+      → IsLocated accounts mid asked (object_named call)
   entered_located (raw.Enter d o wanted clearance verify) entry found = found.object tt
   entered_located call entry found = absurd entry
 
-  whole_located : (call : RawCall) → HasLocatedObjects accounts mid asked call → AllByRecursion (IsLocated accounts mid asked) (objects_of (whole_act call))
+  -- and that of a call as a whole
+  whole_located : (call : RawCall) → HasLocatedObjects accounts mid asked call
+      → AllByRecursion (IsLocated accounts mid asked) (objects_of (whole_act call))
   whole_located (raw.Enter d o wanted clearance verify) found = (found.object tt, tt)
   whole_located (raw.Write d o keep bytes) found = (found.object tt, tt)
   whole_located raw.MakeCategory found = tt
@@ -239,14 +253,17 @@ module _ (accounts : Accounts) (mid : State) (asked : CallLine) where
 named_reasons : (accounts : Accounts) (births : Births) (reasons : List Reason) → AllByRecursion (IsReasonOn (HasPurpose accounts births)) reasons
     → AllByRecursion (IsNamedReason accounts births) reasons
 named_reasons accounts births [] named = tt
-named_reasons accounts births (r ∷ reasons) named = (record { listed = named.0.0; elsewhere = named.0.1 }, named_reasons accounts births reasons named.1)
+named_reasons accounts births (r ∷ reasons) named =
+    (record { listed = named.0.0; elsewhere = named.0.1 }, named_reasons accounts births reasons named.1)
 
 -- ---- obstacles
 
+-- an obstacle is that a container doesn't link an object
 abbrev is_link : Option Obstacle → Bool
 is_link (Some (obstacles.NotLinked d)) = true
 is_link o = false
 
+-- that of a denial is another one
 of_size : (bytes : ℕ) → is_link (Some (excess bytes)) ≡ false
 of_size bytes = by (fits_segment bytes)
   where
