@@ -36,6 +36,7 @@ use Rattle.histar_sim.specs.RawCalls.{Request, births, in_directory, is_of_denia
 use Rattle.histar_sim.specs.RawCalls.{own_label, plain, takes_own}
 use Rattle.histar_sim.specs.RawCalls.{reads_entries, reads_status, removes, requests_by, requests_of, starts_job, unless_refused, with_room}
 use Rattle.histar_sim.specs.Reads.{looked_at, tested}
+use Rattle.histar_sim.proofs.Walks.{all_joined}
 use Rattle.histar_wrap.specs.Scratch.{directory_label, kin_in}
 
 -- a raw call only reads
@@ -56,11 +57,6 @@ left_same x y t call looks same = absurd looks
 all_mapped : {A : Type 0} (P : RawCall → Type 0) (g : A → RawCall) → ((a : A) → P (g a)) → (xs : List A) → AllByRecursion P (map g xs)
 all_mapped P g each [] = tt
 all_mapped P g each (a ∷ xs) = (each a, all_mapped P g each xs)
-
--- and so are two lists of such calls, one after the other
-all_joined : (P : RawCall → Type 0) (xs ys : List RawCall) → AllByRecursion P xs → AllByRecursion P ys → AllByRecursion P (xs ++ ys)
-all_joined P [] ys first later = later
-all_joined P (x ∷ xs) ys first later = (first.0, all_joined P xs ys first.1 later)
 
 -- requests but for the first
 abbrev without_first : List Request → List Request

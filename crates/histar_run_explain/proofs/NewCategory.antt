@@ -19,6 +19,7 @@ use Rattle.histar_rules.specs.declared.raw.Denied.TheVariants.{NoThread}
 use Rattle.histar_rules.specs.declared.raw.RawCall.TheVariants as raw
 use Rattle.histar_rules.specs.Rights.{with_category, with_star_at}
 use Rattle.histar_rules.specs.Rules.{check}
+use Rattle.histar_layout.proofs.Members.{equal_itself}
 use Rattle.histar_explain.specs.Named.{clearance_in, label_in}
 use Rattle.histar_explain.proofs.NamedTests.{ListsOnly}
 
@@ -36,11 +37,7 @@ with_level_lists Holds L n l lists c differs = by (eqb_tells c n)
 
 -- it has this level there
 level_there : (L : Levels) (n : ℕ) (l : Level) → level_of (with_level L n l) n ≡ l
-level_there L n l = by (eqb_tells n n)
-  where
-    by : (((n == n) ≡ true) × (n ≡ n)) ⊎ (((n == n) ≡ false) × (n ≢ n)) → level_of (with_level L n l) n ≡ l
-    by (inl e) = level_of-with_level L n l n ∙ ap (λ b. if b then l else level_of L n) e.0
-    by (inr e) = absurd (e.1 refl)
+level_there L n l = level_of-with_level L n l n ∙ ap (λ b. if b then l else level_of L n) (equal_itself n)
 
 -- ---- an object that was changed
 
@@ -118,14 +115,7 @@ module _ (s : State) (t : ℕ) where
       by (kinds.Container links) thread = absurd (true≢false (sym thread))
       by (kinds.Gate clearance entry) thread = absurd (true≢false (sym thread))
 
-  -- the thread is itself, and is there
-  itself : (t == t) ≡ true
-  itself = by (eqb_tells t t)
-    where
-      by : (((t == t) ≡ true) × (t ≡ t)) ⊎ (((t == t) ≡ false) × (t ≢ t)) → (t == t) ≡ true
-      by (inl e) = e.0
-      by (inr e) = absurd (e.1 refl)
-
+  -- the thread is there
   is_a_thread : (b : Bool) (rest : Option Denied) → (unless b NoThread orelse rest) ≡ None → b ≡ true
   is_a_thread true rest passed = refl
   is_a_thread false rest passed = absurd cc
@@ -136,11 +126,11 @@ module _ (s : State) (t : ℕ) where
 
     pub owns_new : level_of (label_in (with_category s t) t) n ≡ Star
     owns_new =
-        ap (λ b. level_of (unwrap_or (label_there (if b then option_map (with_star_at n) (s.objects t) else s.objects t)) (constant L1)) n) itself
+        ap (λ b. level_of (unwrap_or (label_there (if b then option_map (with_star_at n) (s.objects t) else s.objects t)) (constant L1)) n) (equal_itself t)
         ∙ owned_if (s.objects t) thread
 
     pub cleared_for_new : level_of (clearance_in (with_category s t) t) n ≡ L3
     cleared_for_new =
         ap (λ b. level_of (unwrap_or (clearance_there (if b then option_map (with_star_at n) (s.objects t) else s.objects t)) (constant L1)) n)
-        itself
+        (equal_itself t)
         ∙ cleared_if (s.objects t) thread
