@@ -126,7 +126,8 @@ module _ (s : State) (t : ℕ) where
 
     pub owns_new : level_of (label_in (with_category s t) t) n ≡ Star
     owns_new =
-        ap (λ b. level_of (unwrap_or (label_there (if b then option_map (with_star_at n) (s.objects t) else s.objects t)) (constant L1)) n) (equal_itself t)
+        ap (λ b. level_of (unwrap_or (label_there (if b then option_map (with_star_at n) (s.objects t) else s.objects t)) (constant L1)) n)
+        (equal_itself t)
         ∙ owned_if (s.objects t) thread
 
     pub cleared_for_new : level_of (clearance_in (with_category s t) t) n ≡ L3

@@ -27,7 +27,7 @@ use Rattle.histar_object.specs.Objects.{label_there, clearance_there, kind_clear
 use Rattle.histar_object.specs.State.{State, Found}
 use Rattle.histar_syscall.specs.Tree.{Address, wanted, objects_at}
 use Rattle.histar_explain.specs.Named.{label_in, clearance_in}
-use Rattle.histar_explain.proofs.NamedTests.{ListsOnly}
+use Rattle.histar_explain.proofs.NamedTests.{ListsOnly, constant_lists as lists_nothing}
 use Rattle.histar_layout.specs.Jobs.{is_empty, jobs_in}
 use Rattle.histar_layout.specs.Labelling.{each_at, guarded_by, owner_label, cleared_at, secret_of, written_by}
 use Rattle.histar_layout.specs.Categories.{read_category, write_category, group_owner, owner_of_group, user_of, file_label, scratch_label, label_made}
@@ -110,7 +110,7 @@ module _ (Holds : ℕ → Type 0) where
 
   -- a label that is one level everywhere lists nothing
   constant_lists : (d : Level) → Lists d (constant d)
-  constant_lists d = (λ c other. absurd (other (level_of-constant d c ∙ sym (default_of-constant d))), default_of-constant d)
+  constant_lists d = (lists_nothing Holds d, default_of-constant d)
 
   -- the label of what is guarded lists what is secret and what is written
   guarded_lists : (S W : List ℕ) → EachHolds S → EachHolds W → Lists L1 (guarded_by S W)
