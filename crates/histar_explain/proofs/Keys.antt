@@ -16,7 +16,7 @@ use Rattle.histar_explain.specs.Tests.{tests_with}
 use Rattle.histar_explain.specs.Laws.{some_fails_at, LacksKeys, KeysAreLacking}
 
 -- star is above no level
-star_below : (l : Level) → exceeds false Star l ≡ false
+pub star_below : (l : Level) → exceeds false Star l ≡ false
 star_below Star = refl
 star_below L0 = refl
 star_below L1 = refl

@@ -1,7 +1,6 @@
 -- The explanation of a denial by labels that list categories that are named or new alone, where the thread owns the new ones.
 use Rattle.std.proofs.Common.{◌≡◌, ℕ, ◌⊎◌, inl, inr, true, false, List, [], ◌∷◌, refl, ap, ◌∙◌}
 use Rattle.std.specs.List.{AllByRecursion}
-use Rattle.histar_level.specs.declared.level.Level.{Level}
 use Rattle.histar_level.specs.declared.level.Level.TheVariants.{Star, L0, L1, L2, L3}
 use Rattle.histar_level.specs.Levels.{Levels, level_of, default_of}
 use Rattle.histar_label.specs.Levels.{constant}
@@ -21,25 +20,10 @@ use Rattle.histar_explain.specs.Explanations.{IsExplanationOf}
 use Rattle.histar_explain.specs.Named.{clearance_in, label_in, modified_by, observed_by}
 use Rattle.histar_explain.specs.Tests.{Test, below, observing, entering, in_range, modifying, owning_nothing, ranging, tests}
 use Rattle.histar_explain.specs.Unmade.{labels_of}
+use Rattle.histar_explain.proofs.Keys.{star_above, star_below}
 use Rattle.histar_explain.proofs.NamedTests.{ListsOnly, IsReasonOn, IsNamedOrNew, IsNamedLabel, IsNamedClearance, IsNamedTest}
 use Rattle.histar_explain.proofs.NamedTests.{reasons_named, none_unmade}
 use Rattle.histar_explain.proofs.NamedTests.{named_below, named_observing, constant_lists}
-
--- star is below each level
-star_below : (l : Level) → exceeds false Star l ≡ false
-star_below Star = refl
-star_below L0 = refl
-star_below L1 = refl
-star_below L2 = refl
-star_below L3 = refl
-
--- an owner passes whatever the level
-owner_passes : (l : Level) → exceeds true l Star ≡ false
-owner_passes Star = refl
-owner_passes L0 = refl
-owner_passes L1 = refl
-owner_passes L2 = refl
-owner_passes L3 = refl
 
 -- a raw call makes a segment or a container
 abbrev pub Makes : RawCall → Type 0
@@ -94,7 +78,7 @@ module _ (Named New : ℕ → Type 0) (s : State) (t : ℕ) where
     observing_named : (q : ℕ) → IsNamedTest Named New s.next_category (observing own (label_in s q))
     observing_named q =
         named_observing Named New s.next_category own (label_in s q) (fine.label t).0 (fine.label q).0
-        (λ c new. ap (exceeds true (level_of (label_in s q) c)) (fine.owned c new) ∙ owner_passes (level_of (label_in s q) c))
+        (λ c new. ap (exceeds true (level_of (label_in s q) c)) (fine.owned c new) ∙ star_above (level_of (label_in s q) c))
         (λ i. exceeds true ((fine.label q).1 i) ((fine.label t).1 i))
 
     modifying_named : (q : ℕ) → AreNamedTests (modifying own (label_in s q))
@@ -104,7 +88,7 @@ module _ (Named New : ℕ → Type 0) (s : State) (t : ℕ) where
     making_named : (any : Party) (label : Levels) → IsNamedMade label
         → AreNamedTests (owning_nothing any label ∷ in_range own label (clearance_in s t))
     making_named any label made = (
-      named_below Named New s.next_category any LabelAsked (constant L0) label (constant_lists Named New s.next_category L0) made.0.0
+      named_below Named New s.next_category any LabelAsked (constant L0) label (constant_lists (IsNamedOrNew Named New s.next_category) L0) made.0.0
           (λ c new i. exceeds false (level_of-constant L0 c i) (made.1 c new i))
           (λ i. exceeds false (default_of-constant L0 i) (made.0.1 i)),
       (

@@ -24,6 +24,10 @@ use Rattle.histar_explain.specs.Unmade.{AreUnmade, is_among, lists, was_made}
 abbrev pub ListsOnly : (ℕ → Type 0) → Levels → Type 0
 ListsOnly Holds L = (c : ℕ) → (level_of L c ≢ default_of L) → Holds c
 
+-- a constant lists nothing
+pub constant_lists : (Holds : ℕ → Type 0) (l : Level) → ListsOnly Holds (constant l)
+constant_lists Holds l c differs = absurd (differs (level_of-constant l c ∙ sym (default_of-constant l)))
+
 -- a reason lists such categories alone, and its comparison doesn't fail at all others
 abbrev pub IsReasonOn : (ℕ → Type 0) → Reason → Type 0
 IsReasonOn Named r = AllByRecursion (λ (d : Difference). Named d.category) r.named.items × (r.elsewhere ≡ None)
@@ -134,7 +138,3 @@ module _ (Named New : ℕ → Type 0) (next : ℕ) where
     passes = new;
     defaults = ap (λ b. if b then Some (default_of label, default_of own) else None) defaults;
   }
-
-  -- a constant lists nothing
-  pub constant_lists : (l : Level) → ListsOnly IsNamedOrNew (constant l)
-  constant_lists l c differs = absurd (differs (level_of-constant l c ∙ sym (default_of-constant l)))

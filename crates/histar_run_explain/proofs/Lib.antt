@@ -7,3 +7,10 @@ pub mod TextRuns
 pub mod Outputs
 pub mod OneTrace
 pub mod NamedLines
+pub mod NewCategory
+pub mod DeniedRequests
+pub mod ReasonsOfLines
+pub mod DeniedObjects
+pub mod UsedLabels
+pub mod RefusedLines
+pub mod CompleteLines

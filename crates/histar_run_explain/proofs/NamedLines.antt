@@ -1,6 +1,5 @@
 -- Along the lines of a script each category that is used has its name.
-use Rattle.std.proofs.Common.{◌≡◌, ℕ, List, [], ◌∷◌, Some, ap, subst, sym}
-use Rattle.std.specs.Prelude.{Option}
+use Rattle.std.proofs.Common.{◌≡◌, ℕ, List, [], ◌∷◌, Some, ap, subst}
 use Rattle.histar_flat.specs.declared.calls.CallLine.{CallLine}
 use Rattle.histar_flat.specs.Accounts.{Accounts}
 use Rattle.histar_flat.specs.FlatState.{Flat, IsTree}
@@ -10,13 +9,10 @@ use Rattle.histar_flat.proofs.Trees.{tree_after, tree_at_start}
 use Rattle.histar_object.specs.State.{State}
 use Rattle.histar_trace.specs.declared.entries.TraceEntry.{TraceEntry}
 use Rattle.histar_layout.specs.UserTable.{without_passwords}
-use Rattle.histar_refinement.specs.Categories.{CategoryName, IsUsed}
-use Rattle.histar_refinement.specs.KeptNames.{RepresentsStill}
 use Rattle.histar_refinement.specs.Represents.{Represents}
 use Rattle.histar_names.specs.Births.{Births, purpose_of}
 use Rattle.histar_names.specs.KnownBirths.{NamesBirths, purpose_named}
 use Rattle.histar_names.specs.NamedWords.{category_text}
-use Rattle.histar_names.specs.declared.purposes.Purpose.{Purpose}
 use Rattle.histar_names.proofs.NamedCategories.{purposes_are_right}
 use Rattle.histar_names.proofs.KnownNames.{births_are_kept, births_at_start, categories_are_named, represented_at_start}
 use Rattle.histar_shell.proofs.Counters.{run_counts}

@@ -1,6 +1,5 @@
 -- The explained trace is the one that `run` returns.
-use Rattle.std.proofs.Common.{◌≡◌, List, Option, Result, Ok, sym, ◌∙◌, subst}
-use Rattle.histar_trace.specs.declared.entries.TraceEntry.{TraceEntry}
+use Rattle.std.proofs.Common.{◌≡◌, Result, Ok, sym, ◌∙◌, subst}
 use Rattle.histar_script.specs.Reading.{script_of}
 use Rattle.histar_script.specs.Script.{ScriptModel}
 use Rattle.histar_script.specs.declared.fault.Fault.{Fault}

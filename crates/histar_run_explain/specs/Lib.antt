@@ -4,3 +4,4 @@ pub mod Session
 pub mod Run
 pub mod Output
 pub mod Laws
+pub mod Complete

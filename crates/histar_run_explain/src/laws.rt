@@ -1,4 +1,5 @@
 //! The laws of explained traces. Each law is the contract of a function that does nothing.
+ghost use Rattle.histar_run_explain.specs.Complete.{ExplanationsAreComplete};
 ghost use Rattle.histar_run_explain.specs.Laws.{ExplainsTheTrace, UsedCategoriesAreNamed};
 
 /// Proves that the trace that is explained is the one that `run` returns.
@@ -10,4 +11,10 @@ pub fn the_trace_is_explained()
 /// line.
 pub fn used_categories_are_named()
     ensures { UsedCategoriesAreNamed }
+{}
+
+/// Proves that `object N` and `category N` are in no explanation of a script: each object has a location, and
+/// each category a purpose.
+pub fn explanations_are_complete()
+    ensures { ExplanationsAreComplete }
 {}
