@@ -267,8 +267,8 @@ behind s = within (codes "div" ∷ codes "details" ∷ s)
 abbrev NestAnywhere : List Item → Type 0
 NestAnywhere items = (s : List (List ℕ)) → Leads items (within s) (within s)
 
-framed_nests : (s : List (List ℕ)) (folds : Bool) (by number : List ℕ) (call : List Item) → NestAnywhere call → (raw_calls explanations : List (List ℕ))
-    → Leads (framed_items folds by number call raw_calls explanations) (within s) (within s)
+framed_nests : (s : List (List ℕ)) (folds : Bool) (by number : List ℕ) (call : List Item) → NestAnywhere call
+    → (raw_calls explanations : List (List ℕ)) → Leads (framed_items folds by number call raw_calls explanations) (within s) (within s)
 framed_nests s folds by number call nests raw_calls explanations = cases raw_calls explanations
   where
     opened : (raw_calls explanations : List (List ℕ))

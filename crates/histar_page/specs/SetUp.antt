@@ -23,8 +23,7 @@ is_set_up call =
 abbrev pub shows_note : List ℕ → List ℕ → Bool
 shows_note reply line = not (length (note_items reply line) == 0)
 
--- The call of a reply goes on with the set-up of a session: it sets up, it is not refused, and no comment is shown between it and the call
--- before it. Comments before the first call are not between calls.
+-- the call of a reply sets up, is not refused, and has no comment shown between it and the call before it, where there is one
 abbrev pub sets_up : List (List ℕ) → List ℕ → List ℕ → Bool
 sets_up script before reply =
     is_set_up (call_on script reply) && not (is_refused reply)
@@ -45,6 +44,6 @@ folded_count script replies =
 
 -- ---- how they are unfolded
 
--- the link with the number of these calls, at whose address they are seen; none where no call is folded
+-- the link that says how many calls are folded, at whose address they are seen; none where no call is folded
 abbrev pub set_up_link : ℕ → List Item
 set_up_link number = if nat_lt 0 number then Shown SetUpCalls (decimal number) ∷ [] else []
