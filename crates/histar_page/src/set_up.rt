@@ -48,7 +48,7 @@ fn set_up_count(script: &[&[u8]], replies: &[&[u8]]) -> u64
     number
 }
 
-/// Checks whether the call of a reply sets up a session, and goes on with what the calls up to the reply before it began.
+/// Checks whether the call of a reply is one more that sets up a session, after the reply before it.
 fn sets_up(script: &[&[u8]], before: &[u8], reply: &[u8]) -> bool
     ensures { result ≡ sets_up (texts script.now) before.now reply.now }
 {
