@@ -1,6 +1,6 @@
 -- The tags of a page nest: what a reader has read behind each of its items.
 use Rattle.std.proofs.Common.{◌≡◌, ℕ, ◌+◌, List, [], ◌∷◌, ◌++◌, ◌∙◌, refl, ap, true, false, map, drop, length}
-use Rattle.std.specs.Prelude.{◌||◌, ◌==◌, not, Bool, Option, None, Some, codes, decimal, filter, unwrap_or}
+use Rattle.std.specs.Prelude.{◌||◌, ◌==◌, ◌-◌, not, Bool, Option, None, Some, codes, decimal, filter, nat_lt, unwrap_or}
 use Rattle.std.specs.List.{flat_map, list_any}
 use Rattle.std.specs.Str.{bytes_eq}
 use Rattle.std.proofs.lemmas.Bool.{and_parts}
@@ -18,8 +18,8 @@ use Rattle.histar_page.specs.declared.kind.Kind.TheVariants.{LeakTitle, LineNumb
 use Rattle.histar_page.specs.declared.kind.Kind.TheVariants.{NodeName, OtherLine, Path, Process, ProcessBand, ProcessNode, Prose, RawCall, ReadEdge}
 use Rattle.histar_page.specs.declared.kind.Kind.TheVariants.{Reason, Refusal, Refusals, Reply, Secret, Stat, Title, Trusted, UserName, Version}
 use Rattle.histar_page.specs.declared.kind.Kind.TheVariants.{ColumnUser, Withheld, WriteEdge}
-use Rattle.histar_page.specs.declared.kind.Kind.TheVariants.{BareBy, CallBy, LineId, LinkAddress, LinkName, LinkTarget, Outsider}
-use Rattle.histar_page.specs.declared.kind.Kind.TheVariants.{ReadBy, RuleAddress, RuleCaller, UseAddress, UseLine, WrittenBy}
+use Rattle.histar_page.specs.declared.kind.Kind.TheVariants.{BareBy, BareSetUpBy, CallBy, LineId, LinkAddress, LinkName, LinkTarget, Outsider}
+use Rattle.histar_page.specs.declared.kind.Kind.TheVariants.{ReadBy, RuleAddress, RuleCaller, SetUpBy, SetUpCalls, UseAddress, UseLine, WrittenBy}
 use Rattle.histar_page.specs.declared.markup.Markup.{Markup}
 use Rattle.histar_page.specs.declared.markup.Markup.TheVariants.{Arrows, Begin, BeginBehind, BeginBoot, BeginDrawing}
 use Rattle.histar_page.specs.declared.markup.Markup.TheVariants.{BeginFiles, BeginFlows, BeginLabels, BeginOther, BeginRow, BeginSecret, BeginSecrets}
@@ -38,8 +38,9 @@ use Rattle.histar_page.specs.Callers.{caller, callers, link_items, rule_items}
 use Rattle.histar_page.specs.Head.{head_items, style_items, title_of}
 use Rattle.histar_page.specs.Who.{declared_items, group_member_item, who_items}
 use Rattle.histar_page.specs.Story.{is_login, line_number, lines_between, note_items, prose_items, reason_item, reply_kind, shown_call, call_items}
-use Rattle.histar_page.specs.Session.{at_bytes, begin_items, calls_items, framed_items, hides_bytes, kernel_items, other_call_items}
-use Rattle.histar_page.specs.Session.{other_why_items, raw_item, turns_from, why_item}
+use Rattle.histar_page.specs.Session.{at_bytes, begin_items, call_kind, calls_items, framed_items, hides_bytes, kernel_items}
+use Rattle.histar_page.specs.Session.{other_call_items, other_why_items, raw_item, turns_from, why_item}
+use Rattle.histar_page.specs.SetUp.{folded_count, set_up_link}
 use Rattle.histar_page.specs.Files.{cells_items, column_items, files_items, first_flag, job_columns, later_flags, line_items, right_item, row_items}
 use Rattle.histar_page.specs.Files.{runners_of, stat_item, user_item}
 use Rattle.histar_page.specs.Secrets.{followed_items, lines_items, member_item, note_on, note_on_titles, secret_items, secrets_items}
@@ -266,30 +267,32 @@ behind s = within (codes "div" ∷ codes "details" ∷ s)
 abbrev NestAnywhere : List Item → Type 0
 NestAnywhere items = (s : List (List ℕ)) → Leads items (within s) (within s)
 
-framed_nests : (s : List (List ℕ)) (by number : List ℕ) (call : List Item) → NestAnywhere call → (raw_calls explanations : List (List ℕ))
-    → Leads (framed_items by number call raw_calls explanations) (within s) (within s)
-framed_nests s by number call nests raw_calls explanations = cases raw_calls explanations
+framed_nests : (s : List (List ℕ)) (folds : Bool) (by number : List ℕ) (call : List Item) → NestAnywhere call
+    → (raw_calls explanations : List (List ℕ)) → Leads (framed_items folds by number call raw_calls explanations) (within s) (within s)
+framed_nests s folds by number call nests raw_calls explanations = cases raw_calls explanations
   where
     opened : (raw_calls explanations : List (List ℕ))
-        → Leads (Shown CallBy by ∷ Shown LineId number ∷ Fixed BeginSummary ∷ call ++ kernel_items raw_calls explanations) (within s)
+        → Leads (Shown (call_kind folds) by ∷ Shown LineId number ∷ Fixed BeginSummary ∷ call ++ kernel_items raw_calls explanations) (within s)
         (within s)
     opened raw_calls explanations =
-        step (shown_at CallBy by refl refl) (step (shown_at LineId number refl refl) (step (fixed BeginSummary refl)
+        step (by_if folds (λ kind. Reads (item_text (Shown kind by)) (within s) (in_tag (codes "details") s)) (shown_at SetUpBy by refl refl)
+        (shown_at CallBy by refl refl)) (step (shown_at LineId number refl refl) (step (fixed BeginSummary refl)
         (joined (nests (codes "summary" ∷ codes "details" ∷ s)) (step (fixed BeginBehind refl)
         (joined (joined (mapped raw_item (behind s) (raw_nests (codes "div" ∷ codes "details" ∷ s)) raw_calls)
         (mapped why_item (behind s) (why_nests (codes "div" ∷ codes "details" ∷ s)) explanations))
         (step (fixed EndCall refl) nothing))))))
 
-    cases : (raw_calls explanations : List (List ℕ)) → Leads (framed_items by number call raw_calls explanations) (within s) (within s)
+    cases : (raw_calls explanations : List (List ℕ)) → Leads (framed_items folds by number call raw_calls explanations) (within s) (within s)
     cases [] [] =
-        step (shown_at BareBy by refl refl) (step (shown_at LineId number refl refl)
+        step (by_if folds (λ kind. Reads (item_text (Shown kind by)) (within s) (in_tag (codes "div") s)) (shown_at BareSetUpBy by refl refl)
+        (shown_at BareBy by refl refl)) (step (shown_at LineId number refl refl)
         (joined (nests (codes "div" ∷ s)) (step (fixed EndBare refl) nothing)))
     cases [] (line ∷ explanations) = opened [] (line ∷ explanations)
     cases (line ∷ raw_calls) explanations = opened (line ∷ raw_calls) explanations
 
-turns_nest : (s : List (List ℕ)) (script : List (List ℕ)) (before : List ℕ) (replies : List (List ℕ)) (marked : Marked)
-    → Leads (turns_from script before replies marked) (within s) (within s)
-turns_nest s script before [] marked =
+turns_nest : (s : List (List ℕ)) (folded : ℕ) (script : List (List ℕ)) (before : List ℕ) (replies : List (List ℕ)) (marked : Marked)
+    → Leads (turns_from folded script before replies marked) (within s) (within s)
+turns_nest s folded script before [] marked =
     let notes = each (note_items before) (within s) (note_nests s before) (drop (line_number before) script) in
     joined (joined notes (each other_call_items (within s) (other_call s) marked.raw_calls))
     (each other_why_items (within s) (other_why s) marked.explanations)
@@ -303,29 +306,37 @@ turns_nest s script before [] marked =
     other_why s line =
         step (fixed BeginOther refl) (step (shown OtherLine (mark_number line) refl refl) (step (fixed BeginBehind refl)
         (step (why_nests (codes "div" ∷ codes "details" ∷ s) line) (step (fixed EndCall refl) nothing))))
-turns_nest s script before (reply ∷ replies) marked =
+turns_nest s folded script before (reply ∷ replies) marked =
     let own = own_marked (split_word reply).0 marked in
     joined
     (joined (each (note_items before) (within s) (note_nests s before) (lines_between script before reply))
-    (framed_nests s (caller script reply) (split_word reply).0 (call_items script reply own.reasons)
+    (framed_nests s (nat_lt 0 folded) (caller script reply) (split_word reply).0 (call_items script reply own.reasons)
     (λ inner. answered_nests inner script reply own.reasons) own.raw_calls own.explanations))
-    (turns_nest s script reply replies (later_marked (split_word reply).0 marked))
+    (turns_nest s (folded - 1) script reply replies (later_marked (split_word reply).0 marked))
 
 link_nests : (s : List (List ℕ)) (process : List ℕ) → Leads (link_items process) (within s) (within s)
 link_nests s process =
     step (shown_at LinkTarget process refl refl) (step (shown_at LinkAddress process refl refl) (step (shown LinkName process refl refl) nothing))
+
+set_up_link_nests : (s : List (List ℕ)) (number : ℕ) → Leads (set_up_link number) (within s) (within s)
+set_up_link_nests s number =
+    by_if (nat_lt 0 number) (λ (items : List Item). Leads items (within s) (within s))
+    (step (shown SetUpCalls (decimal number) refl refl) nothing) nothing
 
 session_nests : (s : List (List ℕ)) (script replies : List (List ℕ)) (marked : Marked)
     → Leads (begin_items (callers script replies) ++ calls_items script replies marked) (within s) (within s)
 session_nests s script replies marked =
     let inner = codes "section" ∷ s in
     let boot = taken_own (codes "0") marked.raw_calls in
+    let number = folded_count script replies in
     joined (step (fixed BeginSession refl) (each link_items (within inner) (link_nests inner) (callers script replies)))
+    (joined
     (joined
     (joined
     (step (fixed BeginBoot refl) (step (shown OtherLine (codes "0") refl refl) (step (fixed BeginBehind refl)
     (joined (mapped raw_item (behind inner) (raw_nests (codes "div" ∷ codes "details" ∷ inner)) boot) (step (fixed EndCall refl) nothing)))))
-    (turns_nest inner script [] replies (record marked { raw_calls = past_own (codes "0") marked.raw_calls })))
+    (set_up_link_nests inner number))
+    (turns_nest inner number script [] replies (record marked { raw_calls = past_own (codes "0") marked.raw_calls })))
     (step (fixed EndSession refl) nothing))
 
 -- ---- the files

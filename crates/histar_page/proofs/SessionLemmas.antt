@@ -1,14 +1,14 @@
 -- A session's items, one call after another.
 use Rattle.std.proofs.Common.{◌≡◌, ℕ, List, [], ◌∷◌, ◌++◌, refl, sym, ap}
 use Rattle.std.proofs.Common.{ap₂, ◌∙◌, true, false, append_assoc, append-nil, drop, map, subst}
-use Rattle.std.specs.Prelude.{Bool, codes, filter, if◌then◌else◌}
+use Rattle.std.specs.Prelude.{◌-◌, Bool, codes, decimal, filter, nat_lt, if◌then◌else◌}
 use Rattle.std.specs.List.{flat_map, list_all}
 use Rattle.std.proofs.lemmas.Bool.{and_parts}
 use Rattle.std.proofs.lemmas.Slice.Eq.{bytes_eq-Decides}
 use Rattle.std.proofs.lemmas.List.{map-append}
 use Rattle.histar_script.specs.Lines.{split_word}
 use Rattle.histar_page.specs.declared.kind.Kind.{Kind}
-use Rattle.histar_page.specs.declared.kind.Kind.TheVariants.{BareBy, CallBy, DeniedCall, HiddenBytes, LineId, RawCall}
+use Rattle.histar_page.specs.declared.kind.Kind.TheVariants.{DeniedCall, HiddenBytes, LineId, RawCall, SetUpCalls}
 use Rattle.histar_page.specs.declared.markup.Markup.{Markup}
 use Rattle.histar_page.specs.declared.markup.Markup.TheVariants.{BeginSummary, EndBare, EndCall, EndSession}
 use Rattle.histar_page.specs.Items.{Item}
@@ -17,11 +17,12 @@ use Rattle.histar_page.specs.Callers.{caller, callers}
 use Rattle.histar_page.specs.Laws.{AreOwn, SessionsAreShown, has_kind, is_other_kind, is_raw_kind, is_why_kind, of_kinds, other_item}
 use Rattle.histar_page.specs.Lines.{is_denied, is_explanation, is_own, is_raw_call, is_reason, is_reply, mark_number}
 use Rattle.histar_page.specs.Order.{Marked, later_marked, own_marked, past_own, taken_own}
-use Rattle.histar_page.specs.Session.{at_bytes, begin_items, boot_items, calls_items, framed_items, hides_bytes, kernel_items}
+use Rattle.histar_page.specs.Session.{at_bytes, bare_kind, begin_items, boot_items, call_kind, calls_items, framed_items, hides_bytes, kernel_items}
 use Rattle.histar_page.specs.Session.{other_call_items, other_why_items, raw_item, raw_kind, turn_items, turns_from, why_item}
+use Rattle.histar_page.specs.SetUp.{folded_count, set_up_link}
 use Rattle.histar_page.specs.Story.{is_story_kind, line_number, lines_between, note_items, story_from, call_items, story_items}
 use Rattle.histar_page.proofs.OwnLemmas.{boot_alone, other_numbers, own_whole, session_numbers, taken_pass}
-use Rattle.histar_page.proofs.StoryLemmas.{AreAside, IsBehind, IsPart, aside_part, never, notes_are, of-append, turn_with}
+use Rattle.histar_page.proofs.StoryLemmas.{AreAside, IsBehind, IsPart, aside_part, by_if, never, notes_are, of-append, turn_with}
 
 -- ---- kinds
 
@@ -144,26 +145,35 @@ kernel_behind number raw_calls explanations raw why =
     }
 
 -- what is before a call that can be opened, and before one that can't
-abbrev opened : List (List ℕ) → List ℕ → List Item
-opened script reply = Shown CallBy (caller script reply) ∷ Shown LineId (split_word reply).0 ∷ Fixed BeginSummary ∷ []
+abbrev opened : Bool → List (List ℕ) → List ℕ → List Item
+opened folds script reply = Shown (call_kind folds) (caller script reply) ∷ Shown LineId (split_word reply).0 ∷ Fixed BeginSummary ∷ []
 
-abbrev bare : List (List ℕ) → List ℕ → List Item
-bare script reply = Shown BareBy (caller script reply) ∷ Shown LineId (split_word reply).0 ∷ []
+abbrev bare : Bool → List (List ℕ) → List ℕ → List Item
+bare folds script reply = Shown (bare_kind folds) (caller script reply) ∷ Shown LineId (split_word reply).0 ∷ []
+
+-- both are aside, whether the call is folded or not
+opened_aside : (folds : Bool) (script : List (List ℕ)) (reply : List ℕ) → AreAside (opened folds script reply)
+opened_aside true script reply = refl
+opened_aside false script reply = refl
+
+bare_aside : (folds : Bool) (script : List (List ℕ)) (reply : List ℕ) → AreAside (bare folds script reply)
+bare_aside true script reply = refl
+bare_aside false script reply = refl
 
 -- a turn is its story, with the raw calls and explanations of its number
-turn_part : (script : List (List ℕ)) (before reply : List ℕ) (reasons raw_calls explanations : List (List ℕ))
+turn_part : (folds : Bool) (script : List (List ℕ)) (before reply : List ℕ) (reasons raw_calls explanations : List (List ℕ))
     → list_all (is_own (split_word reply).0) raw_calls ≡ true → list_all (is_own (split_word reply).0) explanations ≡ true
     → IsPart (story_items script before reply reasons) raw_calls explanations []
     (flat_map (note_items before) (lines_between script before reply)
-    ++ framed_items (caller script reply) (split_word reply).0 (call_items script reply reasons) raw_calls explanations)
-turn_part script before reply reasons [] [] raw why =
-    turn_with script before reply reasons (bare script reply) {behind = Fixed EndBare ∷ []} refl
+    ++ framed_items folds (caller script reply) (split_word reply).0 (call_items script reply reasons) raw_calls explanations)
+turn_part folds script before reply reasons [] [] raw why =
+    turn_with script before reply reasons (bare folds script reply) {behind = Fixed EndBare ∷ []} (bare_aside folds script reply)
     (record { story = refl; raw = refl; why = refl; others = refl; own = tt })
-turn_part script before reply reasons [] (line ∷ explanations) raw why =
-    turn_with script before reply reasons (opened script reply) refl
+turn_part folds script before reply reasons [] (line ∷ explanations) raw why =
+    turn_with script before reply reasons (opened folds script reply) (opened_aside folds script reply)
     (kernel_behind (split_word reply).0 [] (line ∷ explanations) raw why)
-turn_part script before reply reasons (line ∷ raw_calls) explanations raw why =
-    turn_with script before reply reasons (opened script reply) refl
+turn_part folds script before reply reasons (line ∷ raw_calls) explanations raw why =
+    turn_with script before reply reasons (opened folds script reply) (opened_aside folds script reply)
     (kernel_behind (split_word reply).0 (line ∷ raw_calls) explanations raw why)
 
 -- ---- lines without a reply
@@ -227,20 +237,24 @@ part_as : {shown all items : List Item} {raw why numbers raws whys others : List
 part_as is_all are_raws are_whys are_others h = rw (is_all, are_raws, are_whys, are_others) h
 
 -- the turns of replies are their story, with all raw calls and explanations
-turns_part : (script : List (List ℕ)) (before : List ℕ) (replies : List (List ℕ)) (marked : Marked)
+turns_part : (folded : ℕ) (script : List (List ℕ)) (before : List ℕ) (replies : List (List ℕ)) (marked : Marked)
     → IsPart (story_from script before replies marked.reasons) marked.raw_calls marked.explanations
-    (other_numbers replies marked.raw_calls marked.explanations) (turns_from script before replies marked)
-turns_part script before [] marked =
+    (other_numbers replies marked.raw_calls marked.explanations) (turns_from folded script before replies marked)
+turns_part folded script before [] marked =
     let notes = flat_map (note_items before) (drop (line_number before) script) in
     part_as (sym (append-nil (notes ++ []) ∙ append-nil notes)) (sym (append-nil marked.raw_calls)) refl refl
     (parts (parts (notes_are before (drop (line_number before) script)) (calls_part marked.raw_calls)) (whys_part marked.explanations))
-turns_part script before (reply ∷ replies) marked =
+turns_part folded script before (reply ∷ replies) marked =
     let word = (split_word reply).0 in
     part_as refl (sym (own_whole word marked.raw_calls)) (sym (own_whole word marked.explanations)) refl
     (parts
-    (turn_part script before reply (taken_own word marked.reasons) (taken_own word marked.raw_calls) (taken_own word marked.explanations)
-    (taken_pass word marked.raw_calls) (taken_pass word marked.explanations))
-    (turns_part script reply replies (later_marked word marked)))
+    (turn_part (nat_lt 0 folded) script before reply (taken_own word marked.reasons) (taken_own word marked.raw_calls)
+    (taken_own word marked.explanations) (taken_pass word marked.raw_calls) (taken_pass word marked.explanations))
+    (turns_part (folded - 1) script reply replies (later_marked word marked)))
+
+-- the link to folded calls is no story
+link_part : (number : ℕ) → IsPart [] [] [] [] (set_up_link number)
+link_part number = aside_part (set_up_link number) (by_if (nat_lt 0 number) AreAside {x = Shown SetUpCalls (decimal number) ∷ []} refl refl)
 
 -- a session is its story, with all raw calls and explanations, and the numbers of those that no reply takes
 session_part : (script replies : List (List ℕ)) (marked : Marked)
@@ -251,11 +265,15 @@ session_part script replies marked =
     let raw = marked.raw_calls in
     let later = record marked { raw_calls = past_own zero raw } in
     let others = other_numbers replies (past_own zero raw) marked.explanations in
+    let number = folded_count script replies in
     let ending : IsPart [] [] [] [] (Fixed EndSession ∷ []) = record { story = refl; raw = refl; why = refl; own = λ number. tt; others = refl } in
     part_as (sym (append-nil (story_from script [] replies marked.reasons)))
-    (sym (append-nil (taken_own zero raw ++ past_own zero raw) ∙ own_whole zero raw))
+    (sym (append-nil ((taken_own zero raw ++ []) ++ past_own zero raw)
+    ∙ ap (λ (l : List (List ℕ)). l ++ past_own zero raw) (append-nil (taken_own zero raw)) ∙ own_whole zero raw))
     (sym (append-nil marked.explanations)) (ap (λ (l : List (List ℕ)). zero ∷ l) (sym (append-nil others)))
-    (parts (parts (boot_part (taken_own zero raw) (taken_pass zero raw)) (turns_part script [] replies later)) ending)
+    (parts
+    (parts (parts (boot_part (taken_own zero raw) (taken_pass zero raw)) (link_part number)) (turns_part number script [] replies later))
+    ending)
 
 -- the links to processes are no story
 links_aside : (processes : List (List ℕ)) → AreAside (begin_items processes)
@@ -284,28 +302,30 @@ sessions_shown script output reasons =
 -- ---- the turns as they are written
 
 -- what is written with one more turn, and the turns from there, are what was written and the turns from before
-pub turns_next : (script : List (List ℕ)) (before : List ℕ) (marked : Marked) (old : List Item) {reply word : List ℕ}
-    {rest later : List (List ℕ)} {own left : Marked} {new whole : List Item} → rest ≡ reply ∷ later → word ≡ (split_word reply).0
-    → own ≡ own_marked word marked → left ≡ later_marked word marked → new ≡ old ++ turn_items script before reply own
-    → old ++ turns_from script before rest marked ≡ whole → new ++ turns_from script reply later left ≡ whole
-turns_next script before marked old {reply} {later = later} is_rest is_word own_is is_left is_new h =
+pub turns_next : (folded : ℕ) (script : List (List ℕ)) (before : List ℕ) (marked : Marked) (old : List Item) {reply word : List ℕ}
+    {rest later : List (List ℕ)} {own left : Marked} {to_come : ℕ} {new whole : List Item} → rest ≡ reply ∷ later
+    → word ≡ (split_word reply).0 → own ≡ own_marked word marked → left ≡ later_marked word marked → to_come ≡ folded - 1
+    → new ≡ old ++ turn_items (nat_lt 0 folded) script before reply own
+    → old ++ turns_from folded script before rest marked ≡ whole → new ++ turns_from to_come script reply later left ≡ whole
+turns_next folded script before marked old {reply} {later = later} is_rest is_word own_is is_left is_to_come is_new h =
     let word = (split_word reply).0 in
-    let turn : Marked → List Item = λ own. old ++ turn_items script before reply own in
-    (λ i. (is_new ∙ ap turn (own_is ∙ ap (λ w. own_marked w marked) is_word)) i
-    ++ turns_from script reply later ((is_left ∙ ap (λ w. later_marked w marked) is_word) i))
-    ∙ append_assoc old (turn_items script before reply (own_marked word marked)) (turns_from script reply later (later_marked word marked))
-    ∙ ap (λ r. old ++ turns_from script before r marked) (sym is_rest) ∙ h
+    let turn : Marked → List Item = turn_items (nat_lt 0 folded) script before reply in
+    let next : ℕ → Marked → List Item = λ number. turns_from number script reply later in
+    (λ i. (is_new ∙ ap (λ own. old ++ turn own) (own_is ∙ ap (λ w. own_marked w marked) is_word)) i
+    ++ next (is_to_come i) ((is_left ∙ ap (λ w. later_marked w marked) is_word) i))
+    ∙ append_assoc old (turn (own_marked word marked)) (next (folded - 1) (later_marked word marked))
+    ∙ ap (λ r. old ++ turns_from folded script before r marked) (sym is_rest) ∙ h
 
 -- what is written when no reply is left, with the comments and the lines that no reply takes, is all
-pub turns_end : (script : List (List ℕ)) (before : List ℕ) (marked : Marked) (old : List Item) {rest notes raw why : List (List ℕ)}
+pub turns_end : (folded : ℕ) (script : List (List ℕ)) (before : List ℕ) (marked : Marked) (old : List Item) {rest notes raw why : List (List ℕ)}
     {noted called new whole : List Item} → rest ≡ [] → notes ≡ drop (line_number before) script → raw ≡ marked.raw_calls
     → why ≡ marked.explanations → noted ≡ old ++ flat_map (note_items before) notes → called ≡ noted ++ flat_map other_call_items raw
-    → new ≡ called ++ flat_map other_why_items why → old ++ turns_from script before rest marked ≡ whole → new ≡ whole
-turns_end script before marked old {notes = notes} {raw} {why} is_rest is_notes is_raw is_why is_noted is_called is_new h =
+    → new ≡ called ++ flat_map other_why_items why → old ++ turns_from folded script before rest marked ≡ whole → new ≡ whole
+turns_end folded script before marked old {notes = notes} {raw} {why} is_rest is_notes is_raw is_why is_noted is_called is_new h =
     let items = flat_map (note_items before) notes in
     let calls = flat_map other_call_items raw in
     let whys = flat_map other_why_items why in
     is_new ∙ ap (λ (l : List Item). l ++ whys) (is_called ∙ ap (λ (l : List Item). l ++ calls) is_noted)
     ∙ ap (λ (l : List Item). l ++ whys) (append_assoc old items calls) ∙ append_assoc old (items ++ calls) whys
     ∙ (λ i. old ++ (flat_map (note_items before) (is_notes i) ++ flat_map other_call_items (is_raw i) ++ flat_map other_why_items (is_why i)))
-    ∙ ap (λ r. old ++ turns_from script before r marked) (sym is_rest) ∙ h
+    ∙ ap (λ r. old ++ turns_from folded script before r marked) (sym is_rest) ∙ h

@@ -12,6 +12,7 @@ pub mod Head
 pub mod Who
 pub mod Callers
 pub mod Story
+pub mod SetUp
 pub mod Session
 pub mod Files
 pub mod Titles

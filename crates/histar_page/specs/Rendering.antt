@@ -13,6 +13,7 @@ use Rattle.histar_page.specs.declared.kind.Kind.TheVariants.{LoginBy, LoginAs, R
 use Rattle.histar_page.specs.declared.kind.Kind.TheVariants.{HiddenBytes, UserName, GroupName, MemberName}
 use Rattle.histar_page.specs.declared.kind.Kind.TheVariants.{EdgeFile, ProcessNode, FileNode, NodeName, LeakPath, LeakTitle, Flow}
 use Rattle.histar_page.specs.declared.kind.Kind.TheVariants.{RuleAddress, RuleCaller, LinkTarget, LinkAddress, LinkName, CallBy, BareBy}
+use Rattle.histar_page.specs.declared.kind.Kind.TheVariants.{SetUpCalls, SetUpBy, BareSetUpBy}
 use Rattle.histar_page.specs.declared.kind.Kind.TheVariants.{LineId, Outsider, ReadBy, WrittenBy, UseAddress, UseLine}
 use Rattle.histar_page.specs.declared.markup.Markup.{Markup}
 use Rattle.histar_page.specs.declared.markup.Markup.TheVariants.{Begin, Style, EndStyle, EndHead, BeginWho}
@@ -39,6 +40,9 @@ opening Version = codes "<span>histar <b>"
 opening LinkTarget = codes "<a class=\"by\" id=\"by-"
 opening CallBy = codes "<details data-by=\""
 opening BareBy = codes "<div class=\"bare\" data-by=\""
+opening SetUpCalls = codes "<a class=\"by\" id=\"set-up\" href=\"#set-up\">"
+opening SetUpBy = codes "<details class=\"set\" data-by=\""
+opening BareSetUpBy = codes "<div class=\"bare set\" data-by=\""
 opening LineNumber = codes "<span class=\"number\">"
 opening OtherLine = codes "<b>"
 opening Call = codes "<code class=\"call\">"
@@ -106,6 +110,9 @@ closing LinkAddress = codes "\">by "
 closing LinkName = codes "</a>\n"
 closing CallBy = codes "\" id=\"line-"
 closing BareBy = codes "\" id=\"line-"
+closing SetUpCalls = codes " set-up calls</a>\n"
+closing SetUpBy = codes "\" id=\"line-"
+closing BareSetUpBy = codes "\" id=\"line-"
 closing LineId = codes "\">"
 closing LineNumber = codes "</span>\n"
 closing OtherLine = codes "</b>"

@@ -1,10 +1,12 @@
 -- The session on a page: its calls between the comments of its script, and behind each call its raw calls and why some were denied.
-use Rattle.std.specs.Prelude.{ℕ, ◌&&◌, not, Bool, List, [], ◌∷◌, ◌++◌, codes, drop, filter, is_some, map, Option, if◌then◌else◌}
+use Rattle.std.specs.Prelude.{ℕ, ◌&&◌, ◌-◌, not, Bool, List, [], ◌∷◌, ◌++◌, codes, drop, filter, is_some, map, nat_lt, Option}
+use Rattle.std.specs.Prelude.{if◌then◌else◌}
 use Rattle.std.specs.List.{flat_map}
 use Rattle.histar_flat.specs.Words.{split_at_first}
 use Rattle.histar_script.specs.Lines.{split_word}
 use Rattle.histar_page.specs.declared.kind.Kind.{Kind}
 use Rattle.histar_page.specs.declared.kind.Kind.TheVariants.{OtherLine, RawCall, DeniedCall, HiddenBytes, Explanation, CallBy, BareBy, LineId}
+use Rattle.histar_page.specs.declared.kind.Kind.TheVariants.{SetUpBy, BareSetUpBy}
 use Rattle.histar_page.specs.declared.markup.Markup.TheVariants.{BeginBehind, BeginBoot, BeginOther, BeginSession, BeginSummary, EndBare, EndCall}
 use Rattle.histar_page.specs.declared.markup.Markup.TheVariants.{EndSession}
 use Rattle.histar_page.specs.Items.{Item}
@@ -12,6 +14,7 @@ use Rattle.histar_page.specs.Items.Item.{Fixed, Shown}
 use Rattle.histar_page.specs.Callers.{caller, callers, link_items}
 use Rattle.histar_page.specs.Lines.{is_denied, is_explanation, is_own, is_raw_call, is_reason, is_reply, mark_number}
 use Rattle.histar_page.specs.Order.{Marked, own_marked, later_marked, past_own, taken_own}
+use Rattle.histar_page.specs.SetUp.{folded_count, set_up_link}
 use Rattle.histar_page.specs.Story.{line_number, lines_between, note_items, call_items}
 
 -- ---- the items of one line
@@ -43,17 +46,25 @@ why_item line = Shown Explanation line
 abbrev pub kernel_items : List (List ℕ) → List (List ℕ) → List Item
 kernel_items raw_calls explanations = Fixed BeginBehind ∷ map raw_item raw_calls ++ map why_item explanations ++ Fixed EndCall ∷ []
 
--- these items of a call of this process on this line, with the raw calls and explanations behind it; one without any can't be opened
-abbrev pub framed_items : List ℕ → List ℕ → List Item → List (List ℕ) → List (List ℕ) → List Item
-framed_items by number call [] [] = Shown BareBy by ∷ Shown LineId number ∷ call ++ Fixed EndBare ∷ []
-framed_items by number call raw_calls explanations =
-    Shown CallBy by ∷ Shown LineId number ∷ Fixed BeginSummary ∷ call ++ kernel_items raw_calls explanations
+-- the kind of the process of a call that can be opened, by whether the call is folded
+abbrev pub call_kind : Bool → Kind
+call_kind folds = if folds then SetUpBy else CallBy
 
--- the comments after the reply before this one; then the call with its reply, and the lines that belong to it
-abbrev pub turn_items : List (List ℕ) → List ℕ → List ℕ → Marked → List Item
-turn_items script before reply own =
+-- the kind of the process of a call with nothing behind it, by whether the call is folded
+abbrev pub bare_kind : Bool → Kind
+bare_kind folds = if folds then BareSetUpBy else BareBy
+
+-- these items of a call of this process on this line, with the raw calls and explanations behind it; one without any can't be opened
+abbrev pub framed_items : Bool → List ℕ → List ℕ → List Item → List (List ℕ) → List (List ℕ) → List Item
+framed_items folds by number call [] [] = Shown (bare_kind folds) by ∷ Shown LineId number ∷ call ++ Fixed EndBare ∷ []
+framed_items folds by number call raw_calls explanations =
+    Shown (call_kind folds) by ∷ Shown LineId number ∷ Fixed BeginSummary ∷ call ++ kernel_items raw_calls explanations
+
+-- the comments after the reply before this one; then the call with its reply, folded or not, and the lines that belong to it
+abbrev pub turn_items : Bool → List (List ℕ) → List ℕ → List ℕ → Marked → List Item
+turn_items folds script before reply own =
     flat_map (note_items before) (lines_between script before reply)
-    ++ framed_items (caller script reply) (split_word reply).0 (call_items script reply own.reasons) own.raw_calls own.explanations
+    ++ framed_items folds (caller script reply) (split_word reply).0 (call_items script reply own.reasons) own.raw_calls own.explanations
 
 -- ---- the session
 
@@ -74,21 +85,23 @@ other_call_items line = Fixed BeginOther ∷ Shown OtherLine (mark_number line) 
 abbrev pub other_why_items : List ℕ → List Item
 other_why_items line = Fixed BeginOther ∷ Shown OtherLine (mark_number line) ∷ Fixed BeginBehind ∷ why_item line ∷ Fixed EndCall ∷ []
 
--- The session from a reply on: the turn of each reply with the lines that belong to it, in their order; and at the end the comments after the
--- last call, and the raw calls and explanations that belong to no reply.
-abbrev pub turns_from : List (List ℕ) → List ℕ → List (List ℕ) → Marked → List Item
-turns_from script before [] marked =
+-- The session from a reply on, with so many folded calls at its beginning: the turn of each reply with the lines that belong to it, in their
+-- order; and at the end the comments after the last call, and the raw calls and explanations that belong to no reply.
+abbrev pub turns_from : ℕ → List (List ℕ) → List ℕ → List (List ℕ) → Marked → List Item
+turns_from folded script before [] marked =
     flat_map (note_items before) (drop (line_number before) script)
     ++ flat_map other_call_items marked.raw_calls ++ flat_map other_why_items marked.explanations
-turns_from script before (reply ∷ replies) marked =
-    turn_items script before reply (own_marked (split_word reply).0 marked)
-    ++ turns_from script reply replies (later_marked (split_word reply).0 marked)
+turns_from folded script before (reply ∷ replies) marked =
+    turn_items (nat_lt 0 folded) script before reply (own_marked (split_word reply).0 marked)
+    ++ turns_from (folded - 1) script reply replies (later_marked (split_word reply).0 marked)
 
--- the session of these replies: the raw calls of boot, and then the calls
+-- the session of these replies: the raw calls of boot, the link to the folded calls, and then the calls
 abbrev pub calls_items : List (List ℕ) → List (List ℕ) → Marked → List Item
 calls_items script replies marked =
     boot_items (taken_own (codes "0") marked.raw_calls)
-    ++ turns_from script [] replies (record marked { raw_calls = past_own (codes "0") marked.raw_calls }) ++ Fixed EndSession ∷ []
+    ++ set_up_link (folded_count script replies)
+    ++ turns_from (folded_count script replies) script [] replies (record marked { raw_calls = past_own (codes "0") marked.raw_calls })
+    ++ Fixed EndSession ∷ []
 
 -- the part of a page that shows a session, by the lines of its script, of its output and of its reasons
 abbrev pub session_items : List (List ℕ) → List (List ℕ) → List (List ℕ) → List Item

@@ -27,6 +27,12 @@ pub enum Kind {
     CallBy,
     /// The process of a call with nothing behind it.
     BareBy,
+    /// How many calls are folded at the beginning of a session.
+    SetUpCalls,
+    /// The process of a folded call that can be opened.
+    SetUpBy,
+    /// The process of a folded call with nothing behind it.
+    BareSetUpBy,
     /// The number of a line, as the name of its place.
     LineId,
     LineNumber,
@@ -143,6 +149,9 @@ impl Kind {
             Kind::LinkTarget => b"<a class=\"by\" id=\"by-",
             Kind::CallBy => b"<details data-by=\"",
             Kind::BareBy => b"<div class=\"bare\" data-by=\"",
+            Kind::SetUpCalls => b"<a class=\"by\" id=\"set-up\" href=\"#set-up\">",
+            Kind::SetUpBy => b"<details class=\"set\" data-by=\"",
+            Kind::BareSetUpBy => b"<div class=\"bare set\" data-by=\"",
             Kind::LineNumber => b"<span class=\"number\">",
             Kind::OtherLine | Kind::Granted => b"<b>",
             Kind::Call | Kind::LoginBy => b"<code class=\"call\">",
@@ -227,7 +236,8 @@ impl Kind {
             Kind::LinkTarget => b"\" href=\"#by-",
             Kind::LinkAddress => b"\">by ",
             Kind::LinkName => b"</a>\n",
-            Kind::CallBy | Kind::BareBy => b"\" id=\"line-",
+            Kind::SetUpCalls => b" set-up calls</a>\n",
+            Kind::CallBy | Kind::BareBy | Kind::SetUpBy | Kind::BareSetUpBy => b"\" id=\"line-",
             Kind::LineId | Kind::UseAddress => b"\">",
             Kind::ReadBy => b" read here at line ",
             Kind::WrittenBy => b" wrote here at line ",

@@ -21,6 +21,7 @@ mod piece;
 mod places;
 mod secrets;
 mod session;
+mod set_up;
 mod story;
 mod titles;
 mod uses;

@@ -30,6 +30,7 @@ details[open] > summary::before { content: '-' }
 .bare::before { content: '' }
 details:target > summary, .bare:target { background: var(--panel) }
 #refusals:target ~ .other, #refusals:target ~ details:not(:has(.refusal)), #refusals:target ~ .bare:not(:has(.refusal)) { display: none }
+@media screen { .set:not(:target, .by:target ~ *) { display: none } }
 .other > summary { display: block; color: var(--dim) }
 .other > summary::before { margin-right: .6rem }
 .number { color: var(--dim); text-align: right; font-variant-numeric: tabular-nums }

@@ -9,7 +9,8 @@ ghost use Rattle.histar_page.specs.Callers.{callers};
 ghost use Rattle.histar_page.specs.Laws.{SessionsAreShown};
 ghost use Rattle.histar_page.specs.Order.{past_own, taken_own};
 ghost use Rattle.histar_page.specs.MarkedLines.{marked_in, marked_of};
-ghost use Rattle.histar_page.specs.Session.{begin_items, boot_items, calls_items, kernel_items, session_items, turn_items, turns_from};
+ghost use Rattle.histar_page.specs.Session.{bare_kind, begin_items, boot_items, call_kind, calls_items, kernel_items};
+ghost use Rattle.histar_page.specs.Session.{session_items, turn_items, turns_from};
 ghost use Rattle.histar_page.specs.Story.{call_items};
 
 use crate::callers::{caller, callers_in};
@@ -17,6 +18,7 @@ use crate::kind::Kind;
 use crate::lines::{LineKind, among, lines_in, own_count};
 use crate::markup::Markup;
 use crate::piece::{Piece, add, fix};
+use crate::set_up::{folded_count, push_set_up_link};
 use crate::story::{lines_after, lines_between, push_answer, push_notes};
 use crate::views::{BOOT, View, push_each};
 use histar_script::split_word;
@@ -31,9 +33,10 @@ struct Lines<'s, 'a> {
     explanations: &'s [&'a [u8]],
 }
 
-/// The lines of an output that belong to one reply.
+/// The lines of an output that belong to one reply, and whether its call is folded.
 #[derive(Clone, Copy)]
 struct Own<'s, 'a> {
+    is_folded: bool,
     reasons: &'s [&'a [u8]],
     raw_calls: &'s [&'a [u8]],
     explanations: &'s [&'a [u8]],
@@ -118,27 +121,33 @@ fn push_session<'a>(
         raw_calls,
         explanations: lines.explanations,
     };
+    let folded = folded_count(script, lines.replies);
     push_boot(pieces, boot)?;
-    push_calls(pieces, script, later)?;
+    push_set_up_link(pieces, folded)?;
+    push_calls(pieces, script, later, folded)?;
     fix(pieces, Markup::EndSession)
 }
 
-/// Adds the story of the calls, each with its own raw calls and explanations, and then those that are left.
+/// Adds the story of the calls, so many of which are folded, each with its own raw calls and explanations, and then those
+/// that are left.
 fn push_calls<'a>(
     pieces: &mut Vec<Piece<'a>>,
     script: &[&'a [u8]],
     lines: Lines<'_, 'a>,
+    folded: u64,
 ) -> Result<(), AllocError>
     ensures { OnOk result (items_of pieces.new.items ≡ items_of pieces.old.items
-        ++ turns_from (texts script.now) [] (texts lines.entry.replies.now) (marked_in lines.entry)) }
+        ++ turns_from folded (texts script.now) [] (texts lines.entry.replies.now) (marked_in lines.entry)) }
 {
     let mut reason_at = 0;
     let mut raw_at = 0;
     let mut why_at = 0;
+    let mut to_fold = folded;
     let mut before: &[u8] = &[];
     'replies: for reply in lines.replies {
         let word = split_word(reply).0;
         let own = Own {
+            is_folded: to_fold > 0,
             reasons: own_lines(lines.reasons, reason_at, word),
             raw_calls: own_lines(lines.raw_calls, raw_at, word),
             explanations: own_lines(lines.explanations, why_at, word),
@@ -147,6 +156,7 @@ fn push_calls<'a>(
         reason_at += own.reasons.len();
         raw_at += own.raw_calls.len();
         why_at += own.explanations.len();
+        to_fold = to_fold.saturating_sub(1);
         before = reply;
     }
     push_notes(pieces, lines_after(script, before), before)?;
@@ -195,19 +205,41 @@ fn push_turn<'a>(
     own: Own<'_, 'a>,
 ) -> Result<(), AllocError>
     ensures { OnOk result (items_of pieces.new.items ≡ items_of pieces.old.items
-        ++ turn_items (texts script.now) before.now reply.now (marked_of own.entry)) }
+        ++ turn_items own.entry.is_folded (texts script.now) before.now reply.now (marked_of own.entry)) }
 {
     push_notes(pieces, lines_between(script, before, reply), before)?;
     let by = caller(script, reply);
     if own.raw_calls.is_empty() && own.explanations.is_empty() {
-        frame(pieces, Kind::BareBy, by, reply)?;
+        frame(pieces, bare_kind(own.is_folded), by, reply)?;
         push_call(pieces, script, reply, own.reasons)?;
         return fix(pieces, Markup::EndBare);
     }
-    frame(pieces, Kind::CallBy, by, reply)?;
+    frame(pieces, call_kind(own.is_folded), by, reply)?;
     fix(pieces, Markup::BeginSummary)?;
     push_call(pieces, script, reply, own.reasons)?;
     push_kernel(pieces, own.raw_calls, own.explanations)
+}
+
+/// Returns the kind of the process of a call that can be opened.
+fn call_kind(is_folded: bool) -> Kind
+    ensures { result ≡ call_kind is_folded }
+{
+    if is_folded {
+        Kind::SetUpBy
+    } else {
+        Kind::CallBy
+    }
+}
+
+/// Returns the kind of the process of a call with nothing behind it.
+fn bare_kind(is_folded: bool) -> Kind
+    ensures { result ≡ bare_kind is_folded }
+{
+    if is_folded {
+        Kind::BareSetUpBy
+    } else {
+        Kind::BareBy
+    }
 }
 
 /// Adds the beginning of the frame of a call: its process, and the number of its line.

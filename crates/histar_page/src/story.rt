@@ -1,11 +1,12 @@
 //! The story of a session: each call with its reply and the reason of its refusal, and the comments of the script
 //! between the calls.
-ghost use Rattle.std.specs.Prelude.{◌≡◌, ◌++◌, ◌∷◌, [], drop, map, OnOk};
+ghost use Rattle.std.specs.Prelude.{◌≡◌, ◌++◌, ◌∷◌, [], drop, map, ℕ, List, OnOk};
 ghost use Rattle.std.specs.List.{flat_map};
 ghost use Rattle.histar_page.specs.Texts.{texts};
 ghost use Rattle.histar_page.specs.Items.{items_of};
 ghost use Rattle.histar_page.specs.Story.{answer_items, claim_kind, is_login, line_number, lines_between, note_items};
 ghost use Rattle.histar_page.specs.Story.{prose_items, reason_item, reply_kind, shown_call};
+ghost use Rattle.histar_page.specs.SetUp.{shows_note};
 ghost use Rattle.histar_page.specs.Lines.{call_on};
 
 use crate::head::is_refused;
@@ -16,7 +17,7 @@ use histar_script::split_word;
 use std::alloc::AllocError;
 
 /// The call whose password is hidden.
-const LOGIN: &[u8] = b"login";
+pub(crate) const LOGIN: &[u8] = b"login";
 
 /// The first word of a comment that says the reply that is expected.
 const EXPECTED: &[u8] = b"#=";
@@ -65,6 +66,20 @@ fn push_note<'a>(
         return show(pieces, Kind::Mark, line);
     }
     Ok(())
+}
+
+/// Checks whether a line of a script is a comment that is shown, whatever reply it comes after.
+pub(crate) fn shows_note(line: &[u8]) -> bool
+    ensures { (reply : List ℕ) → result ≡ shows_note reply line.now }
+{
+    let word = split_word(line).0;
+    if word == EXPECTED {
+        return true;
+    }
+    if word == COMMENT {
+        return !after_word(line).is_empty();
+    }
+    has_mark(COMMENT_MARK, line)
 }
 
 /// Returns the kind of an expected reply, by the reply before it.

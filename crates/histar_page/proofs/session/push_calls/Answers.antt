@@ -24,7 +24,7 @@ replies-preserved c =
       c.own_lines.ensures.fits,
       c.own_lines-in-replies.ensures.fits,
       c.own_lines-in-replies-2.ensures.fits,
-      turns_next (texts c.args.script.now) c.replies.before.now marked (items_of c.replies.pieces.items)
+      turns_next c.replies.to_fold (texts c.args.script.now) c.replies.before.now marked (items_of c.replies.pieces.items)
           (ap texts (drop_more lines.replies.now c.replies.reply-index _ c.replies-test.true)) c.split_word.ensures.word
           (λ i. record {
             reasons = c.own_lines.ensures.front i;
@@ -36,7 +36,7 @@ replies-preserved c =
             raw_calls = c.own_lines-in-replies.ensures.rest i;
             explanations = c.own_lines-in-replies-2.ensures.rest i;
           })
-          c.in_ok-push_turn.ensures c.replies.invariant.3,
+          c.saturating_sub-to_fold.ensures c.in_ok-push_turn.ensures c.replies.invariant.3,
     )
 
 pub returns : goal.returns
@@ -49,7 +49,7 @@ returns c =
       explanations = drop c.replies.why_at (texts lines.explanations.now);
     } in
     on_ok_weaker c.push_each-2.result
-    (λ e. turns_end (texts c.args.script.now) c.replies.before.now marked (items_of c.replies.pieces.items)
+    (λ e. turns_end c.replies.to_fold (texts c.args.script.now) c.replies.before.now marked (items_of c.replies.pieces.items)
     (ap texts (drop_all c.replies.reply-index lines.replies.now c.replies-test.false)) c.lines_after.ensures
     (behind_texts now lines.raw_calls.now c.split_at.result.1.now c.replies.raw_at c.split_at.ensures.back)
     (behind_texts now lines.explanations.now c.split_at-2.result.1.now c.replies.why_at c.split_at-2.ensures.back)

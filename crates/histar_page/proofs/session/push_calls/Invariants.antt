@@ -13,9 +13,9 @@ invariant-replies l =
     let raw_calls = l.lines.raw_calls.now in
     let explanations = l.lines.explanations.now in
     (l.reason_at ≤ length reasons) × (l.raw_at ≤ length raw_calls) × (l.why_at ≤ length explanations)
-    × (items_of l.pieces.items ++ turns_from (texts l.script) l.before (texts (drop l.reply-index replies)) (record {
+    × (items_of l.pieces.items ++ turns_from l.to_fold (texts l.script) l.before (texts (drop l.reply-index replies)) (record {
       reasons = drop l.reason_at (texts reasons);
       raw_calls = drop l.raw_at (texts raw_calls);
       explanations = drop l.why_at (texts explanations);
     })
-    ≡ items_of l.fn.pieces.items ++ turns_from (texts l.script) [] (texts replies) (marked_in l.lines))
+    ≡ items_of l.fn.pieces.items ++ turns_from l.folded (texts l.script) [] (texts replies) (marked_in l.lines))
