@@ -14,3 +14,4 @@ pub mod DeniedObjects
 pub mod UsedLabels
 pub mod RefusedLines
 pub mod CompleteLines
+pub mod DistinctPurposes

@@ -18,7 +18,7 @@ use Rattle.histar_level.specs.declared.level.Level.{Level}
 use Rattle.histar_level.specs.declared.level.Level.TheVariants.{L1, L2, L3}
 use Rattle.histar_level.specs.Levels.{Levels, level_of, default_of}
 use Rattle.histar_label.specs.Levels.{constant}
-use Rattle.histar_label.proofs.Readers.{level_of-constant, default_of-constant}
+use Rattle.histar_label.proofs.Readers.{default_of-constant}
 use Rattle.histar_object.specs.declared.objects.Entry.TheVariants.{Login}
 use Rattle.histar_object.specs.declared.objects.Kind.{Kind}
 use Rattle.histar_object.specs.declared.objects.Kind.TheVariants.{Segment, Container, Thread, Gate}

@@ -17,9 +17,11 @@ use Rattle.histar_explain.specs.declared.reasons.Reason.{Reason}
 use Rattle.histar_script.specs.Script.{ScriptModel}
 use Rattle.histar_layout.specs.UserTable.{without_passwords}
 use Rattle.histar_programs.specs.Start.{roots_of}
+use Rattle.histar_refinement.specs.Categories.{CategoryName, IsUsed}
 use Rattle.histar_raw_explain.specs.Texts.{Words}
 use Rattle.histar_names.specs.Births.{Births, purpose_of}
 use Rattle.histar_names.specs.Clues.{clue_of}
+use Rattle.histar_names.specs.KnownBirths.{purpose_named}
 use Rattle.histar_names.specs.Location.{location_of}
 use Rattle.histar_run_explain.specs.Entries.{ExplainsOutcome, ExplainsEntries}
 use Rattle.histar_run_explain.specs.Run.{ExplainsCallLines, ExplainsTrace, births_of, words_of}
@@ -86,3 +88,9 @@ ExplanationsAreComplete =
     (script : ScriptModel) (trace : List TraceEntry) (text : List ℕ) (explains : ExplainsTrace script trace text)
     → CompleteAlong script.accounts explains.recorded.start (boot script.accounts) [] script.calls explains.recorded.of_lines text
     explains.recorded.end explains.refinements
+
+-- No two categories that are used have one purpose.
+abbrev pub PurposesDiffer : Type 0
+PurposesDiffer =
+    (accounts : Accounts) (f : Flat) (c d : CategoryName) → IsUsed accounts f c → IsUsed accounts f d
+    → purpose_named accounts c ≡ purpose_named accounts d → c ≡ d

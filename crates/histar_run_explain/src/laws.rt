@@ -1,5 +1,5 @@
 //! The laws of explained traces. Each law is the contract of a function that does nothing.
-ghost use Rattle.histar_run_explain.specs.Complete.{ExplanationsAreComplete};
+ghost use Rattle.histar_run_explain.specs.Complete.{ExplanationsAreComplete, PurposesDiffer};
 ghost use Rattle.histar_run_explain.specs.Laws.{ExplainsTheTrace, UsedCategoriesAreNamed};
 
 /// Proves that the trace that is explained is the one that `run` returns.
@@ -17,4 +17,9 @@ pub fn used_categories_are_named()
 /// each category a purpose.
 pub fn explanations_are_complete()
     ensures { ExplanationsAreComplete }
+{}
+
+/// Proves that no two categories that are used have one purpose, so that each has a name of its own.
+pub fn purposes_differ()
+    ensures { PurposesDiffer }
 {}
