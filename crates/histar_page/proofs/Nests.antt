@@ -272,8 +272,8 @@ framed_nests : (s : List (List ℕ)) (folds : Bool) (by number : List ℕ) (call
 framed_nests s folds by number call nests raw_calls explanations = cases raw_calls explanations
   where
     opened : (raw_calls explanations : List (List ℕ))
-        → Leads (Shown (call_kind folds) by ∷ Shown LineId number ∷ Fixed BeginSummary ∷ call ++ kernel_items raw_calls explanations) (within s)
-        (within s)
+        → Leads (Shown (call_kind folds) by ∷ Shown LineId number ∷ Fixed BeginSummary ∷ call ++ kernel_items raw_calls explanations)
+        (within s) (within s)
     opened raw_calls explanations =
         step (by_if folds (λ kind. Reads (item_text (Shown kind by)) (within s) (in_tag (codes "details") s)) (shown_at SetUpBy by refl refl)
         (shown_at CallBy by refl refl)) (step (shown_at LineId number refl refl) (step (fixed BeginSummary refl)

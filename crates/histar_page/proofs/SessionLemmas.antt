@@ -317,9 +317,10 @@ turns_next folded script before marked old {reply} {later = later} is_rest is_wo
     ∙ ap (λ r. old ++ turns_from folded script before r marked) (sym is_rest) ∙ h
 
 -- what is written when no reply is left, with the comments and the lines that no reply takes, is all
-pub turns_end : (folded : ℕ) (script : List (List ℕ)) (before : List ℕ) (marked : Marked) (old : List Item) {rest notes raw why : List (List ℕ)}
-    {noted called new whole : List Item} → rest ≡ [] → notes ≡ drop (line_number before) script → raw ≡ marked.raw_calls
-    → why ≡ marked.explanations → noted ≡ old ++ flat_map (note_items before) notes → called ≡ noted ++ flat_map other_call_items raw
+pub turns_end : (folded : ℕ) (script : List (List ℕ)) (before : List ℕ) (marked : Marked) (old : List Item)
+    {rest notes raw why : List (List ℕ)} {noted called new whole : List Item} → rest ≡ []
+    → notes ≡ drop (line_number before) script → raw ≡ marked.raw_calls → why ≡ marked.explanations
+    → noted ≡ old ++ flat_map (note_items before) notes → called ≡ noted ++ flat_map other_call_items raw
     → new ≡ called ++ flat_map other_why_items why → old ++ turns_from folded script before rest marked ≡ whole → new ≡ whole
 turns_end folded script before marked old {notes = notes} {raw} {why} is_rest is_notes is_raw is_why is_noted is_called is_new h =
     let items = flat_map (note_items before) notes in
