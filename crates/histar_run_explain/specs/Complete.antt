@@ -45,13 +45,13 @@ IsLocated accounts s asked q =
 abbrev pub HasPurpose : Accounts → Births → ℕ → Type 0
 HasPurpose accounts births c = is_some (purpose_of (without_passwords accounts) births c) ≡ true
 
--- a reason lists categories that have a purpose, and its comparison doesn't fail at all others
+-- Each category that a reason lists has a purpose. Where neither label lists a category, the comparison doesn't fail.
 pub record IsNamedReason (accounts : Accounts) (births : Births) (r : Reason) : Type 0 where
   pub listed : AllByRecursion (λ d. HasPurpose accounts births d.category) r.named.items
   pub elsewhere : r.elsewhere ≡ None
 
--- The object of an explanation has a location, and each category a purpose. None of its categories was never made, and no container doesn't
--- link its object.
+-- The object of an explanation has a location, and each category that its reasons list has a purpose. All categories of the call's labels
+-- were made, and its obstacle is of no container, which would be named by its number.
 pub record IsComplete (accounts : Accounts) (s : State) (asked : CallLine) (births : Births) (x : Explanation) : Type 0 where
   pub objects : AllByRecursion (IsLocated accounts s asked) (objects_of x.act)
   pub reasons : AllByRecursion (IsNamedReason accounts births) x.reasons.items
