@@ -19,7 +19,7 @@ pub fn explanations_are_complete()
     ensures { ExplanationsAreComplete }
 {}
 
-/// Proves that no two categories that are used have one purpose, so that each has a name of its own.
+/// Proves that no two categories that are used have one purpose.
 pub fn purposes_differ()
     ensures { PurposesDiffer }
 {}
