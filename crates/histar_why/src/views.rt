@@ -59,7 +59,7 @@ pub(crate) fn facts_of<S: LabelStore + Drop>(
     Ok(Facts {
         way,
         above: count_if(asks_room(asked), alloc, reader.kernel, &way.above)?,
-        here: count_here(alloc, reader.kernel, &way.here, asked)?,
+        here: count_if(asks_empty(asked), alloc, reader.kernel, &way.here)?,
         beside: is_beside(reader, asked),
         sought: search(alloc, reader, caller, asked.other.numbers())?,
     })
@@ -80,26 +80,6 @@ fn asks_empty(asked: &Asked) -> bool
     ensures { result ≡ asks_empty asked.now.parts.now }
 {
     asked.parts.iter().any(|part| matches!(part, Part::IsEmpty))
-}
-
-/// Counts the entries of the directory at the path of a call, if the call needs it to be empty. No part is asked
-/// where a file is there, or nothing.
-fn count_here<S: LabelStore + Drop>(
-    alloc: Global,
-    kernel: &Kernel<S>,
-    spot: &Option<Spot>,
-    asked: &Asked,
-) -> Result<usize, AllocError>
-    ensures { IfOk result
-        (λ n. asks_empty asked.now.parts.now ≡ true → CountsEntries (state kernel.now) spot.now n) }
-{
-    match spot {
-        Some(there) => match there.target {
-            Target::Directory(_, _) => count_if(asks_empty(asked), alloc, kernel, spot),
-            Target::File(_) => Ok(0),
-        },
-        None => Ok(0),
-    }
 }
 
 /// Counts the entries of the directory that is there, if they are asked for.

@@ -17,7 +17,7 @@ returns g c =
     record {
       way = subst (λ (q : Path). IsWayTo users roots births s p q c.in_ok-way.way) c.names.ensures.names c.in_ok-way.ensures;
       above = λ asks. c.in_ok-count_if.ensures (c.asks_room.ensures ∙ asks);
-      here = c.in_ok-count_here.ensures;
+      here = λ asks. c.in_ok-count_if-2.ensures (c.asks_empty.ensures ∙ asks);
       beside = c.is_beside.ensures;
       sought = c.in_ok-search.ensures ∙ ap (search_by users births s roots.home p) c.numbers.ensures.value;
     }
